@@ -1,0 +1,39 @@
+//! Refusals of the extension headers of IPv6 (RFC 8200, 4).
+
+use crate::err::ip_auth;
+use crate::err::len_error::LenError;
+use crate::ip_number::IpNumber;
+use thiserror::Error;
+
+/// What is wrong in the bytes of the extension headers.
+#[derive(Clone, Debug, PartialEq, Eq, Hash, Drop, Error)]
+pub enum HeaderError {
+    /// A hop by hop header is not the first extension header.
+    #[error("HopByHopNotAtStart")]
+    HopByHopNotAtStart,
+    /// The bytes of an authentication header are none.
+    #[error(transparent)]
+    IpAuth(ip_auth::HeaderError),
+}
+
+/// Why no chain of extension headers could be read from a slice.
+#[derive(Clone, Debug, PartialEq, Eq, Hash, Drop, Error)]
+pub enum HeaderSliceError {
+    /// Too few bytes.
+    #[error(transparent)]
+    Len(LenError),
+    /// The bytes are no chain of extension headers.
+    #[error(transparent)]
+    Content(HeaderError),
+}
+
+/// Why the next header fields do not lead to each extension header.
+#[derive(Clone, Debug, PartialEq, Eq, Hash, Drop, Error)]
+pub enum ExtsWalkError {
+    /// A hop by hop header is not the first extension header.
+    #[error("HopByHopNotAtStart")]
+    HopByHopNotAtStart,
+    /// No next header field leads to the header of this number.
+    #[error("ExtNotReferenced {}", .missing_ext.0)]
+    ExtNotReferenced { missing_ext: IpNumber },
+}

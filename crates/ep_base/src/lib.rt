@@ -1,0 +1,19 @@
+//! Numbers, lengths and errors that every layer of the packet library shares.
+#![tactic(auto)]
+
+pub mod err;
+mod ether_payload_slice;
+pub mod ether_type;
+pub mod ip_number;
+mod ip_payload_slice;
+mod len_source;
+mod numbers;
+
+pub use ether_payload_slice::EtherPayloadSlice;
+pub use ether_type::EtherType;
+pub use ip_number::IpNumber;
+pub use ip_payload_slice::IpPayloadSlice;
+pub use len_source::LenSource;
+pub use numbers::{
+    IpFragOffset, Ipv4Dscp, Ipv4Ecn, Ipv6FlowLabel, MacsecAn, MacsecShortLen, VlanId, VlanPcp,
+};
