@@ -1,2 +1,4 @@
 pub mod Names
 pub mod Bounded
+pub mod Bytes
+pub mod Layer

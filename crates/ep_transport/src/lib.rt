@@ -1,0 +1,11 @@
+//! Transport headers.
+#![tactic(auto)]
+
+pub mod laws;
+mod udp_header;
+mod udp_slice;
+
+pub use ep_base::LenSource;
+pub use ep_base::err::{Layer, LenError};
+pub use udp_header::UdpHeader;
+pub use udp_slice::UdpSlice;
