@@ -1,7 +1,9 @@
 -- Lists of bytes that are the same list in two ways.
-use Rattle.std.proofs.Common.{◌≡◌, ℕ, ◌+◌, List, ◌++◌, length, take, drop, sym, ap, ◌∙◌, inl, inr, arith}
+use Rattle.std.proofs.Common.{◌≡◌, ℕ, ◌+◌, ◌^◌, ◌<◌, List, [], ◌∷◌, ◌++◌, get_or, refl, length, take, drop, sym, ap, ◌∙◌, inl, inr, arith}
 use Rattle.std.proofs.lemmas.Bool.{cases_lt}
 use Rattle.std.proofs.lemmas.List.{get_or-take, get_or-drop, get_or_past, length-take}
+use Rattle.std.specs.Int.{w16, to_be_bytes, from_be_bytes}
+use Rattle.std.proofs.lemmas.Nat.{from_be_bytes-to_be_bytes_2}
 use Rattle.std.proofs.Math.Seq.{take-append_seam, drop-append_seam}
 use Rattle.ep_base.specs.Bytes.{AreBytes}
 
@@ -23,3 +25,18 @@ AreBytes-take n bytes fits i =
 -- what follows a front of bytes is bytes
 pub AreBytes-drop : (n : ℕ) (bytes : List ℕ) → AreBytes bytes → AreBytes (drop n bytes)
 AreBytes-drop n bytes fits i = rw get_or-drop (fits (n + i))
+
+-- a number of 16 bits is known by its bytes
+pub same_word : (n m : ℕ) → n < 2 ^ 16 → m < 2 ^ 16 → to_be_bytes w16 n ≡ to_be_bytes w16 m → n ≡ m
+same_word n m n_fits m_fits same =
+    sym (from_be_bytes-to_be_bytes_2 n n_fits) ∙ ap (from_be_bytes w16) same ∙ from_be_bytes-to_be_bytes_2 m m_fits
+
+-- the cells of a list of 4 bytes
+pub cells_4 : (xs : List ℕ) → length xs ≡ 4 → xs ≡ get_or xs 0 0 ∷ get_or xs 1 0 ∷ get_or xs 2 0 ∷ get_or xs 3 0 ∷ []
+cells_4 (a ∷ b ∷ c ∷ d ∷ []) len = refl
+cells_4 _ len = absurd (omega arith)
+
+-- the cells of a list of 6 bytes
+pub cells_6 : (xs : List ℕ) → length xs ≡ 6 → xs ≡ get_or xs 0 0 ∷ get_or xs 1 0 ∷ get_or xs 2 0 ∷ get_or xs 3 0 ∷ get_or xs 4 0 ∷ get_or xs 5 0 ∷ []
+cells_6 (a ∷ b ∷ c ∷ d ∷ e ∷ f ∷ []) len = refl
+cells_6 _ len = absurd (omega arith)
