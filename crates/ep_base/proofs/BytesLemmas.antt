@@ -1,5 +1,5 @@
 -- Lists of bytes that are the same list in two ways.
-use Rattle.std.proofs.Common.{◌≡◌, ℕ, ◌+◌, ◌^◌, ◌<◌, List, [], ◌∷◌, ◌++◌, get_or, refl, length, take, drop, sym, ap, ◌∙◌, inl, inr, arith}
+use Rattle.std.proofs.Common.{◌≡◌, ℕ, ◌+◌, ◌^◌, ◌<◌, List, [], ◌∷◌, ◌++◌, get_or, refl, length, take, drop, sym, ap, subst, ◌∙◌, inl, inr, arith}
 use Rattle.std.proofs.lemmas.Bool.{cases_lt}
 use Rattle.std.proofs.lemmas.List.{get_or-take, get_or-drop, get_or_past, length-take}
 use Rattle.std.specs.Int.{w16, to_be_bytes, from_be_bytes}
@@ -40,3 +40,16 @@ cells_4 _ len = absurd (omega arith)
 pub cells_6 : (xs : List ℕ) → length xs ≡ 6 → xs ≡ get_or xs 0 0 ∷ get_or xs 1 0 ∷ get_or xs 2 0 ∷ get_or xs 3 0 ∷ get_or xs 4 0 ∷ get_or xs 5 0 ∷ []
 cells_6 (a ∷ b ∷ c ∷ d ∷ e ∷ f ∷ []) len = refl
 cells_6 _ len = absurd (omega arith)
+
+-- the first of two parts of bytes is bytes
+pub AreBytes-front : (a b : List ℕ) → AreBytes (a ++ b) → AreBytes a
+AreBytes-front a b fits = subst AreBytes (take-append_seam a b) (AreBytes-take (length a) (a ++ b) fits)
+
+-- the second of two parts of bytes is bytes
+pub AreBytes-back : (a b : List ℕ) → AreBytes (a ++ b) → AreBytes b
+AreBytes-back a b fits = subst AreBytes (drop-append_seam a b) (AreBytes-drop (length a) (a ++ b) fits)
+
+-- a payload, between its header and what its cut leaves, is bytes
+pub AreBytes-payload : (bytes front payload left : List ℕ) → AreBytes bytes → bytes ≡ (front ++ payload) ++ left → AreBytes payload
+AreBytes-payload bytes front payload left fits parts =
+    AreBytes-back front payload (AreBytes-front (front ++ payload) left (subst AreBytes parts fits))

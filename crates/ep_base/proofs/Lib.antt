@@ -1,1 +1,3 @@
 pub mod BytesLemmas
+pub mod Residue
+pub mod Sums

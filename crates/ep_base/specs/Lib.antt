@@ -1,4 +1,5 @@
-pub mod Names
 pub mod Bounded
 pub mod Bytes
+pub mod Checksum
 pub mod Layer
+pub mod Names

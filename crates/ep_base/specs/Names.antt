@@ -4,6 +4,8 @@ use Rattle.ep_base.specs.declared.len_source.LenSource.{LenSource}
 use Rattle.ep_base.specs.declared.len_source.LenSource.TheVariants as source
 use Rattle.ep_base.specs.declared.err.layer.Layer.{Layer}
 use Rattle.ep_base.specs.declared.err.layer.Layer.TheVariants as layer
+use Rattle.ep_base.specs.declared.err.value_type.ValueType.{ValueType}
+use Rattle.ep_base.specs.declared.err.value_type.ValueType.TheVariants as value
 
 -- the bytes of a length source's name
 abbrev pub len_source_name : LenSource → List ℕ
@@ -37,3 +39,21 @@ layer_name layer.Icmpv4 = codes "Icmpv4"
 layer_name layer.Icmpv4Timestamp = codes "Icmpv4Timestamp"
 layer_name layer.Icmpv4TimestampReply = codes "Icmpv4TimestampReply"
 layer_name layer.Icmpv6 = codes "Icmpv6"
+
+-- the bytes of the name of what a number was meant for
+abbrev pub value_type_name : ValueType → List ℕ
+value_type_name value.VlanId = codes "VlanId"
+value_type_name value.VlanPcp = codes "VlanPcp"
+value_type_name value.IpFragmentOffset = codes "IpFragmentOffset"
+value_type_name value.Ipv4Dscp = codes "Ipv4Dscp"
+value_type_name value.Ipv4Ecn = codes "Ipv4Ecn"
+value_type_name value.Ipv6FlowLabel = codes "Ipv6FlowLabel"
+value_type_name value.MacsecShortLen = codes "MacsecShortLen"
+value_type_name value.MacsecAn = codes "MacsecAn"
+value_type_name value.Ipv4PayloadLength = codes "Ipv4PayloadLength"
+value_type_name value.Ipv6PayloadLength = codes "Ipv6PayloadLength"
+value_type_name value.UdpPayloadLengthIpv4 = codes "UdpPayloadLengthIpv4"
+value_type_name value.UdpPayloadLengthIpv6 = codes "UdpPayloadLengthIpv6"
+value_type_name value.TcpPayloadLengthIpv4 = codes "TcpPayloadLengthIpv4"
+value_type_name value.TcpPayloadLengthIpv6 = codes "TcpPayloadLengthIpv6"
+value_type_name value.Icmpv6PayloadLength = codes "Icmpv6PayloadLength"

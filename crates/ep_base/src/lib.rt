@@ -1,13 +1,17 @@
 //! Numbers, lengths and errors that every layer of the packet library shares.
 #![tactic(auto)]
 
+pub mod checksum;
 pub mod err;
 mod ether_payload_slice;
 pub mod ether_type;
 pub mod ip_number;
 mod ip_payload_slice;
+pub mod laws;
 mod len_source;
 mod numbers;
+#[cfg(test)]
+mod tests;
 
 pub use ether_payload_slice::EtherPayloadSlice;
 pub use ether_type::EtherType;

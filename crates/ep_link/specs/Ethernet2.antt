@@ -16,7 +16,11 @@ pub record FitsEthernet2 (header : Ethernet2Header) : Type 0 where
   pub destination_bytes : AreBytes header.destination
   pub ether_type : header.ether_type.0 < 2 ^ 16
 
--- the 14 bytes of a header
+-- the number of bytes of a header
+abbrev pub ethernet2_header_len : ℕ
+ethernet2_header_len = 14
+
+-- the bytes of a header
 abbrev pub ethernet2_bytes : Ethernet2Header → List ℕ
 ethernet2_bytes header = header.destination ++ header.source ++ to_be_bytes w16 header.ether_type.0
 

@@ -1,2 +1,3 @@
 pub mod Udp
 pub mod UdpSlices
+pub mod TransportSlices

@@ -1,9 +1,13 @@
 //! A number above its bound.
 
 use crate::err::value_type::ValueType;
+use std::fmt::Display;
+use thiserror::Error;
 
 /// A number is above what its field can hold.
-#[derive(Clone, Debug, PartialEq, Eq, Hash, Drop)]
+#[derive(Clone, Debug, PartialEq, Eq, Hash, Drop, Error)]
+#[error_bound(T: Display)]
+#[error("{}: {actual} is above {max_allowed}", .value_type.name())]
 pub struct ValueTooBigError<T> {
     /// The number that was refused.
     pub actual: T,

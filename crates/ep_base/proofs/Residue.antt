@@ -1,0 +1,59 @@
+-- Sums modulo 65535.
+use Rattle.std.proofs.Common.{◌≡◌, ℕ, zero, suc, ◌+◌, ◌*◌, ◌/◌, ◌<◌, ◌≤◌, refl, ap, sym, ◌∙◌, arith, add_comm}
+use Rattle.std.proofs.Math.Nat.{mul-add-mod_self_left}
+use Rattle.ep_base.specs.Checksum.{residue}
+
+-- a sum is its residue and a multiple of 65535
+pub residue_split : (n : ℕ) → (k : ℕ) × (n ≡ 65535 * k + residue n)
+residue_split zero = (0, omega arith)
+residue_split (suc n) = (n / 65535, omega arith)
+
+pub residue_le : (n : ℕ) → residue n ≤ 65535
+residue_le zero = omega arith
+residue_le (suc n) = omega arith
+
+pub residue_positive : (n : ℕ) → 0 < n → 0 < residue n
+residue_positive zero p = p
+residue_positive (suc n) p = omega arith
+
+pub residue_zero : (n : ℕ) → residue n ≡ 0 → n ≡ 0
+residue_zero zero p = refl
+residue_zero (suc n) p = absurd (omega arith)
+
+-- a number up to 65535 is its own residue
+pub residue_same : (n : ℕ) → n ≤ 65535 → residue n ≡ n
+residue_same zero p = refl
+residue_same (suc n) p = omega arith
+
+-- multiples of 65535 beside a sum that is not 0 change nothing
+pub residue_more : (k n : ℕ) → 0 < n → residue (65535 * k + n) ≡ residue n
+residue_more k zero p = absurd (omega arith)
+residue_more k (suc n) p =
+    let e : 65535 * k + suc n ≡ suc (65535 * k + n) = omega arith in
+    rw e (ap suc (mul-add-mod_self_left 65535 k n))
+
+-- two sums that are one up to multiples of 65535, both 0 or neither, have one residue
+pub residue_unique : (m n j k : ℕ) → 65535 * j + m ≡ 65535 * k + n → (m ≡ 0 → n ≡ 0) → (n ≡ 0 → m ≡ 0) → residue m ≡ residue n
+residue_unique zero zero j k e p q = refl
+residue_unique zero (suc n) j k e p q = absurd (omega (arith, p refl))
+residue_unique (suc m) zero j k e p q = absurd (omega (arith, q refl))
+residue_unique (suc m) (suc n) j k e p q =
+    sym (residue_more j (suc m) (omega arith)) ∙ ap residue e ∙ residue_more k (suc n) (omega arith)
+
+-- a part of a sum may be taken by its residue
+pub residue_part : (a b : ℕ) → residue (residue a + b) ≡ residue (a + b)
+residue_part a b =
+    let s = residue_split a in
+    residue_unique (residue a + b) (a + b) s.0 0 (omega (arith, s.1)) (λ z. omega (arith, residue_zero a)) (λ z. omega (arith, s.1))
+
+pub residue_last : (a b : ℕ) → residue (a + residue b) ≡ residue (a + b)
+residue_last a b = ap residue (add_comm a (residue b)) ∙ residue_part b a ∙ ap residue (add_comm b a)
+
+-- equal residues stay equal beside one more part
+pub residue_beside : (a b c : ℕ) → residue a ≡ residue b → residue (a + c) ≡ residue (b + c)
+residue_beside a b c e = sym (residue_part a c) ∙ ap (λ x. residue (x + c)) e ∙ residue_part b c
+
+-- the one's complement of 64 bits has the residues of the one of 16 bits: 2 ^ 64 - 1 is a multiple of 65535
+pub residue_carry : (m n : ℕ) → m ≡ 18446744073709551615 + n → 0 < n → residue m ≡ residue n
+residue_carry m n e p =
+    residue_unique m n 0 281479271743489 (omega arith) (λ z. omega arith) (λ z. omega arith)

@@ -1,0 +1,157 @@
+-- The one's complement sum of lists of bytes.
+use Rattle.std.proofs.Common.{◌≡◌, ℕ, zero, suc, ◌+◌, ◌-◌, ◌*◌, ◌/◌, ◌%◌, ◌↔◌, ◌<◌, ◌≤◌, List, [], ◌∷◌, ◌++◌, length, replicate, refl, ap, sym, ◌∙◌, arith, add_assoc, add_comm, zero-add, length-append}
+use Rattle.std.proofs.lemmas.List.Elements.{All-nil, All-cons, All-head, All-tail}
+use Rattle.std.specs.Int.{w16, w32, w64, from_be_bytes, to_be_bytes}
+use Rattle.std.specs.List.{All}
+use Rattle.ep_base.specs.Checksum.{word_sum, residue, ones_sum, ones_add, checksum_of}
+use Rattle.ep_base.proofs.Residue.{residue_unique, residue_part, residue_last, residue_beside, residue_split, residue_le, residue_zero}
+
+-- the words of a concatenation, where the first part ends at a word's end
+pub word_sum-append : (a b : List ℕ) → length a % 2 ≡ 0 → word_sum (a ++ b) ≡ word_sum a + word_sum b
+word_sum-append [] b p = omega arith
+word_sum-append (x ∷ []) b p = absurd (omega arith)
+word_sum-append (x ∷ y ∷ a) b p =
+    let q : length a % 2 ≡ 0 = omega arith in
+    omega (arith, word_sum-append a b q)
+
+-- zero bytes at the end add nothing
+pub word_sum-zeros : (a : List ℕ) (n : ℕ) → word_sum (a ++ replicate n 0) ≡ word_sum a
+word_sum-zeros [] zero = refl
+word_sum-zeros [] (suc zero) = refl
+word_sum-zeros [] (suc (suc n)) = omega (arith, word_sum-zeros [] n)
+word_sum-zeros (x ∷ []) zero = refl
+word_sum-zeros (x ∷ []) (suc n) = omega (arith, word_sum-zeros [] n)
+word_sum-zeros (x ∷ y ∷ a) n = omega (arith, word_sum-zeros a n)
+
+pub ones_sum-append : (a b : List ℕ) → length a % 2 ≡ 0 → ones_sum (a ++ b) ≡ ones_add (ones_sum a) (ones_sum b)
+unfolding ones_sum ones_add
+ones_sum-append a b p =
+    ap residue (word_sum-append a b p) ∙ sym (residue_part (word_sum a) (word_sum b))
+    ∙ sym (residue_last (residue (word_sum a)) (word_sum b))
+
+pub ones_add-comm : (a b : ℕ) → ones_add a b ≡ ones_add b a
+unfolding ones_add
+ones_add-comm a b = ap residue (add_comm a b)
+
+pub ones_add-assoc : (a b c : ℕ) → ones_add (ones_add a b) c ≡ ones_add a (ones_add b c)
+unfolding ones_add
+ones_add-assoc a b c =
+    residue_part (a + b) c ∙ ap residue (add_assoc a b c) ∙ sym (residue_last a (b + c))
+
+-- a big-endian number has the residue of the sum of its words
+pub words_of_16 : (bytes : List ℕ) → length bytes ≡ 2 → residue (from_be_bytes w16 bytes) ≡ residue (word_sum bytes)
+words_of_16 (a ∷ b ∷ []) p = residue_unique _ _ 0 0 (omega arith) (λ z. omega arith) (λ z. omega arith)
+words_of_16 _ p = absurd (omega arith)
+
+pub words_of_32 : (bytes : List ℕ) → length bytes ≡ 4 → residue (from_be_bytes w32 bytes) ≡ residue (word_sum bytes)
+words_of_32 (a ∷ b ∷ c ∷ d ∷ []) p =
+    residue_unique _ _ 0 (256 * a + b) (omega arith) (λ z. omega arith) (λ z. omega arith)
+words_of_32 _ p = absurd (omega arith)
+
+pub words_of_64 : (bytes : List ℕ) → length bytes ≡ 8 → residue (from_be_bytes w64 bytes) ≡ residue (word_sum bytes)
+words_of_64 (a ∷ b ∷ c ∷ d ∷ e ∷ f ∷ g ∷ h ∷ []) p =
+    residue_unique _ _ 0 (4295032833 * (256 * a + b) + 65537 * (256 * c + d) + (256 * e + f)) (omega arith) (λ z. omega arith) (λ z. omega arith)
+words_of_64 _ p = absurd (omega arith)
+
+-- a number that stands for the words of some bytes, added to a sum, with the rest to come
+pub sum_with_word : (sum word new rest words : ℕ) → residue new ≡ residue (sum + word) → residue word ≡ residue words
+    → residue (new + rest) ≡ residue (sum + (words + rest))
+sum_with_word sum word new rest words e w =
+    let turn : residue (sum + word + rest) ≡ residue (word + (sum + rest)) = ap residue (omega arith) in
+    let back : residue (words + (sum + rest)) ≡ residue (sum + (words + rest)) = ap residue (omega arith) in
+    residue_beside new (sum + word) rest e ∙ turn ∙ residue_beside word words (sum + rest) w ∙ back
+
+-- the same, with nothing to come
+pub sum_with_last : (sum word new words : ℕ) → residue new ≡ residue (sum + word) → residue word ≡ residue words → residue new ≡ residue (sum + words)
+sum_with_last sum word new words e w =
+    e ∙ sym (residue_last sum word) ∙ ap (λ x. residue (sum + x)) w ∙ residue_last sum words
+
+-- a sum of words, as the sum of two sums
+pub ones_add-words : (sum : ℕ) (bytes : List ℕ) → residue (sum + word_sum bytes) ≡ ones_add (residue sum) (ones_sum bytes)
+unfolding ones_add ones_sum
+ones_add-words sum bytes =
+    sym (residue_last sum (word_sum bytes)) ∙ sym (residue_part sum (residue (word_sum bytes)))
+
+-- the sum of no bytes adds nothing
+pub ones_add-none : (bytes : List ℕ) → ones_add 0 (ones_sum bytes) ≡ ones_sum bytes
+unfolding ones_add ones_sum
+ones_add-none bytes = residue_last 0 (word_sum bytes) ∙ ap residue (zero-add (word_sum bytes))
+
+-- ---- laws
+
+pub ones_sum-mod : (bytes : List ℕ) → ones_sum bytes % 65535 ≡ word_sum bytes % 65535
+unfolding ones_sum
+ones_sum-mod bytes =
+    let s = residue_split (word_sum bytes) in
+    omega (arith, s.1)
+
+pub ones_sum_le : (bytes : List ℕ) → ones_sum bytes ≤ 65535
+unfolding ones_sum
+ones_sum_le bytes = residue_le (word_sum bytes)
+
+abbrev IsZero : ℕ → Type 0
+IsZero byte = byte ≡ 0
+
+word_sum_zero : (bytes : List ℕ) → word_sum bytes ≡ 0 → All IsZero bytes
+word_sum_zero [] z = All-nil IsZero
+word_sum_zero (x ∷ []) z = All-cons IsZero x [] (omega arith) (All-nil IsZero)
+word_sum_zero (x ∷ y ∷ bytes) z =
+    All-cons IsZero x (y ∷ bytes) (omega arith) (All-cons IsZero y bytes (omega arith) (word_sum_zero bytes (omega arith)))
+
+zeros_word_sum : (bytes : List ℕ) → All IsZero bytes → word_sum bytes ≡ 0
+zeros_word_sum [] z = refl
+zeros_word_sum (x ∷ []) z =
+    let first : x ≡ 0 = All-head IsZero x [] z in
+    omega arith
+zeros_word_sum (x ∷ y ∷ bytes) z =
+    let first : x ≡ 0 = All-head IsZero x (y ∷ bytes) z in
+    let tail = All-tail IsZero x (y ∷ bytes) z in
+    let second : y ≡ 0 = All-head IsZero y bytes tail in
+    let rest : word_sum bytes ≡ 0 = zeros_word_sum bytes (All-tail IsZero y bytes tail) in
+    omega arith
+
+pub ones_sum-zero : (bytes : List ℕ) → (ones_sum bytes ≡ 0) ↔ All IsZero bytes
+unfolding ones_sum
+ones_sum-zero bytes =
+    (λ z. word_sum_zero bytes (residue_zero (word_sum bytes) z), λ z. ap residue (zeros_word_sum bytes z))
+
+-- Even parts in their order.
+even_append : (a b : List ℕ) → length a % 2 ≡ 0 → length b % 2 ≡ 0 → length (a ++ b) % 2 ≡ 0
+even_append a b p q = omega (arith, length-append a b)
+
+pub ones_sum-exchange : (a b back : List ℕ) → length a % 2 ≡ 0 → length b % 2 ≡ 0 → ones_sum ((a ++ b) ++ back) ≡ ones_sum ((b ++ a) ++ back)
+unfolding ones_sum
+ones_sum-exchange a b back p q =
+    ap residue
+    (word_sum-append (a ++ b) back (even_append a b p q) ∙ ap (λ x. x + word_sum back) (word_sum-append a b p ∙ add_comm (word_sum a) (word_sum b) ∙ sym (word_sum-append b a q))
+    ∙ sym (word_sum-append (b ++ a) back (even_append b a q p)))
+
+-- the words of two parts with one word between them
+word_sum-between : (front back : List ℕ) (upper lower : ℕ) → length front % 2 ≡ 0
+    → word_sum ((front ++ upper ∷ lower ∷ []) ++ back) ≡ word_sum front + (256 * upper + lower) + word_sum back
+word_sum-between front back upper lower p =
+    let word = upper ∷ lower ∷ [] in
+    omega (arith, word_sum-append (front ++ word) back (even_append front word p refl), word_sum-append front word p)
+
+pub ones_sum-word : (front back : List ℕ) (upper lower : ℕ) → length front % 2 ≡ 0
+    → ones_sum ((front ++ upper ∷ lower ∷ []) ++ back) ≡ ones_add (ones_sum ((front ++ 0 ∷ 0 ∷ []) ++ back)) (ones_sum (upper ∷ lower ∷ []))
+unfolding ones_sum
+ones_sum-word front back upper lower p =
+    ap residue (omega (arith, word_sum-between front back upper lower p, word_sum-between front back 0 0 p))
+    ∙ ones_add-words (word_sum ((front ++ 0 ∷ 0 ∷ []) ++ back)) (upper ∷ lower ∷ [])
+
+pub ones_sum-checksum : (front back : List ℕ) → length front % 2 ≡ 0
+    → ones_sum ((front ++ to_be_bytes w16 (checksum_of ((front ++ 0 ∷ 0 ∷ []) ++ back))) ++ back) ≡ 65535
+unfolding ones_sum
+ones_sum-checksum front back p =
+    let zeros = (front ++ 0 ∷ 0 ∷ []) ++ back in
+    let sum = word_sum zeros in
+    let checksum = 65535 - residue sum in
+    let split = residue_split sum in
+    let bound = residue_le sum in
+    let filled = word_sum-between front back (checksum / 256 % 256) (checksum % 256) p in
+    let empty = word_sum-between front back 0 0 p in
+    let whole : word_sum ((front ++ checksum / 256 % 256 ∷ checksum % 256 ∷ []) ++ back) ≡ sum + checksum = omega (arith, filled, empty) in
+    ap residue whole ∙ residue_unique (sum + checksum) 65535 0 split.0 (omega (arith, split.1)) (λ z. omega (arith, split.1)) (λ z. omega arith)
+
+pub ruleset parts_of_sums = (ones_sum-append, ones_add-none, length-append)

@@ -1,0 +1,5 @@
+use Rattle.ep_base.proofs.Sums.{ones_sum-exchange}
+use Rattle.ep_base.proofs.laws.order_of_parts.Goals as goal
+
+pub returns : goal.returns
+returns c = ones_sum-exchange

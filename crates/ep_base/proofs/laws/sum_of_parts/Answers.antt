@@ -1,0 +1,5 @@
+use Rattle.ep_base.proofs.Sums.{ones_sum-append}
+use Rattle.ep_base.proofs.laws.sum_of_parts.Goals as goal
+
+pub returns : goal.returns
+returns c = ones_sum-append

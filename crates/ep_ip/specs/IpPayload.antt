@@ -1,0 +1,32 @@
+-- The payload of an IP packet, as plain data.
+use Rattle.std.specs.Prelude.{ℕ, Bool, List}
+use Rattle.ep_base.specs.declared.len_source.LenSource.{LenSource}
+use Rattle.ep_base.specs.declared.len_source.LenSource.TheVariants as source
+use Rattle.ep_base.specs.declared.ip_payload_slice.IpPayloadSlice.{IpPayloadSlice}
+use Rattle.ep_ip.specs.declared.ipv4_header.Ipv4Header.{Ipv4Header}
+use Rattle.ep_ip.specs.Ipv4.{is_ipv4_fragment}
+
+-- what the payload is, whether it is a fragment of a longer one, what set its length, and its bytes
+pub record IpPayload : Type 0 where
+  pub number : ℕ
+  pub fragmented : Bool
+  pub source : LenSource
+  pub bytes : List ℕ
+
+-- the payload that a slice shows
+abbrev pub ip_payload_of : IpPayloadSlice → IpPayload
+ip_payload_of payload = record {
+  number = payload.ip_number.0;
+  fragmented = payload.fragmented;
+  source = payload.len_source;
+  bytes = payload.payload.now;
+}
+
+-- the payload of an IPv4 packet with this header and these bytes behind it
+abbrev pub ipv4_payload : Ipv4Header → List ℕ → IpPayload
+ipv4_payload header bytes = record {
+  number = header.protocol.0;
+  fragmented = is_ipv4_fragment header;
+  source = source.Ipv4HeaderTotalLen;
+  bytes = bytes;
+}

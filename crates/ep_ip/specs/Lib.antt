@@ -1,0 +1,4 @@
+pub mod Options
+pub mod Ipv4
+pub mod IpPayload
+pub mod Ipv4Slices

@@ -1,0 +1,242 @@
+//! The header of IPv4 (RFC 791, 3.1).
+
+ghost use Rattle.std.specs.Prelude.{◌≡◌, ◌+◌, ◌-◌, ◌%◌, ◌<◌, ◌≤◌, ◌++◌, List, ℕ, length, IfOk, IfErr, OnOk, OnErr, IsOkAnd, MatchResult};
+ghost use Rattle.ep_base.specs.declared.err.value_type.ValueType.TheVariants as value_type;
+ghost use Rattle.ep_ip.specs.Ipv4.{IsIpv4Header, RefusesIpv4Header, ipv4_bytes, ipv4_checksum, ipv4_header_len, is_ipv4_fragment, default_ipv4_header, new_ipv4_header};
+
+use crate::ipv4_header_slice::Ipv4HeaderSlice;
+use crate::ipv4_options::Ipv4Options;
+use arrayvec::ArrayVec;
+use ep_base::checksum::Sum16BitWords;
+use ep_base::err::ipv4::HeaderSliceError;
+use ep_base::err::{ValueTooBigError, ValueType};
+use ep_base::{IpFragOffset, IpNumber, Ipv4Dscp, Ipv4Ecn};
+use std::alloc::AllocError;
+
+/// The header of an IPv4 packet (RFC 791, 3.1): 20 to 60 bytes.
+#[derive(Clone, Debug, PartialEq, Eq, Drop)]
+pub struct Ipv4Header {
+    /// The differentiated services code point, the upper 6 bits of byte 1.
+    pub dscp: Ipv4Dscp,
+    /// The explicit congestion notification, the lower 2 bits of byte 1.
+    pub ecn: Ipv4Ecn,
+    /// The length in bytes of header and payload, bytes 2 and 3.
+    pub total_len: u16,
+    /// What the fragments of one packet have in common, bytes 4 and 5.
+    pub identification: u16,
+    /// Whether the packet must not be cut into fragments, a flag of byte 6.
+    pub dont_fragment: bool,
+    /// Whether further fragments follow this one, a flag of byte 6.
+    pub more_fragments: bool,
+    /// The place of the fragment in the whole payload in units of 8 bytes, the lower 13 bits of bytes 6 and 7.
+    pub fragment_offset: IpFragOffset,
+    /// How many further hops the packet may take, byte 8.
+    pub time_to_live: u8,
+    /// What the payload is, byte 9.
+    pub protocol: IpNumber,
+    /// The checksum of the header, bytes 10 and 11.
+    pub header_checksum: u16,
+    /// The sender's address, bytes 12 to 15.
+    pub source: [u8; 4],
+    /// The receiver's address, bytes 16 to 19.
+    pub destination: [u8; 4],
+    /// The options, from byte 20 on.
+    pub options: Ipv4Options,
+}
+
+impl Default for Ipv4Header {
+    ghost is_default = { λ header. header ≡ default_ipv4_header };
+
+    fn default() -> Ipv4Header {
+        Ipv4Header {
+            dscp: Ipv4Dscp::ZERO,
+            ecn: Ipv4Ecn::ZERO,
+            total_len: 0,
+            identification: 0,
+            dont_fragment: true,
+            more_fragments: false,
+            fragment_offset: IpFragOffset::ZERO,
+            time_to_live: 0,
+            protocol: IpNumber(255),
+            header_checksum: 0,
+            source: [0; 4],
+            destination: [0; 4],
+            options: Ipv4Options::new(),
+        }
+    }
+}
+
+impl Ipv4Header {
+    /// The number of bytes of a header without options.
+    pub const MIN_LEN: usize = 20;
+
+    /// The number of bytes of a header with the most options.
+    pub const MAX_LEN: usize = 60;
+
+    /// A header without options for a payload of this length in bytes, which is at most 65515. The other fields are
+    /// those of the default.
+    pub fn new(
+        payload_len: u16,
+        time_to_live: u8,
+        protocol: IpNumber,
+        source: [u8; 4],
+        destination: [u8; 4],
+    ) -> Result<Ipv4Header, ValueTooBigError<u16>>
+        ensures { MatchResult result
+            (λ header. (payload_len ≤ 65515)
+            × (header ≡ new_ipv4_header payload_len time_to_live protocol source destination))
+            (λ error. (65515 < payload_len) × (error ≡ record {
+              actual = payload_len;
+              max_allowed = 65515;
+              value_type = value_type.Ipv4PayloadLength;
+            })) }
+    {
+        const MAX_PAYLOAD_LEN: u16 = 65515;
+        if payload_len > MAX_PAYLOAD_LEN {
+            return Err(ValueTooBigError {
+                actual: payload_len,
+                max_allowed: MAX_PAYLOAD_LEN,
+                value_type: ValueType::Ipv4PayloadLength,
+            });
+        }
+        Ok(Ipv4Header {
+            total_len: 20 + payload_len,
+            time_to_live,
+            protocol,
+            source,
+            destination,
+            ..Default::default()
+        })
+    }
+
+    /// The header at the front of the slice, and the bytes behind it, whatever its total length says.
+    pub fn from_slice(slice: &[u8]) -> Result<(Ipv4Header, &[u8]), HeaderSliceError>
+        ensures ok { IfOk result (λ read. IsIpv4Header slice.now read.0 read.1.now) }
+        ensures only { (header : Ipv4Header) (rest : List ℕ) → IsIpv4Header slice.now header rest
+            → IsOkAnd result (λ read. (read.0 ≡ header) × (read.1.now ≡ rest)) }
+        ensures err { IfErr result (RefusesIpv4Header slice.now) }
+    {
+        let header = Ipv4HeaderSlice::from_slice(slice)?;
+        Ok((header.to_header(), &slice[header.header_len()..]))
+    }
+
+    /// The number of bytes of the header, with its options.
+    #[inline]
+    pub fn header_len(&self) -> usize
+        ensures value { result ≡ ipv4_header_len self.now }
+        ensures bound { result ≤ 60 }
+        ensures words { result % 4 ≡ 0 }
+    {
+        Ipv4Header::MIN_LEN + self.options.len()
+    }
+
+    /// Sets the total length for a payload of this length in bytes. A refusal changes nothing.
+    pub fn set_payload_len(&mut self, len: usize) -> Result<(), ValueTooBigError<usize>>
+        ensures { MatchResult result
+            (λ _. (ipv4_header_len self.old + len ≤ 65535)
+            × (self.new ≡ record self.old { total_len = ipv4_header_len self.old + len }))
+            (λ error. (65535 < ipv4_header_len self.old + len) × (self.new ≡ self.old) × (error ≡ record {
+              actual = len;
+              max_allowed = 65535 - ipv4_header_len self.old;
+              value_type = value_type.Ipv4PayloadLength;
+            })) }
+    {
+        let max_allowed = u16::MAX as usize - self.header_len();
+        if len > max_allowed {
+            return Err(ValueTooBigError {
+                actual: len,
+                max_allowed,
+                value_type: ValueType::Ipv4PayloadLength,
+            });
+        }
+        self.total_len = (self.header_len() + len) as u16;
+        Ok(())
+    }
+
+    /// Whether the packet carries one fragment of a longer payload: more follow, or it isn't the first.
+    #[inline]
+    pub fn is_fragmenting_payload(&self) -> bool
+        ensures { result ≡ is_ipv4_fragment self.now }
+    {
+        self.more_fragments || self.fragment_offset.value() > 0
+    }
+
+    /// The header as it stands on the wire, with the checksum that it holds.
+    #[inline]
+    pub fn to_bytes(&self) -> ArrayVec<u8, 60>
+        ensures { result.items ≡ ipv4_bytes self.now }
+    {
+        self.bytes_with(self.header_checksum)
+    }
+
+    /// The checksum of the header (RFC 791, 3.1), whatever checksum it holds.
+    pub fn calc_header_checksum(&self) -> u16
+        ensures { result ≡ ipv4_checksum self.now }
+    {
+        Sum16BitWords::new()
+            .add_slice(&self.fixed_bytes(0))
+            .add_slice(self.options.as_slice())
+            .ones_complement()
+    }
+
+    /// Appends the header's bytes with the checksum that they have, whatever checksum it holds. A refusal leaves the
+    /// buffer as it was.
+    pub fn write(&self, buf: &mut Vec<u8>) -> Result<(), AllocError>
+        ensures ok { OnOk result (buf.new.items ≡ buf.old.items
+            ++ ipv4_bytes (record self.now { header_checksum = ipv4_checksum self.now })) }
+        ensures err { OnErr result (buf.new.items ≡ buf.old.items) }
+    {
+        let bytes = self.bytes_with(self.calc_header_checksum());
+        buf.extend_from_slice(bytes.as_slice())
+    }
+
+    /// The header as it stands on the wire, with this checksum.
+    fn bytes_with(&self, header_checksum: u16) -> ArrayVec<u8, 60>
+        ensures { result.items ≡ ipv4_bytes (record self.now { header_checksum = header_checksum }) }
+    {
+        let mut bytes = ArrayVec::new();
+        bytes
+            .try_extend_from_slice(&self.fixed_bytes(header_checksum))
+            .unwrap();
+        bytes
+            .try_extend_from_slice(self.options.as_slice())
+            .unwrap();
+        bytes
+    }
+
+    /// The first 20 bytes of the header on the wire, with this checksum.
+    fn fixed_bytes(&self, header_checksum: u16) -> [u8; 20]
+        ensures bytes { result ++ self.now.options ≡ ipv4_bytes (record self.now { header_checksum = header_checksum }) }
+        ensures len { length result ≡ 20 }
+    {
+        let words = (self.header_len() / 4) as u8;
+        let total_len = self.total_len.to_be_bytes();
+        let identification = self.identification.to_be_bytes();
+        let dont_fragment = if self.dont_fragment { 0x40 } else { 0 };
+        let more_fragments = if self.more_fragments { 0x20 } else { 0 };
+        let fragment_offset = self.fragment_offset.value().to_be_bytes();
+        let header_checksum = header_checksum.to_be_bytes();
+        [
+            0x40 + words,
+            self.dscp.value() * 4 + self.ecn.value(),
+            total_len[0],
+            total_len[1],
+            identification[0],
+            identification[1],
+            dont_fragment + more_fragments + fragment_offset[0],
+            fragment_offset[1],
+            self.time_to_live,
+            self.protocol.0,
+            header_checksum[0],
+            header_checksum[1],
+            self.source[0],
+            self.source[1],
+            self.source[2],
+            self.source[3],
+            self.destination[0],
+            self.destination[1],
+            self.destination[2],
+            self.destination[3],
+        ]
+    }
+}

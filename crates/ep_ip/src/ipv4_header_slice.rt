@@ -1,0 +1,276 @@
+//! The header of IPv4 in a slice (RFC 791, 3.1).
+
+ghost use Rattle.std.specs.Prelude.{◌≡◌, ◌*◌, ◌≤◌, length};
+ghost use Rattle.ep_ip.specs.Ipv4.{version_of, ihl_of};
+
+use crate::ipv4_header::Ipv4Header;
+use crate::ipv4_options::Ipv4Options;
+use ep_base::err::ipv4::{HeaderError, HeaderSliceError};
+use ep_base::err::{Layer, LenError};
+use ep_base::{IpFragOffset, IpNumber, Ipv4Dscp, Ipv4Ecn, LenSource};
+
+/// The header of an IPv4 packet (RFC 791, 3.1) that lies in a slice: 20 to 60 bytes.
+#[derive(Debug, PartialEq, Eq, Drop)]
+pub struct Ipv4HeaderSlice<'a> {
+    slice: &'a [u8],
+    ghost version: { version_of slice.now ≡ 4 },
+    ghost words: { 5 ≤ ihl_of slice.now },
+    ghost whole: { length slice.now ≡ 4 * ihl_of slice.now },
+}
+
+impl Clone for Ipv4HeaderSlice<'_> {
+    ghost use Rattle.std.specs.Prelude.{◌≡◌, ⊤};
+
+    ghost is_clone = { λ source copy. copy ≡ source };
+
+    ghost is_infallible = { λ _. ⊤ };
+
+    fn clone(&self) -> Result<Self, std::alloc::AllocError> {
+        Ok(self.copied())
+    }
+}
+
+impl<'a> Ipv4HeaderSlice<'a> {
+    ghost use Rattle.std.specs.Prelude.{◌≡◌, ◌*◌, ◌++◌, IfOk, IfErr, IsOkAnd, List, ℕ, slice_index};
+    ghost use Rattle.ep_base.specs.Bytes.{word_at};
+    ghost use Rattle.ep_ip.specs.declared.ipv4_header.Ipv4Header.{Ipv4Header};
+    ghost use Rattle.ep_ip.specs.Ipv4.{IsIpv4Header, RefusesIpv4Header, ipv4_header_len, is_ipv4_fragment, ihl_of};
+    ghost use Rattle.ep_ip.specs.Ipv4Slices.{ipv4_header_slice_bytes, ipv4_header_slice_header};
+
+    /// The header at the front of the slice, whatever its total length says.
+    pub fn from_slice(slice: &'a [u8]) -> Result<Ipv4HeaderSlice<'a>, HeaderSliceError>
+        ensures ok { IfOk result (λ header. (rest : List ℕ) × (slice.now ≡ ipv4_header_slice_bytes header ++ rest)
+            × IsIpv4Header slice.now (ipv4_header_slice_header header) rest) }
+        ensures only { (header : Ipv4Header) (rest : List ℕ) → IsIpv4Header slice.now header rest
+            → IsOkAnd result (λ shown. ipv4_header_slice_header shown ≡ header) }
+        ensures err { IfErr result (RefusesIpv4Header slice.now) }
+    {
+        if slice.len() < Ipv4Header::MIN_LEN {
+            return Err(HeaderSliceError::Len(LenError {
+                required_len: Ipv4Header::MIN_LEN,
+                len: slice.len(),
+                len_source: LenSource::Slice,
+                layer: Layer::Ipv4Header,
+                layer_start_offset: 0,
+            }));
+        }
+        let version_number = slice[0] >> 4;
+        if version_number != 4 {
+            return Err(HeaderSliceError::Content(HeaderError::UnexpectedVersion {
+                version_number,
+            }));
+        }
+        let ihl = slice[0] & 0xf;
+        if ihl < 5 {
+            return Err(HeaderSliceError::Content(HeaderError::HeaderLengthSmallerThanHeader {
+                ihl,
+            }));
+        }
+        let header_len = ihl as usize * 4;
+        if slice.len() < header_len {
+            return Err(HeaderSliceError::Len(LenError {
+                required_len: header_len,
+                len: slice.len(),
+                len_source: LenSource::Slice,
+                layer: Layer::Ipv4Header,
+                layer_start_offset: 0,
+            }));
+        }
+        Ok(Ipv4HeaderSlice {
+            slice: &slice[..header_len],
+        })
+    }
+
+    /// The header again.
+    #[inline]
+    pub(crate) fn copied(&self) -> Ipv4HeaderSlice<'a>
+        ensures { result ≡ self.now }
+    {
+        Ipv4HeaderSlice { slice: self.slice }
+    }
+
+    /// The bytes of the header.
+    #[inline]
+    pub fn slice(&self) -> &'a [u8]
+        ensures { result.now ≡ ipv4_header_slice_bytes self.now }
+    {
+        self.slice
+    }
+
+    /// The version, the upper 4 bits of byte 0: 4.
+    #[inline]
+    pub fn version(&self) -> u8
+        ensures { result ≡ 4 }
+    {
+        self.slice[0] >> 4
+    }
+
+    /// The number of 4 byte words of the header (IHL), the lower 4 bits of byte 0.
+    #[inline]
+    pub fn ihl(&self) -> u8
+        ensures { result ≡ ihl_of (ipv4_header_slice_bytes self.now) }
+    {
+        self.slice[0] & 0xf
+    }
+
+    /// The number of bytes of the header, with its options.
+    #[inline]
+    pub fn header_len(&self) -> usize
+        ensures bytes { result ≡ length (ipv4_header_slice_bytes self.now) }
+        ensures value { result ≡ ipv4_header_len (ipv4_header_slice_header self.now) }
+    {
+        self.slice.len()
+    }
+
+    /// The differentiated services code point, the upper 6 bits of byte 1.
+    #[inline]
+    pub fn dscp(&self) -> Ipv4Dscp
+        ensures { result ≡ (ipv4_header_slice_header self.now).dscp }
+    {
+        Ipv4Dscp::try_new(self.slice[1] >> 2).unwrap()
+    }
+
+    /// The explicit congestion notification, the lower 2 bits of byte 1.
+    #[inline]
+    pub fn ecn(&self) -> Ipv4Ecn
+        ensures { result ≡ (ipv4_header_slice_header self.now).ecn }
+    {
+        Ipv4Ecn::try_new(self.slice[1] & 3).unwrap()
+    }
+
+    /// The length in bytes of header and payload, bytes 2 and 3.
+    #[inline]
+    pub fn total_len(&self) -> u16
+        ensures { result ≡ (ipv4_header_slice_header self.now).total_len }
+    {
+        u16::from_be_bytes([self.slice[2], self.slice[3]])
+    }
+
+    /// What the fragments of one packet have in common, bytes 4 and 5.
+    #[inline]
+    pub fn identification(&self) -> u16
+        ensures { result ≡ (ipv4_header_slice_header self.now).identification }
+    {
+        u16::from_be_bytes([self.slice[4], self.slice[5]])
+    }
+
+    /// Whether the packet must not be cut into fragments, a flag of byte 6.
+    #[inline]
+    pub fn dont_fragment(&self) -> bool
+        ensures { result ≡ (ipv4_header_slice_header self.now).dont_fragment }
+    {
+        (self.slice[6] >> 6) & 1 == 1
+    }
+
+    /// Whether further fragments follow this one, a flag of byte 6.
+    #[inline]
+    pub fn more_fragments(&self) -> bool
+        ensures { result ≡ (ipv4_header_slice_header self.now).more_fragments }
+    {
+        (self.slice[6] >> 5) & 1 == 1
+    }
+
+    /// The same as [`Ipv4HeaderSlice::fragment_offset`], under the name that it has in etherparse.
+    #[inline]
+    pub fn fragments_offset(&self) -> IpFragOffset
+        ensures { result ≡ (ipv4_header_slice_header self.now).fragment_offset }
+    {
+        self.fragment_offset()
+    }
+
+    /// The place of the fragment in the whole payload in units of 8 bytes, the lower 13 bits of bytes 6 and 7.
+    #[inline]
+    pub fn fragment_offset(&self) -> IpFragOffset
+        ensures { result ≡ (ipv4_header_slice_header self.now).fragment_offset }
+    {
+        let flags_and_offset = u16::from_be_bytes([self.slice[6], self.slice[7]]);
+        IpFragOffset::try_new(flags_and_offset & 0x1fff).unwrap()
+    }
+
+    /// How many further hops the packet may take, byte 8.
+    #[inline]
+    pub fn time_to_live(&self) -> u8
+        ensures { result ≡ (ipv4_header_slice_header self.now).time_to_live }
+    {
+        self.slice[8]
+    }
+
+    /// What the payload is, byte 9.
+    #[inline]
+    pub fn protocol(&self) -> IpNumber
+        ensures { result ≡ (ipv4_header_slice_header self.now).protocol }
+    {
+        IpNumber(self.slice[9])
+    }
+
+    /// The checksum of the header, bytes 10 and 11.
+    #[inline]
+    pub fn header_checksum(&self) -> u16
+        ensures { result ≡ (ipv4_header_slice_header self.now).header_checksum }
+    {
+        u16::from_be_bytes([self.slice[10], self.slice[11]])
+    }
+
+    /// The sender's address, bytes 12 to 15.
+    #[inline]
+    pub fn source(&self) -> [u8; 4]
+        ensures { result ≡ (ipv4_header_slice_header self.now).source }
+    {
+        [
+            self.slice[12],
+            self.slice[13],
+            self.slice[14],
+            self.slice[15],
+        ]
+    }
+
+    /// The receiver's address, bytes 16 to 19.
+    #[inline]
+    pub fn destination(&self) -> [u8; 4]
+        ensures { result ≡ (ipv4_header_slice_header self.now).destination }
+    {
+        [
+            self.slice[16],
+            self.slice[17],
+            self.slice[18],
+            self.slice[19],
+        ]
+    }
+
+    /// The bytes of the options, from byte 20 on.
+    #[inline]
+    pub fn options(&self) -> &'a [u8]
+        ensures { result.now ≡ (ipv4_header_slice_header self.now).options }
+    {
+        &self.slice[Ipv4Header::MIN_LEN..]
+    }
+
+    /// Whether the packet carries one fragment of a longer payload: more follow, or it isn't the first.
+    #[inline]
+    pub fn is_fragmenting_payload(&self) -> bool
+        ensures { result ≡ is_ipv4_fragment (ipv4_header_slice_header self.now) }
+    {
+        self.more_fragments() || self.fragment_offset().value() > 0
+    }
+
+    /// The header as a value.
+    pub fn to_header(&self) -> Ipv4Header
+        ensures { result ≡ ipv4_header_slice_header self.now }
+    {
+        Ipv4Header {
+            dscp: self.dscp(),
+            ecn: self.ecn(),
+            total_len: self.total_len(),
+            identification: self.identification(),
+            dont_fragment: self.dont_fragment(),
+            more_fragments: self.more_fragments(),
+            fragment_offset: self.fragment_offset(),
+            time_to_live: self.time_to_live(),
+            protocol: self.protocol(),
+            header_checksum: self.header_checksum(),
+            source: self.source(),
+            destination: self.destination(),
+            options: Ipv4Options::copy_of(self.options()),
+        }
+    }
+}

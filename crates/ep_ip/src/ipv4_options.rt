@@ -1,0 +1,112 @@
+//! The options of an IPv4 header (RFC 791, 3.1).
+
+ghost use Rattle.std.specs.Prelude.{◌≡◌, ◌<◌, ◌≤◌, ◌%◌, ◌⊎◌, [], length, MatchResult};
+ghost use Rattle.ep_base.specs.Bytes.{AreBytes};
+
+use std::marker::Model;
+use thiserror::Error;
+
+/// The options of an IPv4 header: at most 40 bytes, in words of 4.
+#[derive(Clone, Debug, PartialEq, Eq, Drop)]
+pub struct Ipv4Options {
+    /// The options, and then zero bytes.
+    bytes: [u8; 40],
+    /// The number of bytes of the options.
+    len: u8,
+}
+
+impl Model for Ipv4Options {
+    ghost use Rattle.std.specs.Prelude.{◌≡◌, ℕ, ◌-◌, ◌≤◌, ◌%◌, List, ◌++◌, length, take, drop, replicate};
+    ghost use Rattle.ep_ip.specs.Options.{padded, padded_front};
+    ghost use Rattle.std.proofs.Common.{arith, length-take-le};
+
+    ghost Value = { List ℕ };
+
+    ghost view = { λ o. take o.len o.bytes };
+
+    ghost invariant = { λ o. (length o.bytes ≡ 40) × (o.len ≤ 40) × (o.len % 4 ≡ 0) × (drop o.len o.bytes ≡ replicate (40 - o.len) 0) };
+
+    ghost inverse = { λ options. record { bytes = padded options; len = length options } };
+
+    ghost inverse_ok = { λ o h i. record {
+      bytes = padded_front o.len o.bytes h.0 h.1 h.3 i;
+      len = length-take-le o.len o.bytes (Prim.omega (arith, h.0, h.1)) i;
+    } };
+}
+
+/// The number of bytes is no length of options: it is above 40 or no multiple of 4.
+#[derive(Clone, Debug, PartialEq, Eq, Hash, Drop, Error)]
+#[error("BadOptionsLen {0}")]
+pub struct BadOptionsLen(pub usize);
+
+impl Default for Ipv4Options {
+    ghost is_default = { λ options. options ≡ [] };
+
+    fn default() -> Ipv4Options {
+        Ipv4Options::new()
+    }
+}
+
+impl Ipv4Options {
+    /// The greatest number of bytes.
+    pub const MAX_LEN: usize = 40;
+
+    /// No options.
+    #[inline]
+    pub fn new() -> Ipv4Options
+        ensures { result ≡ [] }
+    {
+        Ipv4Options {
+            bytes: [0; 40],
+            len: 0,
+        }
+    }
+
+    /// A copy of the bytes, whose number is at most 40 and a multiple of 4.
+    pub fn try_new(slice: &[u8]) -> Result<Ipv4Options, BadOptionsLen>
+        ensures { MatchResult result
+            (λ options. (length slice.now ≤ 40) × (length slice.now % 4 ≡ 0) × (options ≡ slice.now))
+            (λ error. ((40 < length slice.now) ⊎ (0 < length slice.now % 4))
+            × (error ≡ record { 0 = length slice.now })) }
+    {
+        if slice.len() > Ipv4Options::MAX_LEN || slice.len() % 4 != 0 {
+            return Err(BadOptionsLen(slice.len()));
+        }
+        Ok(Ipv4Options::copy_of(slice))
+    }
+
+    /// A copy of the bytes.
+    #[inline]
+    pub(crate) fn copy_of(slice: &[u8]) -> Ipv4Options
+        requires bound { length slice.now ≤ 40 }
+        requires words { length slice.now % 4 ≡ 0 }
+        ensures { result ≡ slice.now }
+    {
+        let mut bytes = [0; 40];
+        bytes[..slice.len()].copy_from_slice(slice);
+        Ipv4Options {
+            bytes,
+            len: slice.len() as u8,
+        }
+    }
+
+    /// The bytes of the options.
+    #[inline]
+    pub fn as_slice(&self) -> &[u8]
+        ensures value { result.now ≡ self.now }
+        ensures bound { length self.now ≤ 40 }
+        ensures words { length self.now % 4 ≡ 0 }
+    {
+        &self.bytes[..self.len as usize]
+    }
+
+    /// The number of bytes of the options: at most 40, and a multiple of 4.
+    #[inline]
+    pub fn len(&self) -> usize
+        ensures value { result ≡ length self.now }
+        ensures bound { result ≤ 40 }
+        ensures words { result % 4 ≡ 0 }
+    {
+        self.len as usize
+    }
+}

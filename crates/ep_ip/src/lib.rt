@@ -1,0 +1,17 @@
+//! The headers of IP.
+#![tactic(auto)]
+
+mod ipv4_header;
+mod ipv4_header_slice;
+mod ipv4_options;
+mod ipv4_slice;
+pub mod laws;
+#[cfg(test)]
+mod tests;
+
+pub use ep_base::err::{Layer, LenError, ValueTooBigError, ValueType, ipv4};
+pub use ep_base::{IpFragOffset, IpNumber, IpPayloadSlice, Ipv4Dscp, Ipv4Ecn, LenSource};
+pub use ipv4_header::Ipv4Header;
+pub use ipv4_header_slice::Ipv4HeaderSlice;
+pub use ipv4_options::{BadOptionsLen, Ipv4Options};
+pub use ipv4_slice::Ipv4Slice;

@@ -1,0 +1,44 @@
+-- The layers of a frame, as plain data, and which of them a sliced packet shows.
+use Rattle.std.specs.Prelude.{Option}
+use Rattle.std.specs.Option.{option_map}
+use Rattle.ep_base.specs.declared.ether_type.EtherType.{EtherType}
+use Rattle.ep_link.specs.LinkSlices.{LinkLayer, link_layer_of}
+use Rattle.ep_ip.specs.declared.ipv4_header.Ipv4Header.{Ipv4Header}
+use Rattle.ep_ip.specs.IpPayload.{IpPayload, ipv4_payload}
+use Rattle.ep_ip.specs.Ipv4Slices.{ipv4_slice_header, ipv4_slice_payload}
+use Rattle.ep_transport.specs.TransportSlices.{TransportLayer, transport_layer_of}
+use Rattle.ep_packet.specs.declared.net_slice.NetSlice.{NetSlice}
+use Rattle.ep_packet.specs.declared.net_slice.NetSlice.TheVariants as slice
+use Rattle.ep_packet.specs.declared.sliced_packet.SlicedPacket.{SlicedPacket}
+
+-- what stands at the front of the bytes: an Ethernet II header, or the payload of a link layer with its type
+pub data Entry : Type 0 where
+  ethernet : Entry
+  ether_type : EtherType → Entry
+
+-- a net layer: its header and its payload
+pub data NetLayer : Type 0 where
+  ipv4 : Ipv4Header → IpPayload → NetLayer
+
+-- the layers of a frame, each where it stands
+pub record Layers : Type 0 where
+  pub link : Option LinkLayer
+  pub net : Option NetLayer
+  pub transport : Option TransportLayer
+
+-- the net layer that a slice shows
+abbrev pub net_layer_of : NetSlice → NetLayer
+net_layer_of (slice.Ipv4 packet) =
+    ipv4 (ipv4_slice_header packet) (ipv4_payload (ipv4_slice_header packet) (ipv4_slice_payload packet))
+
+-- the layers that a sliced packet shows
+abbrev pub layers_of : SlicedPacket → Layers
+layers_of packet = record {
+  link = option_map link_layer_of packet.link;
+  net = option_map net_layer_of packet.net;
+  transport = option_map transport_layer_of packet.transport;
+}
+
+-- the payload of a net layer
+abbrev pub net_payload : NetLayer → IpPayload
+net_payload (ipv4 header payload) = payload

@@ -1,0 +1,4 @@
+pub mod Layers
+pub mod Frame
+pub mod Refusals
+pub mod Decided

@@ -1,0 +1,18 @@
+//! Why no packet could be sliced.
+
+use ep_base::err::{LenError, ip_auth, ipv4};
+use thiserror::Error;
+
+/// Why no packet could be sliced: the refusal of the first layer that does not stand.
+#[derive(Clone, Debug, PartialEq, Eq, Hash, Drop, Error)]
+pub enum SliceError {
+    /// A layer has too few bytes.
+    #[error(transparent)]
+    Len(LenError),
+    /// The bytes are no IPv4 header.
+    #[error(transparent)]
+    Ipv4(ipv4::HeaderError),
+    /// The bytes are no extension header of IPv4.
+    #[error(transparent)]
+    Ipv4Exts(ip_auth::HeaderError),
+}

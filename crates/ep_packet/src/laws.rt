@@ -1,0 +1,18 @@
+//! What holds of every list of bytes, each law the contract of a function that does nothing.
+
+ghost use Rattle.std.specs.Prelude.{ℕ, List};
+ghost use Rattle.ep_base.specs.Bytes.{AreBytes};
+ghost use Rattle.ep_packet.specs.Decided.{IsExactlyOne};
+ghost use Rattle.ep_packet.specs.Layers.{Entry};
+ghost use Rattle.ep_packet.specs.Frame.{IsFrame};
+ghost use Rattle.ep_packet.specs.Refusals.{RefusesFrame};
+
+/// Bytes are a frame, of one list of layers, or are refused with one error, and never both. It follows from the laws of the
+/// layers alone, which the body names.
+pub fn frames()
+    ensures { (entry : Entry) (bytes : List ℕ) → AreBytes bytes → IsExactlyOne (IsFrame entry bytes) (RefusesFrame entry bytes) }
+{
+    ep_link::laws::ethernet2();
+    ep_ip::laws::ipv4();
+    ep_transport::laws::udp();
+}

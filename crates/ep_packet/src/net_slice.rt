@@ -1,0 +1,68 @@
+//! The net layer of a sliced packet.
+
+use ep_base::IpPayloadSlice;
+use ep_ip::Ipv4Slice;
+
+/// The net layer of a sliced packet.
+#[derive(Clone, Debug, PartialEq, Eq, Drop)]
+pub enum NetSlice<'a> {
+    /// An IPv4 packet.
+    Ipv4(Ipv4Slice<'a>),
+}
+
+/// The net layer, under the name that it had in older versions.
+pub type InternetSlice<'a> = NetSlice<'a>;
+
+impl<'a> NetSlice<'a> {
+    ghost use Rattle.std.specs.Prelude.{◌≡◌, IsTrue, IsSome, IfSome, ◌↔◌, Some, None, ⊤};
+    ghost use Rattle.std.specs.Option.{option_copied, option_map};
+    ghost use Rattle.ep_ip.specs.IpPayload.{ip_payload_of};
+    ghost use Rattle.ep_packet.specs.Layers.{net_layer_of, net_payload};
+
+    /// Whether the layer is IP, of either version.
+    #[inline]
+    pub fn is_ip(&self) -> bool
+        ensures { IsTrue result }
+    {
+        self.is_ipv4()
+    }
+
+    /// Whether the layer is IPv4.
+    #[inline]
+    pub fn is_ipv4(&self) -> bool
+        ensures { IsTrue result }
+    {
+        matches!(self, NetSlice::Ipv4(_))
+    }
+
+    /// The IPv4 packet, if the layer is one.
+    #[inline]
+    pub fn ipv4_ref(&self) -> Option<&Ipv4Slice<'a>>
+        ensures { option_map NetSlice.Ipv4 (option_copied result) ≡ Some self.now }
+    {
+        match self {
+            NetSlice::Ipv4(packet) => Some(packet),
+        }
+    }
+
+    /// The payload of the IP packet, if the layer is one.
+    #[inline]
+    pub fn ip_payload_ref(&self) -> Option<&IpPayloadSlice<'a>>
+        ensures { option_map ip_payload_of (option_copied result) ≡ Some (net_payload (net_layer_of self.now)) }
+    {
+        match self {
+            NetSlice::Ipv4(packet) => Some(packet.payload()),
+        }
+    }
+}
+
+impl<'a> From<Ipv4Slice<'a>> for NetSlice<'a> {
+    ghost use Rattle.std.specs.Prelude.{◌≡◌};
+    ghost use Rattle.ep_packet.specs.declared.net_slice.NetSlice.TheVariants as variant;
+
+    ghost from_gives = { λ packet layer. layer ≡ variant.Ipv4 packet };
+
+    fn from(packet: Ipv4Slice<'a>) -> NetSlice<'a> {
+        NetSlice::Ipv4(packet)
+    }
+}
