@@ -170,14 +170,6 @@ impl<'a> Ipv4HeaderSlice<'a> {
         (self.slice[6] >> 5) & 1 == 1
     }
 
-    /// The same as [`Ipv4HeaderSlice::fragment_offset`], under the name that it has in etherparse.
-    #[inline]
-    pub fn fragments_offset(&self) -> IpFragOffset
-        ensures { result ≡ (ipv4_header_slice_header self.now).fragment_offset }
-    {
-        self.fragment_offset()
-    }
-
     /// The place of the fragment in the whole payload in units of 8 bytes, the lower 13 bits of bytes 6 and 7.
     #[inline]
     pub fn fragment_offset(&self) -> IpFragOffset
@@ -185,6 +177,14 @@ impl<'a> Ipv4HeaderSlice<'a> {
     {
         let flags_and_offset = u16::from_be_bytes([self.slice[6], self.slice[7]]);
         IpFragOffset::try_new(flags_and_offset & 0x1fff).unwrap()
+    }
+
+    /// The same as [`Ipv4HeaderSlice::fragment_offset`], under the name that it has in etherparse.
+    #[inline]
+    pub fn fragments_offset(&self) -> IpFragOffset
+        ensures { result ≡ (ipv4_header_slice_header self.now).fragment_offset }
+    {
+        self.fragment_offset()
     }
 
     /// How many further hops the packet may take, byte 8.

@@ -97,7 +97,7 @@ impl Ipv4Options {
         ensures bound { length self.now ≤ 40 }
         ensures words { length self.now % 4 ≡ 0 }
     {
-        &self.bytes[..self.len as usize]
+        &self.bytes[..self.len()]
     }
 
     /// The number of bytes of the options: at most 40, and a multiple of 4.

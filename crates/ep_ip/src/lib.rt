@@ -9,6 +9,7 @@ pub mod laws;
 #[cfg(test)]
 mod tests;
 
+pub use arrayvec::ArrayVec;
 pub use ep_base::err::{Layer, LenError, ValueTooBigError, ValueType, ipv4};
 pub use ep_base::{IpFragOffset, IpNumber, IpPayloadSlice, Ipv4Dscp, Ipv4Ecn, LenSource};
 pub use ipv4_header::Ipv4Header;

@@ -2,7 +2,7 @@
 
 use crate::{
     IpFragOffset, IpNumber, Ipv4Dscp, Ipv4Ecn, Ipv4Header, Ipv4HeaderSlice, Ipv4Options, Ipv4Slice,
-    LenSource, ValueTooBigError, ValueType, laws,
+    LenSource, ValueTooBigError, ValueType,
 };
 use std::test::Fail;
 
@@ -99,10 +99,4 @@ fn option_lengths(rt: HostRuntime) -> Result<(), Fail> {
         assert_eq!(rt; shown.as_str(), text);
     }
     Ok(())
-}
-
-#[test]
-fn laws_are_called() {
-    laws::ipv4_header();
-    laws::ipv4();
 }

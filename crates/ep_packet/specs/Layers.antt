@@ -1,6 +1,6 @@
 -- The layers of a frame, as plain data, and which of them a sliced packet shows.
-use Rattle.std.specs.Prelude.{Option}
-use Rattle.std.specs.Option.{option_map}
+use Rattle.std.specs.Prelude.{Option, Bool, false}
+use Rattle.std.specs.Option.{option_map, option_map_or}
 use Rattle.ep_base.specs.declared.ether_type.EtherType.{EtherType}
 use Rattle.ep_link.specs.LinkSlices.{LinkLayer, link_layer_of}
 use Rattle.ep_ip.specs.declared.ipv4_header.Ipv4Header.{Ipv4Header}
@@ -42,3 +42,11 @@ layers_of packet = record {
 -- the payload of a net layer
 abbrev pub net_payload : NetLayer → IpPayload
 net_payload (ipv4 header payload) = payload
+
+-- the payload of the IP packet, where the net layer is one
+abbrev pub ip_payload_in : Layers → Option IpPayload
+ip_payload_in layers = option_map net_payload layers.net
+
+-- whether that payload is a fragment of a longer one
+abbrev pub carries_fragment : Layers → Bool
+carries_fragment layers = option_map_or (λ (payload : IpPayload). payload.fragmented) (ip_payload_in layers) false

@@ -2,3 +2,4 @@ pub mod Layers
 pub mod Frame
 pub mod Refusals
 pub mod Decided
+pub mod NetSlices

@@ -2,4 +2,5 @@
 
 mod slice_error;
 
+pub use ep_base::err::{ip_auth, ipv4};
 pub use slice_error::SliceError;

@@ -13,3 +13,6 @@ pub use ep_link::{Ethernet2Slice, LinkSlice};
 pub use ep_transport::{TransportSlice, UdpSlice};
 pub use net_slice::{InternetSlice, NetSlice};
 pub use sliced_packet::SlicedPacket;
+
+#[cfg(test)]
+mod tests;

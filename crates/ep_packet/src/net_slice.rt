@@ -14,15 +14,16 @@ pub enum NetSlice<'a> {
 pub type InternetSlice<'a> = NetSlice<'a>;
 
 impl<'a> NetSlice<'a> {
-    ghost use Rattle.std.specs.Prelude.{◌≡◌, IsTrue, IsSome, IfSome, ◌↔◌, Some, None, ⊤};
+    ghost use Rattle.std.specs.Prelude.{◌≡◌, Some};
     ghost use Rattle.std.specs.Option.{option_copied, option_map};
     ghost use Rattle.ep_ip.specs.IpPayload.{ip_payload_of};
     ghost use Rattle.ep_packet.specs.Layers.{net_layer_of, net_payload};
+    ghost use Rattle.ep_packet.specs.NetSlices.{is_ip_layer, is_ipv4_layer, ipv4_in};
 
     /// Whether the layer is IP, of either version.
     #[inline]
     pub fn is_ip(&self) -> bool
-        ensures { IsTrue result }
+        ensures { result ≡ is_ip_layer self.now }
     {
         self.is_ipv4()
     }
@@ -30,7 +31,7 @@ impl<'a> NetSlice<'a> {
     /// Whether the layer is IPv4.
     #[inline]
     pub fn is_ipv4(&self) -> bool
-        ensures { IsTrue result }
+        ensures { result ≡ is_ipv4_layer self.now }
     {
         matches!(self, NetSlice::Ipv4(_))
     }
@@ -38,7 +39,7 @@ impl<'a> NetSlice<'a> {
     /// The IPv4 packet, if the layer is one.
     #[inline]
     pub fn ipv4_ref(&self) -> Option<&Ipv4Slice<'a>>
-        ensures { option_map NetSlice.Ipv4 (option_copied result) ≡ Some self.now }
+        ensures { option_copied result ≡ ipv4_in self.now }
     {
         match self {
             NetSlice::Ipv4(packet) => Some(packet),

@@ -30,7 +30,9 @@ pub struct SlicedPacket<'a> {
 
 impl<'a> SlicedPacket<'a> {
     ghost use Rattle.std.specs.Prelude.{◌≡◌, IfOk, IfErr, IsOkAnd};
-    ghost use Rattle.ep_packet.specs.Layers.{ethernet, ether_type as of_type, Layers, layers_of};
+    ghost use Rattle.std.specs.Option.{option_copied, option_map};
+    ghost use Rattle.ep_ip.specs.IpPayload.{ip_payload_of};
+    ghost use Rattle.ep_packet.specs.Layers.{ethernet, ether_type as of_type, Layers, layers_of, ip_payload_in, carries_fragment};
     ghost use Rattle.ep_packet.specs.Frame.{IsFrame};
     ghost use Rattle.ep_packet.specs.Refusals.{RefusesFrame};
 
@@ -75,6 +77,28 @@ impl<'a> SlicedPacket<'a> {
             net,
             transport,
         })
+    }
+
+    /// The payload of the IP packet, if the net layer is one.
+    #[inline]
+    pub fn ip_payload(&self) -> Option<&IpPayloadSlice<'a>>
+        ensures { option_map ip_payload_of (option_copied result) ≡ ip_payload_in (layers_of self.now) }
+    {
+        match &self.net {
+            Some(net) => net.ip_payload_ref(),
+            None => None,
+        }
+    }
+
+    /// Whether the payload of the IP packet is one fragment of a longer one; false where there is none.
+    #[inline]
+    pub fn is_ip_payload_fragmented(&self) -> bool
+        ensures { result ≡ carries_fragment (layers_of self.now) }
+    {
+        match self.ip_payload() {
+            Some(payload) => payload.fragmented,
+            None => false,
+        }
     }
 }
 

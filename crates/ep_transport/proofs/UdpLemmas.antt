@@ -8,7 +8,7 @@ use Rattle.ep_base.specs.Bytes.{AreBytes, word_at}
 use Rattle.ep_base.proofs.BytesLemmas.{same_parts, AreBytes-take}
 use Rattle.ep_base.specs.declared.err.len_error.LenError.{LenError}
 use Rattle.ep_transport.specs.declared.udp_header.UdpHeader.{UdpHeader}
-use Rattle.ep_transport.specs.Udp.{FitsUdp, IsUdp, RefusesUdp, udp_bytes, udp_header_of}
+use Rattle.ep_transport.specs.Udp.{FitsUdp, IsUdp, IsUdpHeader, RefusesUdp, RefusesUdpHeader, udp_bytes, udp_header_of}
 
 -- the header that is read fits, and its bytes are those at the front
 pub udp_front : (bytes : List ℕ) → AreBytes bytes → 8 ≤ length bytes → bytes ≡ udp_bytes (udp_header_of bytes) ++ drop 8 bytes
@@ -78,3 +78,16 @@ udp_some bytes fits =
         ]
       ]
     ]
+
+-- what a header is, read from its bytes
+udp_header_reads : (bytes : List ℕ) (h : UdpHeader) (rest : List ℕ) → IsUdpHeader bytes h rest → (h ≡ udp_header_of bytes) × (drop 8 bytes ≡ rest)
+udp_header_reads bytes h rest a = grind (arith, common_steps)
+
+pub udp_header_one_value : (bytes : List ℕ) (h k : UdpHeader) (rest others : List ℕ) → IsUdpHeader bytes h rest → IsUdpHeader bytes k others → (h ≡ k) × (rest ≡ others)
+udp_header_one_value bytes h k rest others a b =
+    let p = udp_header_reads bytes h rest a in
+    let q = udp_header_reads bytes k others b in
+    (p.0 ∙ sym q.0, sym p.1 ∙ q.1)
+
+pub udp_header_not_both : (bytes : List ℕ) (h : UdpHeader) (rest : List ℕ) (e : LenError) → IsUdpHeader bytes h rest → RefusesUdpHeader bytes e → ⊥
+udp_header_not_both bytes h rest e a b = grind (arith, common_steps)

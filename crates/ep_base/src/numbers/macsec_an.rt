@@ -4,7 +4,7 @@ ghost use Rattle.ep_base.specs.Bounded.{TriesNumber};
 use crate::err::{ValueTooBigError, ValueType};
 use std::marker::Model;
 
-/// The association number of a MACsec tag, 2 bits (IEEE 802.1AE, 9.5).
+/// The association number of a MACsec tag, 2 bits (IEEE 802.1AE, 9.6).
 #[derive(Clone, Copy, Debug, PartialEq, Eq, PartialOrd, Ord, Hash)]
 pub struct MacsecAn {
     number: u8,

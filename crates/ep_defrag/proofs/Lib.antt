@@ -1,0 +1,7 @@
+mod Lists
+mod Sections
+mod Data
+mod Complete
+mod Held
+mod Cuts
+mod Runs

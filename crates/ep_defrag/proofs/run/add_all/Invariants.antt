@@ -1,0 +1,14 @@
+use Rattle.std.proofs.Common.{◌≡◌, ◌≤◌, [], take, length, vec_len, vec_capacity}
+use Rattle.ep_defrag.specs.Buffers.{HoldsFragments, ip_number_of}
+use Rattle.ep_defrag.specs.Runs.{accepted_after, answers_after}
+use Rattle.ep_defrag.proofs.run.add_all.Given as goal
+
+-- the fragments so far are held and answered, and there is room for the answers to the others
+abbrev pub invariant-loop-at : goal.invariant-loop-at
+invariant-loop-at l = record {
+  held : HoldsFragments l.buffer (accepted_after [] (take l.at l.fragments));
+  answered : l.answers.items ≡ answers_after [] (take l.at l.fragments);
+  counted : vec_len l.answers ≡ l.at;
+  room : length l.fragments ≤ vec_capacity l.answers;
+  number : ip_number_of l.buffer ≡ l.fn.ip_number;
+}

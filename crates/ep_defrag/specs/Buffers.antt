@@ -1,0 +1,74 @@
+-- What a buffer shows, and the list of fragments that it holds.
+use Rattle.std.specs.Prelude.{◌≡◌, ℕ, ◌+◌, ◌-◌, ◌≤◌, Bool, false, not, ◌==◌, Option, Some, List, [], ◌∷◌, ◌++◌, length, take, drop, replicate, if◌then◌else◌}
+use Rattle.std.specs.List.{All, list_any, count_by, filter, fold}
+use Rattle.ep_base.specs.declared.ip_number.IpNumber.{IpNumber}
+use Rattle.ep_defrag.specs.declared.ip_frag_range.IpFragRange.{IpFragRange}
+use Rattle.ep_defrag.specs.declared.ip_defrag_buf.IpDefragBuf.{IpDefragBuf}
+use Rattle.ep_defrag.specs.Ranges.{has_byte, touches, merges, hull}
+use Rattle.ep_defrag.specs.Fragments.{IpFragment, fragment_end, range_of, is_covered, is_touched, end_of, assembled}
+use Rattle.ep_defrag.specs.Refusals.{FitInTurn}
+
+-- what `ip_number`, `data`, `sections` and `end` answer
+abbrev pub ip_number_of : IpDefragBuf → IpNumber
+ip_number_of buffer = buffer.ip_number
+
+abbrev pub data_of : IpDefragBuf → List ℕ
+data_of buffer = buffer.bytes.items
+
+abbrev pub sections_of : IpDefragBuf → List IpFragRange
+sections_of buffer = buffer.sections.items
+
+abbrev pub known_end_of : IpDefragBuf → Option ℕ
+known_end_of buffer = buffer.end
+
+-- the buffer shows what it showed before
+pub record IsUnchanged (old new : IpDefragBuf) : Type 0 where
+  pub ip_number : ip_number_of new ≡ ip_number_of old
+  pub contents : data_of new ≡ data_of old
+  pub sections : sections_of new ≡ sections_of old
+  pub end : known_end_of new ≡ known_end_of old
+
+-- Data after a fragment: extended with zeros up to its end, overwritten on its range, and cut to its end where it is final.
+abbrev pub extended : List ℕ → ℕ → List ℕ
+extended contents end = contents ++ replicate (end - length contents) 0
+
+abbrev pub overwritten : List ℕ → ℕ → List ℕ → List ℕ
+overwritten contents start bytes = take start contents ++ bytes ++ drop (start + length bytes) contents
+
+abbrev pub data_with : List ℕ → IpFragRange → Bool → List ℕ → List ℕ
+data_with contents range more bytes =
+    let written = overwritten (extended contents range.end) range.start bytes in
+    if more then written else take range.end written
+
+abbrev pub data_after : List ℕ → IpFragment → List ℕ
+data_after contents fragment = data_with contents (range_of fragment) fragment.more fragment.bytes
+
+-- The known end after a fragment.
+abbrev pub end_after : Option ℕ → IpFragment → Option ℕ
+end_after end fragment = if fragment.more then end else Some (fragment_end fragment)
+
+-- Sections after a range joins them: the union of the range and the sections that merge with it, and the other ones.
+abbrev pub union_of : IpFragRange → List IpFragRange → IpFragRange
+union_of range sections = fold hull range (filter (merges range) sections)
+
+abbrev pub sections_after : IpFragRange → List IpFragRange → List IpFragRange
+sections_after range sections = union_of range sections ∷ filter (λ section. not (merges range section)) sections
+
+-- there is one section, and it starts at 0
+abbrev pub is_whole : List IpFragRange → Bool
+is_whole [] = false
+is_whole (section ∷ []) = section.start == 0
+is_whole (section ∷ other ∷ others) = false
+
+-- The buffer holds the list of fragments that it accepted, in their order.
+pub record HoldsFragments (buffer : IpDefragBuf) (fragments : List IpFragment) : Type 0 where
+  -- each fits after those before it
+  pub in_turn : FitInTurn fragments
+  pub contents : data_of buffer ≡ assembled fragments
+  pub end : known_end_of buffer ≡ end_of fragments
+  -- no section is reversed, and no position touches two of them
+  pub ordered : All (λ section. section.start ≤ section.end) (sections_of buffer)
+  pub apart : (position : ℕ) → count_by (touches position) (sections_of buffer) ≤ 1
+  -- a section has a byte exactly where a fragment has one, and touches a position exactly where a fragment does
+  pub bytes : (position : ℕ) → list_any (has_byte position) (sections_of buffer) ≡ is_covered fragments position
+  pub points : (position : ℕ) → list_any (touches position) (sections_of buffer) ≡ is_touched fragments position

@@ -1,0 +1,27 @@
+-- Ranges of positions in a payload.
+use Rattle.std.specs.Prelude.{ℕ, min, max, Bool, ◌&&◌, ◌||◌, nat_le, nat_lt, IsTrue, if◌then◌else◌, Option, Some, None}
+use Rattle.ep_defrag.specs.declared.ip_frag_range.IpFragRange.{IpFragRange}
+
+-- whether the position is one of the range, from its start on and below its end
+abbrev pub has_byte : ℕ → IpFragRange → Bool
+has_byte position range = nat_le range.start position && nat_lt position range.end
+
+-- the same with the end itself: a position between two bytes, or before or after them all
+abbrev pub touches : ℕ → IpFragRange → Bool
+touches position range = nat_le range.start position && nat_le position range.end
+
+-- whether a start or end of one lies between start and end of the other, these included
+abbrev pub merges : IpFragRange → IpFragRange → Bool
+merges a b = touches b.start a || touches b.end a || touches a.start b || touches a.end b
+
+-- from the least start to the greatest end
+abbrev pub hull : IpFragRange → IpFragRange → IpFragRange
+hull a b = record { start = min a.start b.start; end = max a.end b.end }
+
+-- the two as one range, where they merge
+abbrev pub merge_of : IpFragRange → IpFragRange → Option IpFragRange
+merge_of a b = if merges a b then Some (hull a b) else None
+
+-- some position touches both
+abbrev pub SharePoint : IpFragRange → IpFragRange → Type 0
+SharePoint a b = (position : ℕ) × IsTrue (touches position a) × IsTrue (touches position b)

@@ -1,0 +1,54 @@
+-- When a fragment is accepted after others, and with which error it is refused.
+use Rattle.std.specs.Prelude.{◌≡◌, ℕ, ◌%◌, Bool, true, false, not, ◌&&◌, ◌||◌, ◌==◌, nat_lt, if◌then◌else◌, Option, Some, None, List, [], ◌∷◌, ◌++◌, length}
+use Rattle.ep_defrag.specs.declared.ip_defrag_error.IpDefragError.{IpDefragError}
+use Rattle.ep_defrag.specs.declared.ip_defrag_error.IpDefragError.TheVariants.{UnalignedFragmentPayloadLen, SegmentTooBig, ConflictingEnd, AllocationFailure}
+use Rattle.ep_defrag.specs.Fragments.{IpFragment, is_final, fragment_end, end_of}
+
+-- more fragments follow, and the length is no multiple of 8
+abbrev pub is_unaligned : IpFragment → Bool
+is_unaligned fragment = fragment.more && not (length fragment.bytes % 8 == 0)
+
+-- it ends behind the known end, or is final and ends elsewhere
+abbrev pub conflicts_with : ℕ → IpFragment → Bool
+conflicts_with known_end fragment =
+    nat_lt known_end (fragment_end fragment) || (is_final fragment && not (fragment_end fragment == known_end))
+
+-- the refusal for the known end's sake
+abbrev pub end_refusal : Option ℕ → IpFragment → Option IpDefragError
+end_refusal None fragment = None
+end_refusal (Some known_end) fragment =
+    if conflicts_with known_end fragment then Some (ConflictingEnd known_end (fragment_end fragment)) else None
+
+-- The refusal of a fragment where the end is known or not: it is too long, it is unaligned, its end conflicts, the first
+-- of these that holds. None where it fits.
+abbrev pub refusal_at : Option ℕ → IpFragment → Option IpDefragError
+refusal_at known_end fragment =
+    if nat_lt 65535 (fragment_end fragment) then Some (SegmentTooBig fragment.offset (length fragment.bytes) 65535)
+    else if is_unaligned fragment then Some (UnalignedFragmentPayloadLen fragment.offset (length fragment.bytes))
+    else end_refusal known_end fragment
+
+-- The same after a list of accepted ones.
+abbrev pub refusal_of : List IpFragment → IpFragment → Option IpDefragError
+refusal_of accepted fragment = refusal_at (end_of accepted) fragment
+
+abbrev pub RefusesFragment : List IpFragment → IpFragment → IpDefragError → Type 0
+RefusesFragment accepted fragment error = refusal_of accepted fragment ≡ Some error
+
+abbrev pub Fits : List IpFragment → IpFragment → Type 0
+Fits accepted fragment = refusal_of accepted fragment ≡ None
+
+-- each of the later ones fits after the earlier ones and those before it
+abbrev pub FitAfter : List IpFragment → List IpFragment → Type 0
+FitAfter earlier [] = Unit {0}
+FitAfter earlier (fragment ∷ later) = Fits earlier fragment × FitAfter (earlier ++ fragment ∷ []) later
+
+-- each fragment fits after those before it
+abbrev pub FitInTurn : List IpFragment → Type 0
+FitInTurn fragments = FitAfter [] fragments
+
+-- whether an error is of memory
+abbrev pub is_want_of_memory : IpDefragError → Bool
+is_want_of_memory (UnalignedFragmentPayloadLen offset payload_len) = false
+is_want_of_memory (SegmentTooBig offset payload_len max) = false
+is_want_of_memory (ConflictingEnd previous_end conflicting_end) = false
+is_want_of_memory (AllocationFailure len) = true

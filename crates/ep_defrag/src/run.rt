@@ -1,0 +1,76 @@
+//! A list of fragments, put together in one call.
+
+ghost use Rattle.std.specs.Prelude.{◌≡◌, ◌≢◌, ◌<◌, ℕ, List, [], take, length, IfOk, IfErr, OnOk, OnErr, Err};
+ghost use Rattle.std.specs.List.{All, HoldsAt};
+ghost use Rattle.ep_defrag.specs.declared.ip_defrag_error.IpDefragError.TheVariants as defrag_error;
+ghost use Rattle.ep_defrag.specs.Fragments.{IpFragment};
+ghost use Rattle.ep_defrag.specs.Refusals.{Fits, refusal_of};
+ghost use Rattle.ep_defrag.specs.Buffers.{HoldsFragments, ip_number_of};
+ghost use Rattle.ep_defrag.specs.Runs.{accepted_with, accepted_after, ok_unless, answers_after};
+
+use crate::fragment::Fragment;
+use crate::ip_defrag_buf::IpDefragBuf;
+use crate::ip_defrag_error::IpDefragError;
+use crate::ip_frag_range::IpFragRange;
+use ep_base::IpNumber;
+use std::alloc::{AllocError, Global};
+
+/// A run that stopped for want of memory.
+#[derive(Debug, PartialEq, Eq, Drop)]
+pub struct RunStop {
+    /// The index of the fragment at which it stopped; also 0 where the answers' vector was refused.
+    pub at: usize,
+}
+
+/// Adds fragments in turn to a new buffer, which uses the memory of both vectors, and answers it with the answer to each
+/// fragment.
+pub fn add_all(
+    alloc: Global,
+    ip_number: IpNumber,
+    bytes: Vec<u8>,
+    sections: Vec<IpFragRange>,
+    fragments: &[Fragment],
+) -> Result<(IpDefragBuf, Vec<Result<(), IpDefragError>>), RunStop>
+    ensures holds { IfOk result (λ run. HoldsFragments run.0 (accepted_after [] fragments.now)) }
+    ensures answers { IfOk result (λ run. run.1.items ≡ answers_after [] fragments.now) }
+    ensures ip_number { IfOk result (λ run. ip_number_of run.0 ≡ ip_number) }
+
+    // No answer is one of memory, and a run that stops past the first fragment stops at one that fits.
+    ensures no_memory { IfOk result (λ run. All (λ answer. (len : ℕ) → answer ≢ Err (defrag_error.AllocationFailure len)) run.1.items) }
+    ensures within { IfErr result (λ stop. stop.at < length fragments.now) }
+    ensures stopped { IfErr result (λ stop. 0 < stop.at → HoldsAt (Fits (accepted_after [] (take stop.at fragments.now))) fragments.now stop.at) }
+{
+    let Ok(mut answers) = Vec::with_capacity(alloc, fragments.len()) else {
+        return Err(RunStop { at: 0 });
+    };
+    let mut buffer = IpDefragBuf::new(ip_number, bytes, sections);
+    for (at, fragment) in fragments.iter().enumerate() {
+        let Ok(answer) = answer_next(&mut buffer, fragment) else {
+            return Err(RunStop { at });
+        };
+        answers.push(answer).unwrap();
+    }
+    Ok((buffer, answers))
+}
+
+// The answer to one more fragment, but for an answer of memory.
+fn answer_next(
+    buffer: &mut IpDefragBuf,
+    fragment: &Fragment,
+) -> Result<Result<(), IpDefragError>, AllocError>
+    ensures answer { IfOk result (λ answer. (accepted : List IpFragment) → HoldsFragments buffer.old accepted → answer ≡ ok_unless (refusal_of accepted fragment.now)) }
+    ensures holds { OnOk result ((accepted : List IpFragment) → HoldsFragments buffer.old accepted → HoldsFragments buffer.new (accepted_with accepted fragment.now)) }
+    ensures fits { OnErr result ((accepted : List IpFragment) → HoldsFragments buffer.old accepted → Fits accepted fragment.now) }
+    ensures ip_number { ip_number_of buffer.new ≡ ip_number_of buffer.old }
+{
+    match buffer.add(fragment.offset, fragment.more_fragments, fragment.payload) {
+        Ok(()) => Ok(Ok(())),
+        Err(error) => {
+            if error.is_want_of_memory() {
+                Err(AllocError)
+            } else {
+                Ok(Err(error))
+            }
+        }
+    }
+}

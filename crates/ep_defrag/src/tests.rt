@@ -1,0 +1,390 @@
+//! Worked examples of reassembly, and what no clause says: that calls succeed where there is memory, and what they leave
+//! where there is none (`rt try --test --fail-alloc N` refuses the N-th request).
+
+use crate::{
+    Fragment, IpDefragBuf, IpDefragError, IpFragRange, MAX_IP_DEFRAG_LEN, MAX_IP_DEFRAG_LEN_U16,
+    add_all,
+};
+use ep_base::{IpFragOffset, IpNumber};
+use std::alloc::{AllocError, Global};
+use std::process::Abort;
+use std::test::Fail;
+
+// `len` bytes that begin with `first`, each `step` above the one before, modulo 256.
+#[derive(Clone, Copy)]
+struct Bytes {
+    first: u8,
+    step: u8,
+    len: usize,
+}
+
+const fn rising(first: u8, len: usize) -> Bytes {
+    Bytes {
+        first,
+        step: 1,
+        len,
+    }
+}
+
+const fn zeros(len: usize) -> Bytes {
+    Bytes {
+        first: 0,
+        step: 0,
+        len,
+    }
+}
+
+const fn section(start: u16, end: u16) -> IpFragRange {
+    IpFragRange { start, end }
+}
+
+// A fragment at a position in bytes, and whether the buffer is complete after it.
+#[derive(Clone, Copy)]
+struct Step {
+    at: u16,
+    more_fragments: bool,
+    bytes: Bytes,
+    complete: bool,
+}
+
+const fn more(at: u16, bytes: Bytes, complete: bool) -> Step {
+    Step {
+        at,
+        more_fragments: true,
+        bytes,
+        complete,
+    }
+}
+
+const fn last(at: u16, bytes: Bytes, complete: bool) -> Step {
+    Step {
+        at,
+        more_fragments: false,
+        bytes,
+        complete,
+    }
+}
+
+fn bytes_of(alloc: Global, parts: &[Bytes]) -> Result<Vec<u8>, AllocError> {
+    let mut bytes = Vec::new(alloc);
+    for part in parts {
+        let mut byte = part.first;
+        for _ in 0..part.len {
+            bytes.push(byte)?;
+            byte = byte.wrapping_add(part.step);
+        }
+    }
+    Ok(bytes)
+}
+
+fn new_buffer(alloc: Global) -> IpDefragBuf {
+    IpDefragBuf::new(IpNumber::UDP, Vec::new(alloc), Vec::new(alloc))
+}
+
+// Fragments that are all accepted, and what the buffer shows in the end, its sections in order.
+fn check(
+    rt: &(impl AllocGlobal + Abort),
+    steps: &[Step],
+    shown: &[Bytes],
+    sections: &[IpFragRange],
+    end: Option<u16>,
+) -> Result<(), Fail> {
+    let mut buffer = new_buffer(rt.alloc());
+    for step in steps {
+        let payload = bytes_of(rt.alloc(), &[step.bytes])?;
+        buffer.add(
+            IpFragOffset::try_new(step.at / 8)?,
+            step.more_fragments,
+            payload.as_slice(),
+        )?;
+        assert_eq!(rt; buffer.is_complete(), step.complete, "after {}", step.at);
+    }
+    let bytes = bytes_of(rt.alloc(), shown)?;
+    assert_eq!(rt; buffer.data().as_slice(), bytes.as_slice());
+    let mut in_order = buffer.sections().clone()?;
+    in_order.sort()?;
+    assert_eq!(rt; in_order.as_slice(), sections);
+    assert_eq!(rt; buffer.end(), end);
+    Ok(())
+}
+
+#[test]
+fn accepted_fragments(rt: HostRuntime) -> Result<(), Fail> {
+    check(
+        &rt,
+        &[
+            more(0, rising(0, 16), false),
+            more(16, rising(16, 32), false),
+            last(48, rising(48, 16), true),
+        ],
+        &[rising(0, 64)],
+        &[section(0, 64)],
+        Some(64),
+    )?;
+    check(
+        &rt,
+        &[
+            last(48, rising(48, 16), false),
+            more(16, rising(16, 32), false),
+            more(0, rising(0, 16), true),
+        ],
+        &[rising(0, 64)],
+        &[section(0, 64)],
+        Some(64),
+    )?;
+    check(
+        &rt,
+        &[
+            more(0, rising(0, 16), false),
+            more(32, rising(0, 16), false),
+            last(32, rising(32, 16), false),
+            more(16, rising(16, 16), true),
+        ],
+        &[rising(0, 48)],
+        &[section(0, 48)],
+        Some(48),
+    )?;
+    check(
+        &rt,
+        &[
+            more(0, rising(0, 64), false),
+            last(32, rising(32, 16), true),
+        ],
+        &[rising(0, 48)],
+        &[section(0, 64)],
+        Some(48),
+    )?;
+    check(
+        &rt,
+        &[
+            more(64, rising(64, 64), false),
+            last(0, rising(0, 32), false),
+        ],
+        &[rising(0, 32)],
+        &[section(0, 32), section(64, 128)],
+        Some(32),
+    )?;
+    check(
+        &rt,
+        &[last(0, rising(0, 0), true)],
+        &[],
+        &[section(0, 0)],
+        Some(0),
+    )?;
+    check(
+        &rt,
+        &[more(16, rising(0, 0), false), last(0, rising(0, 8), false)],
+        &[rising(0, 8)],
+        &[section(0, 8), section(16, 16)],
+        Some(8),
+    )?;
+    check(
+        &rt,
+        &[more(8, rising(8, 8), false)],
+        &[zeros(8), rising(8, 8)],
+        &[section(8, 16)],
+        None,
+    )?;
+    check(
+        &rt,
+        &[
+            more(0, rising(0, 8), false),
+            more(16, rising(16, 8), false),
+            more(8, rising(8, 8), false),
+        ],
+        &[rising(0, 24)],
+        &[section(0, 24)],
+        None,
+    )?;
+    check(&rt, &[], &[], &[], None)?;
+    let empty = IpDefragBuf::new(IpNumber::UDP, Vec::new(rt.alloc()), Vec::new(rt.alloc()));
+    assert!(rt; !empty.is_complete());
+    check(
+        &rt,
+        &[
+            more(0, rising(0, 16), false),
+            more(8, rising(100, 16), false),
+            last(24, rising(24, 8), true),
+        ],
+        &[rising(0, 8), rising(100, 16), rising(24, 8)],
+        &[section(0, 32)],
+        Some(32),
+    )?;
+    Ok(())
+}
+
+#[test]
+fn merges(rt: HostRuntime) {
+    let rows = [
+        (section(0, 1), section(1, 2), Some(section(0, 2))),
+        (section(0, 1), section(2, 3), None),
+        (section(3, 7), section(1, 2), None),
+        (section(3, 7), section(1, 8), Some(section(1, 8))),
+        (section(5, 2), section(2, 6), Some(section(2, 6))),
+        (section(5, 2), section(3, 3), None),
+        (section(5, 2), section(5, 2), None),
+    ];
+    for (a, b, merged) in rows {
+        assert_eq!(rt; a.merge(b), merged, "{a:?} {b:?}");
+        assert_eq!(rt; b.merge(a), merged, "{b:?} {a:?}");
+    }
+}
+
+fn check_too_big(
+    rt: &impl Abort,
+    buffer: &mut IpDefragBuf,
+    units: u16,
+    payload: &[u8],
+) -> Result<(), Fail> {
+    let offset = IpFragOffset::try_new(units)?;
+    let error = IpDefragError::SegmentTooBig {
+        offset,
+        payload_len: payload.len(),
+        max: 65535,
+    };
+    assert_eq!(rt; buffer.add(offset, true, payload), Err(error));
+    Ok(())
+}
+
+#[test]
+fn too_big(rt: HostRuntime) -> Result<(), Fail> {
+    let mut buffer = new_buffer(rt.alloc());
+    let longest = bytes_of(rt.alloc(), &[zeros(65536)])?;
+    check_too_big(&rt, &mut buffer, 0, longest.as_slice())?;
+    let long = bytes_of(rt.alloc(), &[zeros(65488)])?;
+    check_too_big(&rt, &mut buffer, 6, long.as_slice())?;
+    let fitting = bytes_of(rt.alloc(), &[zeros(65519)])?;
+    buffer.add(IpFragOffset::try_new(2)?, false, fitting.as_slice())?;
+    assert_eq!(rt; buffer.data().len(), 65535);
+    assert_eq!(rt; MAX_IP_DEFRAG_LEN, 65535);
+    assert_eq!(rt; MAX_IP_DEFRAG_LEN_U16, 65535);
+    Ok(())
+}
+
+#[test]
+fn in_turn(rt: HostRuntime) -> Result<(), Fail> {
+    let bytes = bytes_of(rt.alloc(), &[rising(0, 32)])?;
+    let payload = bytes.as_slice();
+    assert_eq!(rt; payload.len(), 32);
+    let second = IpFragOffset::try_new(2)?;
+    let fragments = [
+        Fragment {
+            offset: IpFragOffset::ZERO,
+            more_fragments: true,
+            payload: &payload[..16],
+        },
+        Fragment {
+            offset: second,
+            more_fragments: true,
+            payload: &payload[16..23],
+        },
+        Fragment {
+            offset: second,
+            more_fragments: false,
+            payload: &payload[16..23],
+        },
+        Fragment {
+            offset: IpFragOffset::try_new(3)?,
+            more_fragments: true,
+            payload: &payload[24..32],
+        },
+    ];
+    let answers = [
+        Ok(()),
+        Err(IpDefragError::UnalignedFragmentPayloadLen {
+            offset: second,
+            payload_len: 7,
+        }),
+        Ok(()),
+        Err(IpDefragError::ConflictingEnd {
+            previous_end: 23,
+            conflicting_end: 32,
+        }),
+    ];
+    let (buffer, answered) = add_all(
+        rt.alloc(),
+        IpNumber::UDP,
+        Vec::new(rt.alloc()),
+        Vec::new(rt.alloc()),
+        &fragments,
+    )?;
+    assert_eq!(rt; answered.as_slice(), answers.as_slice());
+    assert!(rt; buffer.is_complete());
+    let shown = bytes_of(rt.alloc(), &[rising(0, 23)])?;
+    assert_eq!(rt; buffer.data().as_slice(), shown.as_slice());
+    assert_eq!(rt; buffer.sections().as_slice(), [section(0, 23)].as_slice());
+    assert_eq!(rt; buffer.clone()?, buffer);
+    check_used_again(&rt, buffer)
+}
+
+// A buffer that uses another's memory shows none of its bytes.
+fn check_used_again(rt: &(impl AllocGlobal + Abort), used: IpDefragBuf) -> Result<(), Fail> {
+    let (bytes, sections) = used.take_bufs();
+    let mut buffer = IpDefragBuf::new(IpNumber::TCP, bytes, sections);
+    assert_eq!(rt; buffer.ip_number(), IpNumber::TCP);
+    let payload = bytes_of(rt.alloc(), &[rising(8, 8)])?;
+    buffer.add(IpFragOffset::try_new(1)?, true, payload.as_slice())?;
+    let shown = bytes_of(rt.alloc(), &[zeros(8), rising(8, 8)])?;
+    assert_eq!(rt; buffer.data().as_slice(), shown.as_slice());
+    Ok(())
+}
+
+// Adds a fragment, a second time where there was no memory at first: then nothing may have changed.
+fn add_again(
+    rt: &impl Abort,
+    buffer: &mut IpDefragBuf,
+    units: u16,
+    payload: &[u8],
+    shown: (&[u8], &[IpFragRange]),
+) -> Result<(), Fail> {
+    let offset = IpFragOffset::try_new(units)?;
+    let Err(error) = buffer.add(offset, true, payload) else {
+        return Ok(());
+    };
+    let len = usize::from(offset.byte_offset()).saturating_add(payload.len());
+    assert_eq!(rt; error, IpDefragError::AllocationFailure { len });
+    assert_eq!(rt; buffer.data().as_slice(), shown.0);
+    assert_eq!(rt; buffer.sections().as_slice(), shown.1);
+    assert_eq!(rt; buffer.end(), None);
+    buffer.add(offset, true, payload)?;
+    Ok(())
+}
+
+// Takes memory in `add` and `add_all` alone, so that each request of theirs may be refused.
+#[test]
+fn want_of_memory(rt: HostRuntime) -> Result<(), Fail> {
+    let payload = b"abcdefgh";
+    let mut buffer = new_buffer(rt.alloc());
+    add_again(&rt, &mut buffer, 0, payload, (&[], &[]))?;
+    add_again(&rt, &mut buffer, 8, payload, (payload, &[section(0, 8)]))?;
+    assert_eq!(rt; buffer.data().len(), 72);
+    assert_eq!(rt; buffer.sections().len(), 2);
+
+    let fragments = [
+        Fragment {
+            offset: IpFragOffset::ZERO,
+            more_fragments: true,
+            payload,
+        },
+        Fragment {
+            offset: IpFragOffset::try_new(1)?,
+            more_fragments: false,
+            payload,
+        },
+    ];
+    let (empty_bytes, empty_sections) = (Vec::new(rt.alloc()), Vec::new(rt.alloc()));
+    match add_all(
+        rt.alloc(),
+        IpNumber::UDP,
+        empty_bytes,
+        empty_sections,
+        &fragments,
+    ) {
+        Ok((buffer, answers)) => {
+            assert!(rt; buffer.is_complete());
+            assert_eq!(rt; answers.len(), 2);
+        }
+        Err(stop) => assert!(rt; stop.at < 2),
+    }
+    Ok(())
+}

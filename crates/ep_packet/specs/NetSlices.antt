@@ -1,0 +1,17 @@
+-- Which net layer a slice is.
+use Rattle.std.specs.Prelude.{Bool, true, Option, Some}
+use Rattle.ep_ip.specs.declared.ipv4_slice.Ipv4Slice.{Ipv4Slice}
+use Rattle.ep_packet.specs.declared.net_slice.NetSlice.{NetSlice}
+use Rattle.ep_packet.specs.declared.net_slice.NetSlice.TheVariants as slice
+
+-- whether it is IPv4
+abbrev pub is_ipv4_layer : NetSlice → Bool
+is_ipv4_layer (slice.Ipv4 packet) = true
+
+-- whether it is IP, of either version
+abbrev pub is_ip_layer : NetSlice → Bool
+is_ip_layer layer = is_ipv4_layer layer
+
+-- the IPv4 packet, where it is one
+abbrev pub ipv4_in : NetSlice → Option Ipv4Slice
+ipv4_in (slice.Ipv4 packet) = Some packet

@@ -1,0 +1,168 @@
+-- Each input has one output.
+use Rattle.std.proofs.Common.{◌≡◌, ◌≢◌, ◌⊎◌, inl, inr, ℕ, List, [], ◌∷◌, ◌++◌, refl, sym, ap, ◌∙◌, subst, arith, Result, Ok, Err}
+use Rattle.std.specs.Prelude.{codes}
+use Rattle.std.proofs.lemmas.Bool.{cases_eq}
+use Rattle.hex.specs.Hex.{decode_of}
+use Rattle.hex.specs.declared.error.FromHexError.{FromHexError}
+use Rattle.hex.proofs.HexLemmas.{decode_of-ok, decode_of-same}
+use Rattle.frame_bench.specs.Answers.{AreAnswers, IsAnswer, IsAnswered}
+use Rattle.ep_base.specs.Bytes.{AreBytes}
+use Rattle.ep_packet.specs.Decided.{IsExactlyOne}
+use Rattle.ep_packet.specs.Frame.{IsFrame}
+use Rattle.ep_packet.specs.Layers.{Entry, Layers}
+use Rattle.ep_packet.specs.declared.err.slice_error.SliceError.{SliceError}
+use Rattle.ep_packet.specs.Refusals.{RefusesFrame}
+use Rattle.frame_bench.specs.Replies.{IsReply, frame_entry, layers_text, refusal_text}
+use Rattle.frame_bench.specs.Lines.{line_feed, lines_of, space}
+use Rattle.frame_bench.specs.Requests.{Asks, IsHex}
+use Rattle.frame_bench.specs.declared.requests.Entry.TheVariants.{Ethernet}
+use Rattle.frame_bench.specs.declared.requests.Request.{Request}
+use Rattle.frame_bench.specs.declared.requests.Request.TheVariants.{Slice}
+use Rattle.frame_bench.proofs.RequestLemmas.{asked_again}
+
+-- a request has one reply
+pub record IsReplied (request : Request) (bytes : List ℕ) : Type 0 where
+  pub some : (answer : List ℕ) × IsReply request bytes answer
+  pub one : (answer other : List ℕ) → IsReply request bytes answer → IsReply request bytes other → answer ≡ other
+
+-- the reply is the text of the one value or error
+one_reply : (entry : Entry) (bytes : List ℕ) → IsExactlyOne (IsFrame entry bytes) (RefusesFrame entry bytes) → (reply other : List ℕ)
+    → ((layers : Layers) × IsFrame entry bytes layers × (reply ≡ layers_text layers)) ⊎ ((error : SliceError) × RefusesFrame entry bytes error × (reply ≡ refusal_text error))
+    → ((layers : Layers) × IsFrame entry bytes layers × (other ≡ layers_text layers)) ⊎ ((error : SliceError) × RefusesFrame entry bytes error × (other ≡ refusal_text error))
+    → reply ≡ other
+one_reply entry bytes frame reply other (inl x) (inl y) = x.2 ∙ ap layers_text (frame.one_value x.0 y.0 x.1 y.1) ∙ sym y.2
+one_reply entry bytes frame reply other (inl x) (inr y) = absurd (frame.not_both x.0 y.0 x.1 y.1)
+one_reply entry bytes frame reply other (inr x) (inl y) = absurd (frame.not_both y.0 x.0 y.1 x.1)
+one_reply entry bytes frame reply other (inr x) (inr y) = x.2 ∙ ap refusal_text (frame.one_error x.0 y.0 x.1 y.1) ∙ sym y.2
+
+-- bytes that are one frame, or refused with one error, have one reply
+pub IsReplied-frame : (request : Request) (bytes : List ℕ) → ((entry : Entry) → IsExactlyOne (IsFrame entry bytes) (RefusesFrame entry bytes)) → IsReplied request bytes
+IsReplied-frame (Slice entry) bytes decided =
+    let frame = decided (frame_entry entry) in record {
+      some =
+          elim frame.some [
+            | inl layers ↦ (layers_text layers.0, inl (layers.0, layers.1, refl))
+            | inr error ↦ (refusal_text error.0, inr (error.0, error.1, refl))
+          ];
+      one = λ reply other x y. one_reply (frame_entry entry) bytes frame reply other x y;
+    }
+
+-- a text begins with a word or does not
+front_cases : (word text : List ℕ) → ((rest : List ℕ) × (text ≡ word ++ rest)) ⊎ ((rest : List ℕ) → text ≢ word ++ rest)
+front_cases [] text = inl (text, refl)
+front_cases (w ∷ word) [] = inr (λ rest e. cc e)
+front_cases (w ∷ word) (x ∷ text) =
+    elim (cases_eq x w) [
+      | inl same ↦
+          elim (front_cases word text) [
+            | inl found ↦ inl (found.0, rw (same, ← found.1) refl)
+            | inr other ↦ inr (λ rest e. let tail : text ≡ word ++ rest = cc e in other rest tail)
+          ]
+      | inr other ↦ inr (λ rest e. let head : x ≡ w = cc e in other head)
+    ]
+
+-- a text is `-` or not
+dash_cases : (text : List ℕ) → (text ≡ codes "-") ⊎ (text ≢ codes "-")
+dash_cases [] = inr (λ e. cc e)
+dash_cases (x ∷ []) =
+    elim (cases_eq x 45) [
+      | inl same ↦ inl (ap (λ t. t ∷ []) same)
+      | inr other ↦ inr (λ e. let head : x ≡ 45 = cc e in other head)
+    ]
+dash_cases (x ∷ y ∷ text) = inr (λ e. cc e)
+
+-- a text that is not `-` says bytes or does not
+digits_cases : (text : List ℕ) (decoded : Result (List ℕ) FromHexError) → text ≢ codes "-" → decode_of text ≡ decoded
+    → ((bytes : List ℕ) × IsHex text bytes) ⊎ ((bytes : List ℕ) → IsHex text bytes → ⊥)
+digits_cases [] decoded other is = inr (λ bytes. λ h. elim h [ inl dash ↦ other dash.0 | inr digits ↦ absurd (omega (arith, digits.0)) ])
+digits_cases (x ∷ text) (Ok bytes) other is = inl (bytes, inr (omega arith, is))
+digits_cases (x ∷ text) (Err error) other is =
+    inr (λ bytes. λ h. elim h [ inl dash ↦ other dash.0 | inr digits ↦ (cc (digits.1, is)) ])
+
+-- a text says bytes or does not
+hex_cases : (text : List ℕ) → ((bytes : List ℕ) × IsHex text bytes) ⊎ ((bytes : List ℕ) → IsHex text bytes → ⊥)
+hex_cases text =
+    elim (dash_cases text) [
+      | inl dash ↦ inl ([], inl (dash, refl))
+      | inr other ↦ digits_cases text (decode_of text) other refl
+    ]
+
+-- a text says no other bytes
+hex_one : (text a b : List ℕ) → IsHex text a → IsHex text b → a ≡ b
+hex_one text a b (inl x) (inl y) = x.1 ∙ sym y.1
+hex_one text a b (inl x) (inr y) = let odd = rw x.0 at y.1 in cc odd
+hex_one text a b (inr x) (inl y) = let odd = rw y.0 at x.1 in cc odd
+hex_one text a b (inr x) (inr y) = decode_of-same text a b x.1 y.1
+
+-- what a text says are bytes
+hex_bytes : (text bytes : List ℕ) → IsHex text bytes → AreBytes bytes
+hex_bytes text bytes (inl x) = rw x.1 (λ i. omega arith)
+hex_bytes text bytes (inr x) = (decode_of-ok text bytes x.1).3
+
+-- a line that does not begin so asks nothing
+no_ask : (line : List ℕ) → ((rest : List ℕ) → line ≢ (codes "slice" ++ space ∷ codes "eth" ++ space ∷ []) ++ rest)
+    → (request : Request) (bytes : List ℕ) → Asks line request bytes → ⊥
+no_ask line other (Slice Ethernet) bytes asks = other asks.0 asks.1
+
+-- a line asks something or nothing
+ask_cases : (line : List ℕ) → ((request : Request) × (bytes : List ℕ) × Asks line request bytes) ⊎ ((request : Request) (bytes : List ℕ) → Asks line request bytes → ⊥)
+ask_cases line =
+    elim (front_cases (codes "slice" ++ space ∷ codes "eth" ++ space ∷ []) line) [
+      | inl found ↦
+          elim (hex_cases found.0) [
+            | inl said ↦ inl (Slice Ethernet, said.0, (found.0, found.1, said.1))
+            | inr none ↦
+                inr (λ request bytes asks. none bytes (asked_again line (codes "eth" ++ space ∷ found.0) found.0 Ethernet found.1 refl request bytes asks))
+          ]
+      | inr other ↦ inr (no_ask line other)
+    ]
+
+-- what a line asks are bytes
+ask_bytes : (line : List ℕ) (request : Request) (bytes : List ℕ) → Asks line request bytes → AreBytes bytes
+ask_bytes line (Slice Ethernet) bytes asks = hex_bytes asks.0 bytes asks.2
+
+-- a line asks nothing else
+ask_one : (line : List ℕ) (r s : Request) (a b : List ℕ) → Asks line r a → Asks line s b → (r ≡ s) × (a ≡ b)
+ask_one line (Slice Ethernet) (Slice Ethernet) a b x y =
+    (refl, hex_one x.0 a b x.2 (asked_again line (codes "eth" ++ space ∷ x.0) x.0 Ethernet x.1 refl (Slice Ethernet) b y))
+
+module _ (replied : (request : Request) (bytes : List ℕ) → AreBytes bytes → IsReplied request bytes) where
+  -- a line has an answer
+  answer_some : (line : List ℕ) → (answer : List ℕ) × IsAnswer line answer
+  answer_some line =
+      elim (ask_cases line) [
+        | inl asked ↦
+            let reply = (replied asked.0 asked.1 (ask_bytes line asked.0 asked.1 asked.2)).some in
+            (reply.0, inl (asked.0, asked.1, asked.2, reply.1))
+        | inr none ↦ (codes "err line", inr (none, refl))
+      ]
+
+  -- a line has no other answer
+  answer_one : (line a b : List ℕ) → IsAnswer line a → IsAnswer line b → a ≡ b
+  answer_one line a b (inl x) (inl y) =
+      let same = ask_one line x.0 y.0 x.1 y.1 x.2 y.2 in
+      let reply = subst (λ (r : Request). IsReply r x.1 b) (sym same.0) (subst (λ (t : List ℕ). IsReply y.0 t b) (sym same.1) y.3) in
+      (replied x.0 x.1 (ask_bytes line x.0 x.1 x.2)).one a b x.3 reply
+  answer_one line a b (inl x) (inr y) = absurd (y.0 x.0 x.1 x.2)
+  answer_one line a b (inr x) (inl y) = absurd (x.0 y.0 y.1 y.2)
+  answer_one line a b (inr x) (inr y) = x.1 ∙ sym y.1
+
+  -- lines have answers
+  answers_some : (lines : List (List ℕ)) → (text : List ℕ) × AreAnswers lines text
+  answers_some [] = ([], refl)
+  answers_some (line ∷ lines) =
+      let first = answer_some line in
+      let rest = answers_some lines in
+      (first.0 ++ line_feed ∷ rest.0, (first.0, rest.0, first.1, refl, rest.1))
+
+  -- lines have no other answers
+  answers_one : (lines : List (List ℕ)) (a b : List ℕ) → AreAnswers lines a → AreAnswers lines b → a ≡ b
+  answers_one [] a b x y = x ∙ sym y
+  answers_one (line ∷ lines) a b x y =
+      let first = answer_one line x.0 y.0 x.2 y.2 in
+      let rest = answers_one lines x.1 y.1 x.4 y.4 in
+      x.3 ∙ rw (first, rest) (sym y.3)
+
+  -- an input has one output
+  pub answered : (input : List ℕ) → IsAnswered input
+  answered input = record { some = answers_some (lines_of input); one = answers_one (lines_of input) }

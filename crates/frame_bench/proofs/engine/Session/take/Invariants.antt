@@ -1,0 +1,11 @@
+use Rattle.std.proofs.Common.{◌≡◌, ◌++◌, List, ℕ, length}
+use Rattle.frame_bench.specs.Streams.{Advances}
+use Rattle.frame_bench.proofs.engine.Session.take.Given as goal
+
+abbrev pub invariant-lines : goal.invariant-lines
+invariant-lines l =
+    (taken : List ℕ) × (l.fn.piece ≡ taken ++ l.rest)
+    × Advances l.fn.self.line.items taken l.self.output.items l.self.line.items
+
+abbrev pub decreases-lines : goal.decreases-lines
+decreases-lines l = length l.rest

@@ -1,0 +1,68 @@
+use Rattle.std.proofs.Common.{rules, ◌≡◌, Bool, true, false, refl}
+use Rattle.std.proofs.lemmas.Result.{on_err_weaker, on_ok_weaker}
+use Rattle.std.specs.Io.KnownBytes.{Appends}
+use Rattle.frame_bench.specs.WatchedWords.{AppendsFront, inner_of}
+use Rattle.frame_bench.proofs.StreamLemmas.{at_exit, Moves-advanced, Moves-begun, Moves-ended, Moves-ended_front, Moves-part}
+use Rattle.frame_bench.proofs.engine.run.Goals as goal
+
+-- a test that does not hold
+false_from : (b : Bool) → (b ≡ true → ⊥) → b ≡ false
+false_from true refuted = absurd (refuted refl)
+false_from false refuted = refl
+
+pub pieces-preserved : goal.pieces-preserved
+pieces-preserved g c =
+    let remaining = g.R.Read.remaining in
+    let contents = g.W.Write.contents in (
+      Moves-advanced c.pieces.session.line.items c.step.new.session.line.items
+          (remaining (inner_of c.args.reader.now)) (remaining (inner_of c.pieces.reader)) (remaining (inner_of c.step.new.reader))
+          (contents (inner_of c.args.writer.now)) (contents (inner_of c.pieces.writer)) (contents (inner_of c.step.new.writer))
+          c.pieces.invariant.0 c.in_ok-step.ensures.ok,
+      c.in_ok-step.ensures.ok.4.within,
+      false_from c.step.new.reader.failed (λ t. cc (c.in_ok-step.ensures.read.1 t)),
+      false_from c.step.new.writer.failed (λ t. cc (c.in_ok-step.ensures.write.1 t)),
+      search rules,
+      c.in_ok-step.ensures.end,
+    )
+
+pub returns-in_err-step-clause-err : goal.returns-in_err-step-clause-err
+returns-in_err-step-clause-err g c =
+    let remaining = g.R.Read.remaining in
+    let contents = g.W.Write.contents in
+    at_exit c.from_residual-in_err-step.result
+    (Moves-begun c.pieces.session.line.items
+    (remaining (inner_of c.args.reader.now)) (remaining (inner_of c.pieces.reader)) (remaining (inner_of c.step.new.reader))
+    (contents (inner_of c.args.writer.now)) (contents (inner_of c.pieces.writer)) (contents (inner_of c.step.new.writer))
+    c.pieces.invariant.0 c.in_err-step.ensures.err)
+
+pub returns-in_err-finish-clause-err : goal.returns-in_err-finish-clause-err
+returns-in_err-finish-clause-err g c =
+    let remaining = g.R.Read.remaining in
+    let contents = g.W.Write.contents in
+    at_exit c.from_residual-in_err-finish.result
+    (Moves-part c.answers.ensures c.pieces.session.line.items
+    (remaining (inner_of c.args.reader.now)) (remaining (inner_of c.pieces.reader))
+    (contents (inner_of c.args.writer.now)) (contents (inner_of c.pieces.writer))
+    c.pieces.invariant.0)
+
+pub returns-clause-ok : goal.returns-clause-ok
+returns-clause-ok g c =
+    let remaining = g.R.Read.remaining in
+    let contents = g.W.Write.contents in
+    let all = λ (a : Appends (contents (inner_of c.pieces.writer)) (contents (inner_of c.write_all.new.self)) c.as_slice.result.now).
+    Moves-ended c.pieces.session.line.items c.as_slice.result.now
+    (remaining (inner_of c.args.reader.now)) (remaining (inner_of c.pieces.reader))
+    (contents (inner_of c.args.writer.now)) (contents (inner_of c.pieces.writer)) (contents (inner_of c.write_all.new.self))
+    c.pieces.invariant.0 (rw c.as_slice.ensures.value c.in_ok-finish.ensures) a in
+    on_ok_weaker c.write_all.result all c.write_all.ensures.all
+
+pub returns-clause-err : goal.returns-clause-err
+returns-clause-err g c =
+    let remaining = g.R.Read.remaining in
+    let contents = g.W.Write.contents in
+    let front = λ (a : AppendsFront (contents (inner_of c.pieces.writer)) (contents (inner_of c.write_all.new.self)) c.as_slice.result.now).
+    Moves-ended_front c.pieces.session.line.items c.as_slice.result.now
+    (remaining (inner_of c.args.reader.now)) (remaining (inner_of c.pieces.reader))
+    (contents (inner_of c.args.writer.now)) (contents (inner_of c.pieces.writer)) (contents (inner_of c.write_all.new.self))
+    c.pieces.invariant.0 (rw c.as_slice.ensures.value c.in_ok-finish.ensures) a in
+    on_err_weaker c.write_all.result front c.write_all.ensures.front

@@ -1,0 +1,5 @@
+use Rattle.frame_bench.proofs.AnswerLemmas.{IsReplied-frame, answered}
+use Rattle.frame_bench.proofs.laws.answers.Goals as goal
+
+pub returns : goal.returns
+returns c = answered (λ request bytes are. IsReplied-frame request bytes (λ entry. c.frames.ensures entry bytes are))

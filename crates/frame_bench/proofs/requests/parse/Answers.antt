@@ -1,0 +1,10 @@
+use Rattle.std.proofs.Common.{◌≡◌, true}
+use Rattle.frame_bench.proofs.RequestLemmas.{asked_again}
+use Rattle.frame_bench.proofs.requests.parse.Goals as goal
+
+pub returns-else-branch-clause-none : goal.returns-else-branch-clause-none
+returns-else-branch-clause-none c = λ request said asks.
+    let is = asked_again c.args.line.now c.in-Some.rest.now c.in-Some-entry_at.text.now c.in-Some-entry_at.entry
+    c.in-Some.ensures.some c.in-Some-entry_at.ensures.some request said asks in
+    let holds : c.in_ok-decode.field-0 ≡ true = c.in_ok-decode.ensures.only said is in
+    cc (holds, c.if-branch.false)

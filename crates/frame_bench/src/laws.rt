@@ -1,0 +1,11 @@
+//! What holds of every input, each law the contract of a function that does nothing.
+
+ghost use Rattle.std.specs.Prelude.{ℕ, List};
+ghost use Rattle.frame_bench.specs.Answers.{IsAnswered};
+
+/// An input has an output, and one only. It follows from the law of frames.
+pub fn answers()
+    ensures { (input : List ℕ) → IsAnswered input }
+{
+    ep_packet::laws::frames();
+}

@@ -1,0 +1,33 @@
+//! Answers each line of standard input with one line of standard output.
+//!
+//! A line `slice eth HEX` asks for the layers of a frame that begins with an Ethernet II header, where HEX is two
+//! hexadecimal digits for each byte, or `-` for none. The answer is `ok LINK - NET TRANSPORT PAYLOAD`, with `-` for a layer
+//! that is not there, or says why the bytes are no frame. Any other line is answered `err line`.
+#![tactic(auto)]
+
+pub mod engine;
+mod hex_text;
+pub mod laws;
+mod replies;
+mod requests;
+pub mod run_error;
+mod slicing;
+#[cfg(test)]
+mod tests;
+pub mod watched;
+
+use crate::engine::run;
+use crate::watched::Watched;
+use std::process::ExitCode;
+
+fn main(rt: HostRuntime) -> ExitCode {
+    let mut reader = Watched::new(rt.stdin());
+    let mut writer = Watched::new(rt.stdout());
+    match run(rt.alloc(), &mut reader, &mut writer) {
+        Ok(()) => ExitCode::SUCCESS,
+        Err(error) => {
+            let _ = rt.eprintln(error.text());
+            ExitCode::FAILURE
+        }
+    }
+}
