@@ -18,11 +18,11 @@ use std::alloc::AllocError;
 #[derive(Debug, PartialEq, Eq, PartialOrd, Ord, Hash, Drop)]
 pub struct IpDefragBuf {
     ip_number: IpNumber,
-    // The bytes put together so far.
+    /// The bytes put together so far.
     bytes: Vec<u8>,
-    // What is filled of the payload: ranges that don't touch.
+    /// What is filled of the payload: ranges that don't touch.
     sections: Vec<IpFragRange>,
-    // Where the payload ends, once a final fragment came.
+    /// Where the payload ends, once a final fragment came.
     end: Option<u16>,
 }
 
@@ -73,7 +73,7 @@ impl IpDefragBuf {
         &self.sections
     }
 
-    /// Where the payload ends, if a final fragment came.
+    /// Where the payload ends, in bytes, if a final fragment came.
     #[inline]
     pub fn end(&self) -> Option<u16>
         ensures { result ≡ known_end_of self.now }
@@ -164,7 +164,7 @@ impl IpDefragBuf {
         Ok(())
     }
 
-    // Takes a fragment that fits, if there is memory for it.
+    /// Takes a fragment that fits, if there is memory for it.
     fn accept(
         &mut self,
         range: IpFragRange,
@@ -190,14 +190,14 @@ impl IpDefragBuf {
     }
 }
 
-// Whether the end is known, and there is one section, which starts at 0.
+/// Whether the end is known, and there is one section, which starts at 0.
 fn is_whole(end: Option<u16>, sections: &[IpFragRange]) -> bool
     ensures { result ≡ (is_some end && is_whole sections.now) }
 {
     end.is_some() && matches!(sections, [section] if section.start == 0)
 }
 
-// The range that a fragment fills, where it fits a payload whose end is known or not.
+/// The range that a fragment fills, where it fits a payload whose end is known or not.
 fn checked_range(
     known_end: Option<u16>,
     offset: IpFragOffset,
@@ -236,14 +236,14 @@ fn checked_range(
     Ok(IpFragRange { start, end })
 }
 
-// Where a fragment ends, if a payload may be so long.
+/// Where a fragment ends, if a payload may be so long.
 fn end_within_limit(start: u16, payload_len: usize) -> Option<u16>
     ensures { MatchOption result (65535 < start + payload_len) (λ end. (end ≡ start + payload_len) × (end ≤ 65535)) }
 {
     start.checked_add(u16::try_from(payload_len).ok()?)
 }
 
-// Takes the memory that a range needs, and extends the bytes with zeros up to its end.
+/// Takes the memory that a range needs, and extends the bytes with zeros up to its end.
 fn make_room(
     bytes: &mut Vec<u8>,
     sections: &mut Vec<IpFragRange>,
@@ -265,7 +265,7 @@ fn make_room(
     Ok(())
 }
 
-// Puts a fragment's bytes on its range.
+/// Puts a fragment's bytes on its range.
 fn overwrite(bytes: &mut Vec<u8>, range: IpFragRange, payload: &[u8])
     requires len { range.end ≡ range.start + length payload.now }
     requires within { range.end ≤ vec_len bytes.old }
@@ -274,7 +274,7 @@ fn overwrite(bytes: &mut Vec<u8>, range: IpFragRange, payload: &[u8])
     bytes[usize::from(range.start)..usize::from(range.end)].copy_from_slice(payload);
 }
 
-// The range and the sections that merge with it, as one.
+/// The range and the sections that merge with it, as one.
 fn union_of(sections: &[IpFragRange], range: IpFragRange) -> IpFragRange
     ensures { result ≡ union_of range sections.now }
 {
@@ -284,14 +284,14 @@ fn union_of(sections: &[IpFragRange], range: IpFragRange) -> IpFragRange
         .fold(range, |union, section| union.hull(*section))
 }
 
-// Whether a section merges with the range.
+/// Whether a section merges with the range.
 fn any_merging(sections: &[IpFragRange], range: IpFragRange) -> bool
     ensures { result ≡ list_any (merges range) sections.now }
 {
     sections.iter().any(|section| range.merges_with(*section))
 }
 
-// The first section that merges with the range.
+/// The first section that merges with the range.
 fn first_merging(sections: &[IpFragRange], range: IpFragRange) -> Option<usize>
     ensures { result ≡ position (merges range) sections.now }
 {
@@ -300,7 +300,7 @@ fn first_merging(sections: &[IpFragRange], range: IpFragRange) -> Option<usize>
         .position(|section| range.merges_with(*section))
 }
 
-// Leaves the sections that don't merge with the range.
+/// Leaves the sections that don't merge with the range.
 fn remove_merging(sections: &mut Vec<IpFragRange>, range: IpFragRange)
     ensures items { sections.new.items ≡ filter (λ section. not (merges range section)) sections.old.items }
     ensures capacity { vec_capacity sections.new ≡ vec_capacity sections.old }
@@ -308,7 +308,7 @@ fn remove_merging(sections: &mut Vec<IpFragRange>, range: IpFragRange)
     sections.retain(|section| !range.merges_with(*section));
 }
 
-// Lets a range join the sections: the first that merges with it becomes their union, the others that merge go.
+/// Lets a range join the sections: the first that merges with it becomes their union, the others that merge go.
 fn join_section(sections: &mut Vec<IpFragRange>, range: IpFragRange)
     requires { IsFalse (list_any (merges range) sections.old.items) → vec_len sections.old < vec_capacity sections.old }
     ensures { IsPermutation sections.new.items (sections_after range sections.old.items) }

@@ -27,14 +27,14 @@ pub enum IpDefragError {
     },
     /// The fragment ends behind the known end, or is final and ends elsewhere.
     ConflictingEnd {
-        /// The known end.
+        /// The known end, in bytes.
         previous_end: u16,
-        /// The end of the refused fragment.
+        /// The end of the refused fragment, in bytes.
         conflicting_end: u16,
     },
     /// There is no memory for the fragment.
     AllocationFailure {
-        /// The end of the refused fragment: so many bytes the data would have to have.
+        /// The end of the refused fragment, in bytes: what the data would have to hold.
         len: usize,
     },
 }
@@ -42,7 +42,7 @@ pub enum IpDefragError {
 impl IpDefragError {
     ghost use Rattle.ep_defrag.specs.Refusals.{is_want_of_memory};
 
-    // Whether the fragment was refused for want of memory.
+    /// Whether the fragment was refused for want of memory.
     pub(crate) fn is_want_of_memory(&self) -> bool
         ensures { result ≡ is_want_of_memory self.now }
     {

@@ -13,14 +13,14 @@ pub struct IpFragRange {
 }
 
 impl IpFragRange {
-    // Whether the position lies between the start and the end, these included.
+    /// Whether the position lies between the start and the end, these included.
     fn touches(&self, position: u16) -> bool
         ensures { result ≡ touches position self.now }
     {
         self.start <= position && position <= self.end
     }
 
-    // Whether `merge` makes one range of both.
+    /// Whether `merge` makes one range of both.
     pub(crate) fn merges_with(&self, other: IpFragRange) -> bool
         ensures { result ≡ merges self.now other }
     {
@@ -30,7 +30,7 @@ impl IpFragRange {
             || other.touches(self.end)
     }
 
-    // From the least start to the greatest end.
+    /// From the least start to the greatest end.
     pub(crate) fn hull(&self, other: IpFragRange) -> IpFragRange
         ensures { result ≡ hull self.now other }
     {

@@ -20,7 +20,7 @@ pub fn merge_is_union()
         IfSome (merge_of a b) (λ range. (position : ℕ) → touches position range ≡ (touches position a || touches position b)) }
 {}
 
-/// A cut of a payload that may be so long fits after other cuts of it, if it is final or a multiple of 8 bytes long.
+/// A cut of a payload of at most 65535 bytes fits after other cuts of it, if it is final or a multiple of 8 bytes long.
 pub fn cut_fits()
     ensures { (payload : List ℕ) (cuts : List IpFragment) (cut : IpFragment) → length payload ≤ 65535 → All (IsCut payload) cuts → IsCut payload cut
         → IsTrue (is_final cut) ⊎ (length cut.bytes % 8 ≡ 0) → Fits cuts cut }

@@ -23,7 +23,7 @@ pub struct RunStop {
 }
 
 /// Adds fragments in turn to a new buffer, which uses the memory of both vectors, and answers it with the answer to each
-/// fragment.
+/// fragment. `RunStop` comes only for want of memory.
 pub fn add_all(
     alloc: Global,
     ip_number: IpNumber,
@@ -53,7 +53,7 @@ pub fn add_all(
     Ok((buffer, answers))
 }
 
-// The answer to one more fragment, but for an answer of memory.
+/// The answer to one more fragment, but for an answer of memory.
 fn answer_next(
     buffer: &mut IpDefragBuf,
     fragment: &Fragment,

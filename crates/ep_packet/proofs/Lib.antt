@@ -1,2 +1,3 @@
+pub mod FrameBytesLemmas
 pub mod FrameLemmas
 pub mod WalkLemmas

@@ -3,3 +3,4 @@ pub mod Frame
 pub mod Refusals
 pub mod Decided
 pub mod NetSlices
+pub mod FrameBytes

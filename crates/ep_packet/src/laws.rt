@@ -3,8 +3,9 @@
 ghost use Rattle.std.specs.Prelude.{ℕ, List};
 ghost use Rattle.ep_base.specs.Bytes.{AreBytes};
 ghost use Rattle.ep_packet.specs.Decided.{IsExactlyOne};
-ghost use Rattle.ep_packet.specs.Layers.{Entry};
+ghost use Rattle.ep_packet.specs.Layers.{Entry, Layers};
 ghost use Rattle.ep_packet.specs.Frame.{IsFrame};
+ghost use Rattle.ep_packet.specs.FrameBytes.{AreInOrder};
 ghost use Rattle.ep_packet.specs.Refusals.{RefusesFrame};
 
 /// Bytes are a frame, of one list of layers, or are refused with one error, and never both. It follows from the laws of the
@@ -16,3 +17,8 @@ pub fn frames()
     ep_ip::laws::ipv4();
     ep_transport::laws::udp();
 }
+
+/// The bytes of a frame are its headers from the outside in, the payload of its last layer, and what the cuts left.
+pub fn frame_bytes()
+    ensures { (entry : Entry) (bytes : List ℕ) (layers : Layers) → IsFrame entry bytes layers → AreInOrder bytes layers }
+{}

@@ -7,7 +7,7 @@ use Rattle.frame_bench.specs.WatchedWords.{inner_of}
 use Rattle.frame_bench.specs.declared.watched.Watched.{Watched}
 
 -- A reader that had some bytes left has others left now, and a writer that held some bytes holds others now: what was
--- read and what was written are so related. Of a reader or a writer that doesn't tell its bytes, any may have moved.
+-- read and what was written are so related. Of a reader or a writer that does not tell its bytes, any may have moved.
 abbrev pub Moves : (List ℕ → List ℕ → Type 0) → Option (List ℕ) → Option (List ℕ) → Option (List ℕ) → Option (List ℕ) → Type 0
 Moves Related had has held holds =
     (read written : List ℕ) × Consumes had has read × Appends held holds written × Related read written
