@@ -1,11 +1,11 @@
 -- Lists of bytes that are the same list in two ways.
-use Rattle.std.proofs.Common.{◌≡◌, ℕ, ◌+◌, ◌^◌, ◌<◌, List, [], ◌∷◌, ◌++◌, get_or, refl, length, take, drop, sym, ap, subst, ◌∙◌, inl, inr, arith}
+use Rattle.std.proofs.Common.{◌≡◌, ℕ, zero, suc, ◌+◌, ◌-◌, ◌^◌, ◌<◌, ◌≤◌, ◌==◌, Bool, true, false, List, [], ◌∷◌, ◌++◌, get_or, refl, length, take, drop, sym, ap, subst, ◌∙◌, inl, inr, arith}
 use Rattle.std.proofs.lemmas.Bool.{cases_lt}
-use Rattle.std.proofs.lemmas.List.{get_or-take, get_or-drop, get_or_past, length-take}
+use Rattle.std.proofs.lemmas.List.{get_or-take, get_or-drop, get_or_past, length-take, length-drop, drop_more, drop_at, take_all}
 use Rattle.std.specs.Int.{w16, to_be_bytes, from_be_bytes}
 use Rattle.std.proofs.lemmas.Nat.{from_be_bytes-to_be_bytes_2}
 use Rattle.std.proofs.Math.Seq.{take-append_seam, drop-append_seam}
-use Rattle.ep_base.specs.Bytes.{AreBytes}
+use Rattle.ep_base.specs.Bytes.{AreBytes, bit}
 
 -- fronts of one length are one front, and what follows is one rest
 pub same_parts : (a b x y : List ℕ) → length a ≡ length b → a ++ x ≡ b ++ y → (a ≡ b) × (x ≡ y)
@@ -13,6 +13,25 @@ same_parts a b x y len same = (
   sym (take-append_seam a x) ∙ ap (take (length a)) same ∙ ap (λ (n : ℕ). take n (b ++ y)) len ∙ take-append_seam b y,
   sym (drop-append_seam a x) ∙ ap (drop (length a)) same ∙ ap (λ (n : ℕ). drop n (b ++ y)) len ∙ drop-append_seam b y,
 )
+
+-- what stands behind a front
+pub rest_of : (bytes front rest : List ℕ) (n : ℕ) → bytes ≡ front ++ rest → n ≡ length front → take (length bytes - n) (drop n bytes) ≡ rest
+rest_of bytes front rest n parts len =
+    take_all (length bytes - n) (drop n bytes) (omega (arith, length-drop n bytes)) ∙ ap (drop n) parts ∙ drop_at front rest n (sym len)
+
+-- n elements from i on
+unfoldable pub elements : ℕ → ℕ → List ℕ → List ℕ
+elements zero i bytes = []
+elements (suc n) i bytes = get_or bytes i 0 ∷ elements n (i + 1) bytes
+
+-- what stands from i on is n elements, and what stands behind them
+pub drop-elements : (n i : ℕ) (bytes : List ℕ) → i + n ≤ length bytes → drop i bytes ≡ elements n i bytes ++ drop (i + n) bytes
+unfolding elements
+drop-elements zero i bytes within = ap (λ (k : ℕ). drop k bytes) (omega arith)
+drop-elements (suc n) i bytes within =
+    drop_more bytes i 0 (omega arith)
+    ∙ ap (λ (s : List ℕ). get_or bytes i 0 ∷ s) (drop-elements n (i + 1) bytes (omega arith))
+    ∙ ap (λ (k : ℕ). elements (suc n) i bytes ++ drop k bytes) (omega arith)
 
 -- a front of bytes is bytes
 pub AreBytes-take : (n : ℕ) (bytes : List ℕ) → AreBytes bytes → AreBytes (take n bytes)
@@ -53,3 +72,19 @@ AreBytes-back a b fits = subst AreBytes (drop-append_seam a b) (AreBytes-drop (l
 pub AreBytes-payload : (bytes front payload left : List ℕ) → AreBytes bytes → bytes ≡ (front ++ payload) ++ left → AreBytes payload
 AreBytes-payload bytes front payload left fits parts =
     AreBytes-back front payload (AreBytes-front (front ++ payload) left (subst AreBytes parts fits))
+
+-- a flag is 0 or 1
+pub bit_le : (flag : Bool) → bit flag ≤ 1
+bit_le true = omega arith
+bit_le false = omega arith
+
+-- a bit that is a flag is read as the flag
+pub bit_read : (n : ℕ) (flag : Bool) → n ≡ bit flag → (n == 1) ≡ flag
+bit_read n true e = rw e refl
+bit_read n false e = rw e refl
+
+-- a bit is read as a flag, which is this bit
+pub bit_of_read : (n : ℕ) → n < 2 → bit (n == 1) ≡ n
+bit_of_read zero below = refl
+bit_of_read (suc zero) below = refl
+bit_of_read (suc (suc n)) below = absurd (omega arith)

@@ -3,28 +3,15 @@ use Rattle.std.proofs.Common.{◌≡◌, ℕ, zero, suc, ◌+◌, ◌-◌, ◌*�
 use Rattle.std.proofs.Common.{◌⊎◌, slice_index}
 use Rattle.std.proofs.lemmas.Grind.{common_steps}
 use Rattle.std.proofs.lemmas.Bool.{cases_lt, cases_eq}
-use Rattle.std.proofs.lemmas.List.{get_or-take, get_or_append_left, length-take, length-drop, length-append, take-append-drop, append_assoc, drop_more, take_all, take_at, drop_at, drop-drop}
-use Rattle.ep_base.specs.Bytes.{AreBytes, word_at}
-use Rattle.ep_base.proofs.BytesLemmas.{same_parts, AreBytes-take, AreBytes-drop}
+use Rattle.std.proofs.lemmas.List.{get_or-take, get_or_append_left, length-take, length-drop, length-append, take-append-drop, append_assoc, take_all, take_at, drop-drop}
+use Rattle.ep_base.specs.Bytes.{AreBytes, word_at, bit}
+use Rattle.ep_base.proofs.BytesLemmas.{same_parts, elements, drop-elements, AreBytes-take, AreBytes-drop, bit_le, bit_read, bit_of_read}
 use Rattle.ep_base.specs.declared.err.ipv4.HeaderSliceError.{HeaderSliceError}
 use Rattle.ep_base.specs.declared.err.ipv4.SliceError.{SliceError}
 use Rattle.ep_ip.specs.declared.ipv4_header.Ipv4Header.{Ipv4Header}
-use Rattle.ep_ip.specs.Ipv4.{FitsIpv4, EncodesIpv4, IsIpv4Header, IsIpv4, BeginsIpv4, RefusesIpv4Header, RefusesIpv4, of_header_error, bit, ipv4_bytes_with, ipv4_header_of, version_of, ihl_of, four_at}
+use Rattle.ep_ip.specs.Ipv4.{FitsIpv4, EncodesIpv4, IsIpv4Header, IsIpv4, BeginsIpv4, RefusesIpv4Header, RefusesIpv4, of_header_error, ipv4_bytes_with, ipv4_header_of, version_of, ihl_of, four_at}
 
 -- ---- lists of known lengths
-
--- n elements from i on
-elements : ℕ → ℕ → List ℕ → List ℕ
-elements zero i bytes = []
-elements (suc n) i bytes = get_or bytes i 0 ∷ elements n (i + 1) bytes
-
-drop-elements : (n i : ℕ) (bytes : List ℕ) → i + n ≤ length bytes → drop i bytes ≡ elements n i bytes ++ drop (i + n) bytes
-unfolding elements
-drop-elements zero i bytes within = ap (λ (k : ℕ). drop k bytes) (omega arith)
-drop-elements (suc n) i bytes within =
-    drop_more bytes i 0 (omega arith)
-    ∙ ap (λ (s : List ℕ). get_or bytes i 0 ∷ s) (drop-elements n (i + 1) bytes (omega arith))
-    ∙ ap (λ (k : ℕ). elements (suc n) i bytes ++ drop k bytes) (omega arith)
 
 -- a list of four is its elements
 four_elements : (xs : List ℕ) → length xs ≡ 4 → four_at xs 0 ≡ xs
@@ -43,21 +30,6 @@ AreBytes-four_at bytes i fits (suc (suc (suc zero))) = fits (i + 3)
 AreBytes-four_at bytes i fits (suc (suc (suc (suc n)))) = omega arith
 
 -- ---- the bytes of a header are read as this header
-
-bit_le : (flag : Bool) → bit flag ≤ 1
-bit_le true = omega arith
-bit_le false = omega arith
-
--- a bit that is a flag is read as the flag
-bit_read : (n : ℕ) (flag : Bool) → n ≡ bit flag → (n == 1) ≡ flag
-bit_read n true e = rw e refl
-bit_read n false e = rw e refl
-
--- a bit is read as a flag, which is this bit
-bit_of_read : (n : ℕ) → n < 2 → bit (n == 1) ≡ n
-bit_of_read zero below = refl
-bit_of_read (suc zero) below = refl
-bit_of_read (suc (suc n)) below = absurd (omega arith)
 
 -- the bytes are a whole header: as long as their first byte says, and at least 20
 pub record IsWhole (bytes : List ℕ) : Type 0 where
@@ -215,11 +187,6 @@ begins_whole bytes n a size =
       words = omega (arith, a.words, first);
       whole = omega (arith, a.whole, first, length-take n bytes);
     }
-
--- what stands behind a front
-pub rest_of : (bytes front rest : List ℕ) (n : ℕ) → bytes ≡ front ++ rest → n ≡ length front → take (length bytes - n) (drop n bytes) ≡ rest
-rest_of bytes front rest n parts len =
-    take_all (length bytes - n) (drop n bytes) (omega (arith, length-drop n bytes)) ∙ ap (drop n) parts ∙ drop_at front rest n (sym len)
 
 -- ---- headers and packets, read from their bytes
 

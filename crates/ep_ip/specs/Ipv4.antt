@@ -1,7 +1,7 @@
 -- IPv4 (RFC 791, section 3.1).
 use Rattle.std.specs.Prelude.{◌≡◌, ℕ, ◌+◌, ◌-◌, ◌*◌, ◌/◌, ◌%◌, ◌^◌, ◌<◌, ◌≤◌, ◌⊎◌, ◌==◌, Bool, true, false, nat_lt, ◌||◌, List, [], ◌∷◌, ◌++◌, length, take, drop, slice_index}
 use Rattle.std.specs.Int.{w16, to_be_bytes}
-use Rattle.ep_base.specs.Bytes.{AreBytes, word_at}
+use Rattle.ep_base.specs.Bytes.{AreBytes, word_at, bit}
 use Rattle.ep_base.specs.Checksum.{checksum_of}
 use Rattle.ep_base.specs.Layer.{len_error}
 use Rattle.ep_base.specs.declared.err.layer.Layer.TheVariants as layer
@@ -31,11 +31,6 @@ pub record FitsIpv4 (header : Ipv4Header) : Type 0 where
   pub options_len : length header.options ≤ 40
   pub options_words : length header.options % 4 ≡ 0
   pub options : AreBytes header.options
-
--- a flag as a bit
-abbrev pub bit : Bool → ℕ
-bit false = 0
-bit true = 1
 
 -- the number of bytes of a header
 abbrev pub ipv4_header_len : Ipv4Header → ℕ

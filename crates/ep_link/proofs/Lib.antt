@@ -1,1 +1,6 @@
+pub mod ArpLemmas
 pub mod Ethernet2Lemmas
+pub mod LinuxSllLemmas
+pub mod MacsecLemmas
+pub mod MacsecReads
+pub mod VlanLemmas

@@ -1,3 +1,14 @@
 pub mod Ethernet2
 pub mod Ethernet2Slices
+pub mod LinuxSll
+pub mod LinuxSllSlices
+pub mod Vlan
+pub mod VlanSlices
+pub mod Macsec
+pub mod MacsecSlices
+pub mod Arp
+pub mod ArpAddresses
+pub mod ArpSlices
+pub mod EtherPayloads
 pub mod LinkSlices
+pub mod LinkExtensions

@@ -1,18 +1,77 @@
 -- Which link layer a slice shows.
-use Rattle.std.specs.Prelude.{ℕ, List}
+use Rattle.std.specs.Prelude.{ℕ, List, Option, Some, None, option_map}
 use Rattle.ep_base.specs.declared.ether_type.EtherType.{EtherType}
 use Rattle.ep_base.specs.declared.len_source.LenSource.{LenSource}
+use Rattle.ep_base.specs.declared.len_source.LenSource.TheVariants as source
 use Rattle.ep_link.specs.declared.ethernet2_header.Ethernet2Header.{Ethernet2Header}
+use Rattle.ep_link.specs.declared.linux_sll_header.LinuxSllHeader.{LinuxSllHeader}
+use Rattle.ep_link.specs.declared.linux_sll_protocol_type.LinuxSllProtocolType.{LinuxSllProtocolType}
+use Rattle.ep_link.specs.declared.link_header.LinkHeader.{LinkHeader}
+use Rattle.ep_link.specs.declared.link_header.LinkHeader.TheVariants as header
 use Rattle.ep_link.specs.declared.link_slice.LinkSlice.{LinkSlice}
 use Rattle.ep_link.specs.declared.link_slice.LinkSlice.TheVariants as slice
+use Rattle.ep_link.specs.Ethernet2.{ethernet2_bytes}
 use Rattle.ep_link.specs.Ethernet2Slices.{ethernet2_slice_header, ethernet2_slice_payload}
+use Rattle.ep_link.specs.EtherPayloads.{EtherPayload}
+use Rattle.ep_link.specs.LinuxSll.{linux_sll_bytes, protocol_ether_type}
+use Rattle.ep_link.specs.LinuxSllSlices.{linux_sll_slice_header, linux_sll_slice_payload}
 
 -- a link layer: its header, where it has one, and its payload
 pub data LinkLayer : Type 0 where
   ethernet2 : Ethernet2Header → List ℕ → LinkLayer
+  linux_sll : LinuxSllHeader → List ℕ → LinkLayer
   ether_payload : EtherType → LenSource → List ℕ → LinkLayer
+  linux_sll_payload : LinuxSllProtocolType → List ℕ → LinkLayer
 
 -- the link layer that a slice shows
 abbrev pub link_layer_of : LinkSlice → LinkLayer
 link_layer_of (slice.Ethernet2 frame) = ethernet2 (ethernet2_slice_header frame) (ethernet2_slice_payload frame)
+link_layer_of (slice.LinuxSll frame) = linux_sll (linux_sll_slice_header frame) (linux_sll_slice_payload frame)
 link_layer_of (slice.EtherPayload payload) = ether_payload payload.ether_type payload.len_source payload.payload.now
+link_layer_of (slice.LinuxSllPayload payload) = linux_sll_payload payload.protocol_type payload.payload.now
+
+-- its header, where it has one
+abbrev pub link_header_of : LinkLayer → Option LinkHeader
+link_header_of (ethernet2 ethernet payload) = Some (header.Ethernet2 ethernet)
+link_header_of (linux_sll sll payload) = Some (header.LinuxSll sll)
+link_header_of (ether_payload type source payload) = None
+link_header_of (linux_sll_payload protocol payload) = None
+
+-- its payload
+abbrev pub link_layer_payload : LinkLayer → List ℕ
+link_layer_payload (ethernet2 ethernet payload) = payload
+link_layer_payload (linux_sll sll payload) = payload
+link_layer_payload (ether_payload type source payload) = payload
+link_layer_payload (linux_sll_payload protocol payload) = payload
+
+-- the bytes of a link header
+abbrev pub link_bytes : LinkHeader → List ℕ
+link_bytes (header.Ethernet2 ethernet) = ethernet2_bytes ethernet
+link_bytes (header.LinuxSll sll) = linux_sll_bytes sll
+
+-- the number of bytes of a link header
+abbrev pub link_header_len : LinkHeader → ℕ
+link_header_len (header.Ethernet2 ethernet) = 14
+link_header_len (header.LinuxSll sll) = 16
+
+-- a payload of this type, whose end nothing but the end of the bytes sets
+abbrev pub whole_ether_payload : List ℕ → EtherType → EtherPayload
+whole_ether_payload payload type = record { ether_type = type; len_source = source.Slice; bytes = payload }
+
+-- the payload of a Linux cooked capture, where its protocol is an ether type
+abbrev pub protocol_payload : LinuxSllProtocolType → List ℕ → Option EtherPayload
+protocol_payload protocol payload = option_map (whole_ether_payload payload) (protocol_ether_type protocol)
+
+-- the payload of a link layer, where it has an ether type
+abbrev pub link_ether_payload : LinkLayer → Option EtherPayload
+link_ether_payload (ethernet2 ethernet payload) = Some (whole_ether_payload payload ethernet.ether_type)
+link_ether_payload (linux_sll sll payload) = protocol_payload sll.protocol_type payload
+link_ether_payload (ether_payload type source payload) = Some (record { ether_type = type; len_source = source; bytes = payload })
+link_ether_payload (linux_sll_payload protocol payload) = protocol_payload protocol payload
+
+-- the number of bytes of a link layer's header, where it has one
+abbrev pub link_layer_header_len : LinkLayer → ℕ
+link_layer_header_len (ethernet2 ethernet payload) = 14
+link_layer_header_len (linux_sll sll payload) = 16
+link_layer_header_len (ether_payload type source payload) = 0
+link_layer_header_len (linux_sll_payload protocol payload) = 0

@@ -1,6 +1,6 @@
 //! The header of Ethernet II (IEEE 802.3, clause 3).
 
-ghost use Rattle.std.specs.Prelude.{◌≡◌, ◌++◌, [], IfOk, IfErr, OnOk, OnErr, IsOkAnd, List, ℕ};
+ghost use Rattle.std.specs.Prelude.{◌≡◌, length, ◌++◌, [], IfOk, IfErr, OnOk, OnErr, IsOkAnd, List, ℕ};
 ghost use Rattle.ep_link.specs.Ethernet2.{ethernet2_bytes, IsEthernet2, RefusesEthernet2};
 
 use crate::ethernet2_slice::Ethernet2Slice;
@@ -38,7 +38,8 @@ impl Ethernet2Header {
     /// The number of bytes of the header: 14.
     #[inline]
     pub fn header_len(&self) -> usize
-        ensures { result ≡ 14 }
+        ensures value { result ≡ 14 }
+        ensures bytes { result ≡ length (ethernet2_bytes self.now) }
     {
         Ethernet2Header::LEN
     }

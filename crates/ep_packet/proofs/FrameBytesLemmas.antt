@@ -1,112 +1,202 @@
 -- That a frame's bytes are its headers, its payload, and what the cuts left.
-use Rattle.std.proofs.Common.{◌≡◌, ℕ, List, [], ◌++◌, Option, Some, None, refl, sym, ap, subst, ◌∙◌, append_assoc}
+use Rattle.std.proofs.Common.{◌≡◌, ℕ, zero, suc, List, [], ◌∷◌, ◌++◌, Option, Some, None, refl, sym, ap, subst, ◌∙◌, append_assoc}
 use Rattle.std.proofs.lemmas.List.{append-nil}
 use Rattle.ep_base.specs.declared.ether_type.EtherType.{EtherType}
 use Rattle.ep_base.specs.declared.len_source.LenSource.TheVariants as source
+use Rattle.ep_link.specs.Arp.{arp_bytes}
 use Rattle.ep_link.specs.Ethernet2.{ethernet2_bytes}
-use Rattle.ep_link.specs.LinkSlices.{LinkLayer, ethernet2 as link_header, ether_payload}
+use Rattle.ep_link.specs.LinkExtensions.{LinkExtension, vlan, macsec, IsLinkExtension, extension_type, extension_payload}
+use Rattle.ep_link.specs.LinkSlices.{LinkLayer, ethernet2, linux_sll as sll, ether_payload}
+use Rattle.ep_link.specs.LinuxSll.{linux_sll_bytes, protocol_ether_type}
+use Rattle.ep_link.specs.Vlan.{vlan_bytes}
+use Rattle.ep_ip.specs.declared.ipv4_header.Ipv4Header.{Ipv4Header}
 use Rattle.ep_ip.specs.IpPayload.{IpPayload}
+use Rattle.ep_ip.specs.Ipv4.{EncodesIpv4}
 use Rattle.ep_transport.specs.Udp.{udp_bytes}
 use Rattle.ep_transport.specs.TransportSlices.{TransportLayer, udp}
-use Rattle.ep_packet.specs.Layers.{Entry, ethernet, ether_type, NetLayer, ipv4, Layers}
-use Rattle.ep_packet.specs.Frame.{IsTransportPart, IsNetPart, IsFrame}
-use Rattle.ep_packet.specs.FrameBytes.{EncodesLink, EncodesNet, EncodesTransport, last_payload, AreInOrder}
+use Rattle.ep_packet.specs.Layers.{Entry, ethernet, linux_sll, ether_type, NetLayer, ipv4, arp, Layers}
+use Rattle.ep_packet.specs.Frame.{IsTransportPart, IsNetPart, IsInside, most_link_exts, IsFrame}
+use Rattle.ep_packet.specs.FrameBytes.{EncodesLink, EncodesTag, EncodesTags, EncodesNet, EncodesTransport, link_payload, payload_behind, inner_payload, AreInOrder}
 
+-- a header, a payload and what is left, grouped from the back
 regroup : (bytes header payload left : List ℕ) → bytes ≡ (header ++ payload) ++ left → bytes ≡ header ++ (payload ++ left)
 regroup bytes header payload left parts = parts ∙ append_assoc header payload left
 
--- the payload of the last layer in an IP payload
-abbrev inner_payload : IpPayload → Option TransportLayer → List ℕ
-inner_payload ip None = ip.bytes
-inner_payload ip (Some (udp header payload)) = payload
+-- ---- the transport layer
 
-transport_bytes : (ip : IpPayload) (t : Option TransportLayer) → IsTransportPart ip t
-    → (header left : List ℕ) × EncodesTransport t header × (ip.bytes ≡ header ++ (inner_payload ip t ++ left))
-transport_bytes ip None part = ([], [], refl, sym (append-nil ip.bytes))
-transport_bytes ip (Some (udp header payload)) part =
-    (udp_bytes header, part.1.0, refl, regroup ip.bytes (udp_bytes header) payload part.1.0 part.1.1.parts)
-
--- the payload of the last layer in bytes of a type
-abbrev net_inner : List ℕ → Option NetLayer → Option TransportLayer → List ℕ
-net_inner bytes None t = bytes
-net_inner bytes (Some (ipv4 header payload)) t = inner_payload payload t
-
-record NetBytes (bytes : List ℕ) (n : Option NetLayer) (t : Option TransportLayer) : Type 0 where
-  net : List ℕ
-  transport : List ℕ
+-- the bytes of a transport layer, in the bytes of an IP payload
+record TransportBytes (bytes : List ℕ) (transport : Option TransportLayer) : Type 0 where
+  header : List ℕ
   left : List ℕ
-  net_is : EncodesNet n net
-  transport_is : EncodesTransport t transport
-  parts : bytes ≡ net ++ (transport ++ (net_inner bytes n t ++ left))
+  encodes : EncodesTransport transport header
+  parts : bytes ≡ header ++ (inner_payload bytes None transport ++ left)
 
-net_bytes : (type : EtherType) (bytes : List ℕ) (n : Option NetLayer) (t : Option TransportLayer) → IsNetPart type bytes n t → NetBytes bytes n t
-net_bytes type bytes None t part = record {
-  net = [];
-  transport = [];
+-- an IP payload begins with its transport layer's header, where it has one
+transport_bytes : (ip : IpPayload) (transport : Option TransportLayer) → IsTransportPart ip transport → TransportBytes ip.bytes transport
+transport_bytes ip None part = record { header = []; left = []; encodes = refl; parts = sym (append-nil ip.bytes) }
+transport_bytes ip (Some (udp header payload)) part = record {
+  header = udp_bytes header;
+  left = part.1.0;
+  encodes = (part.1.1.fits, refl);
+  parts = regroup ip.bytes (udp_bytes header) payload part.1.0 part.1.1.parts;
+}
+
+-- ---- the net layer
+
+-- the bytes of a net layer and of the transport layer in it
+record NetBytes (bytes : List ℕ) (net : Option NetLayer) (transport : Option TransportLayer) : Type 0 where
+  net_header : List ℕ
+  transport_header : List ℕ
+  left : List ℕ
+  net_encodes : EncodesNet net net_header
+  transport_encodes : EncodesTransport transport transport_header
+  parts : bytes ≡ net_header ++ (transport_header ++ (inner_payload bytes net transport ++ left))
+
+-- bytes of no layer
+no_net_bytes : (bytes : List ℕ) → NetBytes bytes None None
+no_net_bytes bytes = record {
+  net_header = [];
+  transport_header = [];
   left = [];
-  net_is = refl;
-  transport_is = subst (λ (x : Option TransportLayer). EncodesTransport x []) (sym part.1) refl;
+  net_encodes = refl;
+  transport_encodes = refl;
   parts = sym (append-nil bytes);
 }
-net_bytes type bytes (Some (ipv4 header payload)) t part =
-    let inside = transport_bytes payload t part.3 in
+
+-- the payload in an IPv4 packet is that of its transport layer, where it has one
+ipv4_inner : (bytes : List ℕ) (header : Ipv4Header) (ip : IpPayload) (transport : Option TransportLayer)
+    → inner_payload ip.bytes None transport ≡ inner_payload bytes (Some (ipv4 header ip)) transport
+ipv4_inner bytes header ip None = refl
+ipv4_inner bytes header ip (Some (udp tag payload)) = refl
+
+-- the bytes of an IPv4 packet, from those of its payload
+ipv4_bytes : (bytes encoded left : List ℕ) (header : Ipv4Header) (ip : IpPayload) (transport : Option TransportLayer) → EncodesIpv4 encoded header
+    → bytes ≡ (encoded ++ ip.bytes) ++ left → TransportBytes ip.bytes transport → NetBytes bytes (Some (ipv4 header ip)) transport
+ipv4_bytes bytes encoded left header ip transport encodes parts inside = record {
+  net_header = encoded;
+  transport_header = inside.header;
+  left = inside.left ++ left;
+  net_encodes = encodes;
+  transport_encodes = inside.encodes;
+  parts = regroup bytes encoded ip.bytes left parts
+      ∙ ap (λ (x : List ℕ). encoded ++ (x ++ left)) inside.parts
+      ∙ ap (λ (x : List ℕ). encoded ++ x) (simp append_assoc)
+      ∙ ap (λ (x : List ℕ). encoded ++ (inside.header ++ (x ++ (inside.left ++ left)))) (ipv4_inner bytes header ip transport);
+}
+
+-- bytes of a type begin with their net layer's header, where they have one
+net_bytes : (type : EtherType) (bytes : List ℕ) (net : Option NetLayer) (transport : Option TransportLayer) → IsNetPart type bytes net transport → NetBytes bytes net transport
+net_bytes type bytes None transport part = subst (NetBytes bytes None) (sym part.1) (no_net_bytes bytes)
+net_bytes type bytes (Some (ipv4 header ip)) transport part =
     let whole = part.1.1 in
-    record {
-      net = whole.encoded;
-      transport = inside.0;
-      left = inside.1 ++ part.1.0;
-      net_is = whole.encodes;
-      transport_is = inside.2;
-      parts = regroup bytes whole.encoded payload.bytes part.1.0 whole.parts
-          ∙ ap (λ (x : List ℕ). whole.encoded ++ (x ++ part.1.0)) inside.3
-          ∙ ap (λ (x : List ℕ). whole.encoded ++ x) (simp append_assoc);
-    }
+    ipv4_bytes bytes whole.encoded part.1.0 header ip transport whole.encodes whole.parts (transport_bytes ip transport part.3)
+net_bytes type bytes (Some (arp packet)) transport part = subst (NetBytes bytes (Some (arp packet))) (sym part.2) (record {
+  net_header = arp_bytes packet;
+  transport_header = [];
+  left = part.1.0;
+  net_encodes = (part.1.1.fits, refl);
+  transport_encodes = refl;
+  parts = part.1.1.parts;
+})
 
--- the payload of the last layer, where the link layer's is these bytes
-last_of_inner : (link : LinkLayer) (bytes : List ℕ) (n : Option NetLayer) (t : Option TransportLayer) → last_payload (Some link) None None ≡ bytes
-    → (n ≡ None → t ≡ None) → last_payload (Some link) n t ≡ net_inner bytes n t
-last_of_inner link bytes None None own alone = own
-last_of_inner link bytes None (Some (udp header payload)) own alone = absurd (let none = alone refl in cc)
-last_of_inner link bytes (Some (ipv4 header payload)) None own alone = refl
-last_of_inner link bytes (Some (ipv4 header payload)) (Some (udp h p)) own alone = refl
+-- ---- the link extensions
 
-transport_alone : (type : EtherType) (bytes : List ℕ) (n : Option NetLayer) (t : Option TransportLayer) → IsNetPart type bytes n t → n ≡ None → t ≡ None
-transport_alone type bytes None t part none = part.1
-transport_alone type bytes (Some (ipv4 header payload)) t part none = absurd cc
+-- the bytes of link extensions, of the net layer and of the transport layer
+record InsideBytes (bytes : List ℕ) (extensions : List LinkExtension) (net : Option NetLayer) (transport : Option TransportLayer) : Type 0 where
+  tags : List ℕ
+  net_header : List ℕ
+  transport_header : List ℕ
+  left : List ℕ
+  tags_encode : EncodesTags extensions tags
+  net_encodes : EncodesNet net net_header
+  transport_encodes : EncodesTransport transport transport_header
+  parts : bytes ≡ tags ++ (net_header ++ (transport_header ++ (inner_payload (payload_behind bytes extensions) net transport ++ left)))
 
+-- a net layer before which no extensions stand
+bare_bytes : (bytes : List ℕ) (net : Option NetLayer) (transport : Option TransportLayer) → NetBytes bytes net transport → InsideBytes bytes [] net transport
+bare_bytes bytes net transport inside = record {
+  tags = [];
+  net_header = inside.net_header;
+  transport_header = inside.transport_header;
+  left = inside.left;
+  tags_encode = refl;
+  net_encodes = inside.net_encodes;
+  transport_encodes = inside.transport_encodes;
+  parts = inside.parts;
+}
+
+-- the bytes of a tag before its payload
+record TagBytes (bytes : List ℕ) (extension : LinkExtension) : Type 0 where
+  tag : List ℕ
+  left : List ℕ
+  encodes : EncodesTag extension tag
+  parts : bytes ≡ (tag ++ extension_payload extension) ++ left
+
+-- an extension begins with its tag
+tag_bytes : (type : EtherType) (bytes : List ℕ) (extension : LinkExtension) (left : List ℕ) → IsLinkExtension type bytes extension left → TagBytes bytes extension
+tag_bytes type bytes (vlan header payload) left is = record { tag = vlan_bytes header; left = left; encodes = (is.1.fits, refl); parts = is.1.parts }
+tag_bytes type bytes (macsec header payload) left is = record { tag = is.1.encoded; left = left; encodes = is.1.encodes; parts = is.1.parts }
+
+-- the tag before what its payload holds
+tagged_bytes : (bytes : List ℕ) (extension : LinkExtension) (others : List LinkExtension) (net : Option NetLayer) (transport : Option TransportLayer) → TagBytes bytes extension
+    → InsideBytes (extension_payload extension) others net transport → InsideBytes bytes (extension ∷ others) net transport
+tagged_bytes bytes extension others net transport front inside = record {
+  tags = front.tag ++ inside.tags;
+  net_header = inside.net_header;
+  transport_header = inside.transport_header;
+  left = inside.left ++ front.left;
+  tags_encode = (front.tag, inside.tags, front.encodes, inside.tags_encode, refl);
+  net_encodes = inside.net_encodes;
+  transport_encodes = inside.transport_encodes;
+  parts = regroup bytes front.tag (extension_payload extension) front.left front.parts
+      ∙ ap (λ (x : List ℕ). front.tag ++ (x ++ front.left)) inside.parts
+      ∙ simp append_assoc;
+}
+
+-- the bytes of what bytes of a type hold
+inside_bytes : (room : ℕ) (type : Option EtherType) (bytes : List ℕ) (extensions : List LinkExtension) (net : Option NetLayer) (transport : Option TransportLayer)
+    → IsInside room type bytes extensions net transport → InsideBytes bytes extensions net transport
+inside_bytes room None bytes extensions net transport part =
+    subst (λ (x : List LinkExtension). InsideBytes bytes x net transport) (sym part.0)
+    (subst (λ (x : Option NetLayer). InsideBytes bytes [] x transport) (sym part.1)
+    (subst (InsideBytes bytes [] None) (sym part.2) (bare_bytes bytes None None (no_net_bytes bytes))))
+inside_bytes zero (Some type) bytes [] net transport part = bare_bytes bytes net transport (net_bytes type bytes net transport part)
+inside_bytes zero (Some type) bytes (extension ∷ others) net transport part = absurd part
+inside_bytes (suc room) (Some type) bytes [] net transport part = bare_bytes bytes net transport (net_bytes type bytes net transport part.1)
+inside_bytes (suc room) (Some type) bytes (extension ∷ others) net transport part =
+    tagged_bytes bytes extension others net transport (tag_bytes type bytes extension part.0.0 part.0.1)
+    (inside_bytes room (extension_type extension) (extension_payload extension) others net transport part.1)
+
+-- ---- the frame
+
+-- the bytes of a link header and of what its payload holds
+frame_bytes : (bytes header left : List ℕ) (link : LinkLayer) (layers : Layers) → EncodesLink (Some link) header → bytes ≡ (header ++ link_payload (Some link)) ++ left
+    → layers.link ≡ Some link → InsideBytes (link_payload (Some link)) layers.link_exts layers.net layers.transport → AreInOrder bytes layers
+frame_bytes bytes header left link layers encodes parts same inside = record {
+  link = header;
+  tags = inside.tags;
+  net = inside.net_header;
+  transport = inside.transport_header;
+  left = inside.left ++ left;
+  link_header = subst (λ (x : Option LinkLayer). EncodesLink x header) (sym same) encodes;
+  tag_headers = inside.tags_encode;
+  net_header = inside.net_encodes;
+  transport_header = inside.transport_encodes;
+  parts = regroup bytes header (link_payload (Some link)) left parts
+      ∙ ap (λ (x : List ℕ). header ++ (x ++ left)) inside.parts
+      ∙ ap (λ (x : List ℕ). header ++ x) (simp append_assoc)
+      ∙ ap (λ (x : Option LinkLayer). header ++ (inside.tags ++ (inside.net_header ++ (inside.transport_header
+      ++ (inner_payload (payload_behind (link_payload x) layers.link_exts) layers.net layers.transport ++ (inside.left ++ left)))))) (sym same);
+}
+
+-- a frame's bytes are its headers from the outside in, the last payload, and what the cuts left
 pub frame_in_order : (entry : Entry) (bytes : List ℕ) (layers : Layers) → IsFrame entry bytes layers → AreInOrder bytes layers
 frame_in_order ethernet bytes layers frame =
-    let header = frame.0 in
-    let payload = frame.1 in
-    let inside = net_bytes header.ether_type payload layers.net layers.transport frame.5 in
-    let last : last_payload layers.link layers.net layers.transport ≡ net_inner payload layers.net layers.transport =
-    ap (λ (l : Option LinkLayer). last_payload l layers.net layers.transport) frame.4
-    ∙ last_of_inner (link_header header payload) payload layers.net layers.transport refl (transport_alone header.ether_type payload layers.net layers.transport frame.5) in
-    record {
-      link = ethernet2_bytes header;
-      net = inside.net;
-      transport = inside.transport;
-      left = inside.left ++ frame.2;
-      link_header = subst (λ (l : Option LinkLayer). EncodesLink l (ethernet2_bytes header)) (sym frame.4) refl;
-      net_header = inside.net_is;
-      transport_header = inside.transport_is;
-      parts = regroup bytes (ethernet2_bytes header) payload frame.2 frame.3.parts
-          ∙ ap (λ (x : List ℕ). ethernet2_bytes header ++ (x ++ frame.2)) inside.parts
-          ∙ ap (λ (x : List ℕ). ethernet2_bytes header ++ x) (simp append_assoc)
-          ∙ ap (λ (x : List ℕ). ethernet2_bytes header ++ (inside.net ++ (inside.transport ++ (x ++ (inside.left ++ frame.2))))) (sym last);
-    }
+    frame_bytes bytes (ethernet2_bytes frame.0) frame.2 (ethernet2 frame.0 frame.1) layers (frame.3.fits, refl) frame.3.parts frame.4
+    (inside_bytes most_link_exts (Some frame.0.ether_type) frame.1 layers.link_exts layers.net layers.transport frame.5)
+frame_in_order linux_sll bytes layers frame =
+    frame_bytes bytes (linux_sll_bytes frame.0) frame.2 (sll frame.0 frame.1) layers (frame.3.fits, refl) frame.3.parts frame.4
+    (inside_bytes most_link_exts (protocol_ether_type frame.0.protocol_type) frame.1 layers.link_exts layers.net layers.transport frame.5)
 frame_in_order (ether_type type) bytes layers frame =
-    let inside = net_bytes type bytes layers.net layers.transport frame.1 in
-    let last : last_payload layers.link layers.net layers.transport ≡ net_inner bytes layers.net layers.transport =
-    ap (λ (l : Option LinkLayer). last_payload l layers.net layers.transport) frame.0
-    ∙ last_of_inner (ether_payload type source.Slice bytes) bytes layers.net layers.transport refl (transport_alone type bytes layers.net layers.transport frame.1) in
-    record {
-      link = [];
-      net = inside.net;
-      transport = inside.transport;
-      left = inside.left;
-      link_header = subst (λ (l : Option LinkLayer). EncodesLink l []) (sym frame.0) refl;
-      net_header = inside.net_is;
-      transport_header = inside.transport_is;
-      parts = inside.parts ∙ ap (λ (x : List ℕ). inside.net ++ (inside.transport ++ (x ++ inside.left))) (sym last);
-    }
+    frame_bytes bytes [] [] (ether_payload type source.Slice bytes) layers refl (sym (append-nil bytes)) frame.0
+    (inside_bytes most_link_exts (Some type) bytes layers.link_exts layers.net layers.transport frame.1)

@@ -1,3 +1,11 @@
+pub mod DecidedLemmas
+pub mod Deciders
+pub mod ExtensionLemmas
 pub mod FrameBytesLemmas
 pub mod FrameLemmas
+pub mod InsideLemmas
+pub mod InsideWalkLemmas
+pub mod NetLemmas
 pub mod WalkLemmas
+pub mod TagLemmas
+pub mod PayloadLemmas

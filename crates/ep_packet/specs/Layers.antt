@@ -1,8 +1,11 @@
 -- The layers of a frame, as plain data, and which of them a sliced packet shows.
-use Rattle.std.specs.Prelude.{Option, Bool, false}
-use Rattle.std.specs.Option.{option_map, option_map_or}
+use Rattle.std.specs.Prelude.{List, map, Option, Some, None, Bool, false}
+use Rattle.std.specs.Option.{option_map, option_and_then, option_map_or}
 use Rattle.ep_base.specs.declared.ether_type.EtherType.{EtherType}
+use Rattle.ep_link.specs.Arp.{Arp}
+use Rattle.ep_link.specs.ArpSlices.{arp_slice_packet}
 use Rattle.ep_link.specs.LinkSlices.{LinkLayer, link_layer_of}
+use Rattle.ep_link.specs.LinkExtensions.{LinkExtension, link_extension_of}
 use Rattle.ep_ip.specs.declared.ipv4_header.Ipv4Header.{Ipv4Header}
 use Rattle.ep_ip.specs.IpPayload.{IpPayload, ipv4_payload}
 use Rattle.ep_ip.specs.Ipv4Slices.{ipv4_slice_header, ipv4_slice_payload}
@@ -11,18 +14,22 @@ use Rattle.ep_packet.specs.declared.net_slice.NetSlice.{NetSlice}
 use Rattle.ep_packet.specs.declared.net_slice.NetSlice.TheVariants as slice
 use Rattle.ep_packet.specs.declared.sliced_packet.SlicedPacket.{SlicedPacket}
 
--- what stands at the front of the bytes: an Ethernet II header, or the payload of a link layer with its type
+-- what stands at the front of the bytes: an Ethernet II header, the header of a Linux cooked capture, or the payload of a
+-- link layer with its type
 pub data Entry : Type 0 where
   ethernet : Entry
+  linux_sll : Entry
   ether_type : EtherType → Entry
 
--- a net layer: its header and its payload
+-- a net layer: its header and its payload, or an ARP packet
 pub data NetLayer : Type 0 where
   ipv4 : Ipv4Header → IpPayload → NetLayer
+  arp : Arp → NetLayer
 
 -- the layers of a frame, each where it stands
 pub record Layers : Type 0 where
   pub link : Option LinkLayer
+  pub link_exts : List LinkExtension
   pub net : Option NetLayer
   pub transport : Option TransportLayer
 
@@ -30,22 +37,25 @@ pub record Layers : Type 0 where
 abbrev pub net_layer_of : NetSlice → NetLayer
 net_layer_of (slice.Ipv4 packet) =
     ipv4 (ipv4_slice_header packet) (ipv4_payload (ipv4_slice_header packet) (ipv4_slice_payload packet))
+net_layer_of (slice.Arp packet) = arp (arp_slice_packet packet)
 
 -- the layers that a sliced packet shows
 abbrev pub layers_of : SlicedPacket → Layers
 layers_of packet = record {
   link = option_map link_layer_of packet.link;
+  link_exts = map link_extension_of packet.link_exts.items;
   net = option_map net_layer_of packet.net;
   transport = option_map transport_layer_of packet.transport;
 }
 
--- the payload of a net layer
-abbrev pub net_payload : NetLayer → IpPayload
-net_payload (ipv4 header payload) = payload
+-- the payload of a net layer, where it is IP
+abbrev pub net_payload : NetLayer → Option IpPayload
+net_payload (ipv4 header payload) = Some payload
+net_payload (arp packet) = None
 
 -- the payload of the IP packet, where the net layer is one
 abbrev pub ip_payload_in : Layers → Option IpPayload
-ip_payload_in layers = option_map net_payload layers.net
+ip_payload_in layers = option_and_then net_payload layers.net
 
 -- whether that payload is a fragment of a longer one
 abbrev pub carries_fragment : Layers → Bool

@@ -4,3 +4,5 @@ pub mod Refusals
 pub mod Decided
 pub mod NetSlices
 pub mod FrameBytes
+pub mod Payloads
+pub mod VlanTags

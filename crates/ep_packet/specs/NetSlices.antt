@@ -1,5 +1,6 @@
 -- Which net layer a slice is.
-use Rattle.std.specs.Prelude.{Bool, true, Option, Some}
+use Rattle.std.specs.Prelude.{Bool, true, false, Option, Some, None}
+use Rattle.ep_link.specs.declared.arp_packet_slice.ArpPacketSlice.{ArpPacketSlice}
 use Rattle.ep_ip.specs.declared.ipv4_slice.Ipv4Slice.{Ipv4Slice}
 use Rattle.ep_packet.specs.declared.net_slice.NetSlice.{NetSlice}
 use Rattle.ep_packet.specs.declared.net_slice.NetSlice.TheVariants as slice
@@ -7,11 +8,23 @@ use Rattle.ep_packet.specs.declared.net_slice.NetSlice.TheVariants as slice
 -- whether it is IPv4
 abbrev pub is_ipv4_layer : NetSlice → Bool
 is_ipv4_layer (slice.Ipv4 packet) = true
+is_ipv4_layer (slice.Arp packet) = false
 
 -- whether it is IP, of either version
 abbrev pub is_ip_layer : NetSlice → Bool
 is_ip_layer layer = is_ipv4_layer layer
 
+-- whether it is ARP
+abbrev pub is_arp_layer : NetSlice → Bool
+is_arp_layer (slice.Ipv4 packet) = false
+is_arp_layer (slice.Arp packet) = true
+
 -- the IPv4 packet, where it is one
 abbrev pub ipv4_in : NetSlice → Option Ipv4Slice
 ipv4_in (slice.Ipv4 packet) = Some packet
+ipv4_in (slice.Arp packet) = None
+
+-- the ARP packet, where it is one
+abbrev pub arp_in : NetSlice → Option ArpPacketSlice
+arp_in (slice.Ipv4 packet) = None
+arp_in (slice.Arp packet) = Some packet

@@ -2,5 +2,5 @@
 
 mod slice_error;
 
-pub use ep_base::err::{ip_auth, ipv4};
+pub use ep_base::err::{ip_auth, ipv4, linux_sll, macsec};
 pub use slice_error::SliceError;

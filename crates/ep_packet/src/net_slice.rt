@@ -2,23 +2,26 @@
 
 use ep_base::IpPayloadSlice;
 use ep_ip::Ipv4Slice;
+use ep_link::ArpPacketSlice;
 
 /// The net layer of a sliced packet.
 #[derive(Clone, Debug, PartialEq, Eq, Drop)]
 pub enum NetSlice<'a> {
     /// An IPv4 packet.
     Ipv4(Ipv4Slice<'a>),
+    /// An ARP packet.
+    Arp(ArpPacketSlice<'a>),
 }
 
-/// The net layer, under the name that it had in older versions.
+/// [`NetSlice`], under its older name in the Rust crate.
 pub type InternetSlice<'a> = NetSlice<'a>;
 
 impl<'a> NetSlice<'a> {
-    ghost use Rattle.std.specs.Prelude.{◌≡◌, Some};
+    ghost use Rattle.std.specs.Prelude.{◌≡◌};
     ghost use Rattle.std.specs.Option.{option_copied, option_map};
     ghost use Rattle.ep_ip.specs.IpPayload.{ip_payload_of};
     ghost use Rattle.ep_packet.specs.Layers.{net_layer_of, net_payload};
-    ghost use Rattle.ep_packet.specs.NetSlices.{is_ip_layer, is_ipv4_layer, ipv4_in};
+    ghost use Rattle.ep_packet.specs.NetSlices.{is_ip_layer, is_ipv4_layer, is_arp_layer, ipv4_in, arp_in};
 
     /// Whether the layer is IP, of either version.
     #[inline]
@@ -36,6 +39,14 @@ impl<'a> NetSlice<'a> {
         matches!(self, NetSlice::Ipv4(_))
     }
 
+    /// Whether the layer is ARP.
+    #[inline]
+    pub fn is_arp(&self) -> bool
+        ensures { result ≡ is_arp_layer self.now }
+    {
+        matches!(self, NetSlice::Arp(_))
+    }
+
     /// The IPv4 packet, if the layer is one.
     #[inline]
     pub fn ipv4_ref(&self) -> Option<&Ipv4Slice<'a>>
@@ -43,16 +54,29 @@ impl<'a> NetSlice<'a> {
     {
         match self {
             NetSlice::Ipv4(packet) => Some(packet),
+            NetSlice::Arp(_) => None,
+        }
+    }
+
+    /// The ARP packet, if the layer is one.
+    #[inline]
+    pub fn arp_ref(&self) -> Option<&ArpPacketSlice<'a>>
+        ensures { option_copied result ≡ arp_in self.now }
+    {
+        match self {
+            NetSlice::Ipv4(_) => None,
+            NetSlice::Arp(packet) => Some(packet),
         }
     }
 
     /// The payload of the IP packet, if the layer is one.
     #[inline]
     pub fn ip_payload_ref(&self) -> Option<&IpPayloadSlice<'a>>
-        ensures { option_map ip_payload_of (option_copied result) ≡ Some (net_payload (net_layer_of self.now)) }
+        ensures { option_map ip_payload_of (option_copied result) ≡ net_payload (net_layer_of self.now) }
     {
         match self {
             NetSlice::Ipv4(packet) => Some(packet.payload()),
+            NetSlice::Arp(_) => None,
         }
     }
 }

@@ -2,10 +2,12 @@
 
 use super::*;
 use crate::err::SliceError;
-use ep_base::err::{LenError, ipv4};
+use ep_base::err::{LenError, ipv4, linux_sll, macsec};
 use ep_link::Ethernet2Header;
 use ep_transport::UdpHeader;
 use std::test::Fail;
+
+mod link_layers;
 
 /// An Ethernet II frame with the UDP payload 1 to 8 (192.168.1.1, port 21 to 192.168.1.2, port 1234).
 const FRAME: [u8; 50] = [
@@ -79,6 +81,16 @@ fn texts(rt: HostRuntime) -> Result<(), Fail> {
         (
             SliceError::Ipv4(ipv4::HeaderError::UnexpectedVersion { version_number: 5 }),
             "UnexpectedVersion 5",
+        ),
+        (
+            SliceError::LinuxSll(linux_sll::HeaderError::UnsupportedPacketTypeField {
+                packet_type: 8,
+            }),
+            "UnsupportedPacketTypeField 8",
+        ),
+        (
+            SliceError::Macsec(macsec::HeaderError::UnexpectedVersion),
+            "UnexpectedVersion",
         ),
     ];
     for (error, text) in texts {

@@ -9,13 +9,14 @@ use Rattle.frame_bench.specs.Answers.{AreAnswers, IsAnswer, IsAnswered}
 use Rattle.ep_base.specs.Bytes.{AreBytes}
 use Rattle.ep_packet.specs.Decided.{IsExactlyOne}
 use Rattle.ep_packet.specs.Frame.{IsFrame}
-use Rattle.ep_packet.specs.Layers.{Entry, Layers}
+use Rattle.ep_packet.specs.Layers.{Entry as FrameEntry, Layers}
 use Rattle.ep_packet.specs.declared.err.slice_error.SliceError.{SliceError}
 use Rattle.ep_packet.specs.Refusals.{RefusesFrame}
 use Rattle.frame_bench.specs.Replies.{IsReply, frame_entry, layers_text, refusal_text}
 use Rattle.frame_bench.specs.Lines.{line_feed, lines_of, space}
-use Rattle.frame_bench.specs.Requests.{Asks, IsHex}
-use Rattle.frame_bench.specs.declared.requests.Entry.TheVariants.{Ethernet}
+use Rattle.frame_bench.specs.Requests.{Asks, IsHex, entry_word}
+use Rattle.frame_bench.specs.declared.requests.Entry.{Entry}
+use Rattle.frame_bench.specs.declared.requests.Entry.TheVariants.{Ethernet, LinuxSll}
 use Rattle.frame_bench.specs.declared.requests.Request.{Request}
 use Rattle.frame_bench.specs.declared.requests.Request.TheVariants.{Slice}
 use Rattle.frame_bench.proofs.RequestLemmas.{asked_again}
@@ -26,7 +27,7 @@ pub record IsReplied (request : Request) (bytes : List ℕ) : Type 0 where
   pub one : (answer other : List ℕ) → IsReply request bytes answer → IsReply request bytes other → answer ≡ other
 
 -- the reply is the text of the one value or error
-one_reply : (entry : Entry) (bytes : List ℕ) → IsExactlyOne (IsFrame entry bytes) (RefusesFrame entry bytes) → (reply other : List ℕ)
+one_reply : (entry : FrameEntry) (bytes : List ℕ) → IsExactlyOne (IsFrame entry bytes) (RefusesFrame entry bytes) → (reply other : List ℕ)
     → ((layers : Layers) × IsFrame entry bytes layers × (reply ≡ layers_text layers)) ⊎ ((error : SliceError) × RefusesFrame entry bytes error × (reply ≡ refusal_text error))
     → ((layers : Layers) × IsFrame entry bytes layers × (other ≡ layers_text layers)) ⊎ ((error : SliceError) × RefusesFrame entry bytes error × (other ≡ refusal_text error))
     → reply ≡ other
@@ -36,7 +37,7 @@ one_reply entry bytes frame reply other (inr x) (inl y) = absurd (frame.not_both
 one_reply entry bytes frame reply other (inr x) (inr y) = x.2 ∙ ap refusal_text (frame.one_error x.0 y.0 x.1 y.1) ∙ sym y.2
 
 -- bytes that are one frame, or refused with one error, have one reply
-pub IsReplied-frame : (request : Request) (bytes : List ℕ) → ((entry : Entry) → IsExactlyOne (IsFrame entry bytes) (RefusesFrame entry bytes)) → IsReplied request bytes
+pub IsReplied-frame : (request : Request) (bytes : List ℕ) → ((entry : FrameEntry) → IsExactlyOne (IsFrame entry bytes) (RefusesFrame entry bytes)) → IsReplied request bytes
 IsReplied-frame (Slice entry) bytes decided =
     let frame = decided (frame_entry entry) in record {
       some =
@@ -99,32 +100,55 @@ hex_bytes : (text bytes : List ℕ) → IsHex text bytes → AreBytes bytes
 hex_bytes text bytes (inl x) = rw x.1 (λ i. omega arith)
 hex_bytes text bytes (inr x) = (decode_of-ok text bytes x.1).3
 
--- a line that does not begin so asks nothing
-no_ask : (line : List ℕ) → ((rest : List ℕ) → line ≢ (codes "slice" ++ space ∷ codes "eth" ++ space ∷ []) ++ rest)
+-- what a line that asks about this entry begins with
+abbrev slice_front : Entry → List ℕ
+slice_front entry = codes "slice" ++ space ∷ (entry_word entry ++ space ∷ [])
+
+-- the front of such a line, and what follows it
+front_of : (line rest : List ℕ) (entry : Entry) → line ≡ codes "slice" ++ space ∷ (entry_word entry ++ space ∷ rest) → line ≡ slice_front entry ++ rest
+front_of line rest Ethernet parts = parts
+front_of line rest LinuxSll parts = parts
+
+-- a line that begins with no entry's words asks nothing
+no_ask : (line : List ℕ) → ((entry : Entry) (rest : List ℕ) → line ≢ slice_front entry ++ rest)
     → (request : Request) (bytes : List ℕ) → Asks line request bytes → ⊥
-no_ask line other (Slice Ethernet) bytes asks = other asks.0 asks.1
+no_ask line other (Slice entry) bytes asks = other entry asks.0 (front_of line asks.0 entry asks.1)
+
+-- a line that begins with an entry's words asks something or nothing
+ask_behind : (line rest : List ℕ) (entry : Entry) → line ≡ codes "slice" ++ space ∷ (entry_word entry ++ space ∷ rest)
+    → ((request : Request) × (bytes : List ℕ) × Asks line request bytes) ⊎ ((request : Request) (bytes : List ℕ) → Asks line request bytes → ⊥)
+ask_behind line rest entry parts =
+    elim (hex_cases rest) [
+      | inl said ↦ inl (Slice entry, said.0, (rest, parts, said.1))
+      | inr none ↦ inr (λ request bytes asks. none bytes (asked_again line (entry_word entry ++ space ∷ rest) rest entry parts refl request bytes asks).1)
+    ]
+
+-- and with no entry's words, where it begins with neither
+no_entry : (line : List ℕ) → ((rest : List ℕ) → line ≢ slice_front Ethernet ++ rest) → ((rest : List ℕ) → line ≢ slice_front LinuxSll ++ rest)
+    → (entry : Entry) (rest : List ℕ) → line ≢ slice_front entry ++ rest
+no_entry line no_ethernet no_linux_sll Ethernet = no_ethernet
+no_entry line no_ethernet no_linux_sll LinuxSll = no_linux_sll
 
 -- a line asks something or nothing
 ask_cases : (line : List ℕ) → ((request : Request) × (bytes : List ℕ) × Asks line request bytes) ⊎ ((request : Request) (bytes : List ℕ) → Asks line request bytes → ⊥)
 ask_cases line =
-    elim (front_cases (codes "slice" ++ space ∷ codes "eth" ++ space ∷ []) line) [
-      | inl found ↦
-          elim (hex_cases found.0) [
-            | inl said ↦ inl (Slice Ethernet, said.0, (found.0, found.1, said.1))
-            | inr none ↦
-                inr (λ request bytes asks. none bytes (asked_again line (codes "eth" ++ space ∷ found.0) found.0 Ethernet found.1 refl request bytes asks))
-          ]
-      | inr other ↦ inr (no_ask line other)
+    elim (front_cases (slice_front Ethernet) line) [
+      | inl found ↦ ask_behind line found.0 Ethernet found.1
+      | inr no_ethernet ↦ elim (front_cases (slice_front LinuxSll) line) [
+        | inl found ↦ ask_behind line found.0 LinuxSll found.1
+        | inr no_linux_sll ↦ inr (no_ask line (λ entry. no_entry line no_ethernet no_linux_sll entry))
+      ]
     ]
 
 -- what a line asks are bytes
 ask_bytes : (line : List ℕ) (request : Request) (bytes : List ℕ) → Asks line request bytes → AreBytes bytes
-ask_bytes line (Slice Ethernet) bytes asks = hex_bytes asks.0 bytes asks.2
+ask_bytes line (Slice entry) bytes asks = hex_bytes asks.0 bytes asks.2
 
 -- a line asks nothing else
 ask_one : (line : List ℕ) (r s : Request) (a b : List ℕ) → Asks line r a → Asks line s b → (r ≡ s) × (a ≡ b)
-ask_one line (Slice Ethernet) (Slice Ethernet) a b x y =
-    (refl, hex_one x.0 a b x.2 (asked_again line (codes "eth" ++ space ∷ x.0) x.0 Ethernet x.1 refl (Slice Ethernet) b y))
+ask_one line (Slice entry) s a b x y =
+    let again = asked_again line (entry_word entry ++ space ∷ x.0) x.0 entry x.1 refl s b y in
+    (again.0, hex_one x.0 a b x.2 again.1)
 
 module _ (replied : (request : Request) (bytes : List ℕ) → AreBytes bytes → IsReplied request bytes) where
   -- a line has an answer

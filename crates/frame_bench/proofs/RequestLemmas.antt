@@ -1,12 +1,12 @@
 -- The words at the front of a line.
-use Rattle.std.proofs.Common.{◌≡◌, ◌≢◌, ℕ, List, [], ◌∷◌, ◌++◌, Option, Some, None, ap, ◌∙◌, sym, Bor}
+use Rattle.std.proofs.Common.{◌≡◌, ◌≢◌, ℕ, List, [], ◌∷◌, ◌++◌, Option, Some, None, get_or, refl, ap, ◌∙◌, sym, arith, Bor}
 use Rattle.std.specs.Prelude.{IfSome, IfNone, MatchOption}
 use Rattle.std.proofs.lemmas.List.{append_cancel_left}
 use Rattle.std.specs.Prelude.{codes}
 use Rattle.frame_bench.specs.Lines.{space}
 use Rattle.frame_bench.specs.Requests.{Asks, IsHex, entry_word}
 use Rattle.frame_bench.specs.declared.requests.Entry.{Entry}
-use Rattle.frame_bench.specs.declared.requests.Entry.TheVariants.{Ethernet}
+use Rattle.frame_bench.specs.declared.requests.Entry.TheVariants.{Ethernet, LinuxSll}
 use Rattle.frame_bench.specs.declared.requests.Request.{Request}
 use Rattle.frame_bench.specs.declared.requests.Request.TheVariants.{Slice}
 
@@ -18,11 +18,21 @@ behind_word text word rest (Some x) parts is = (parts ∙ ap (λ t. word ++ t) i
 behind_word text word rest None parts refused =
     (tt, λ r e. refused r (append_cancel_left word rest (space ∷ r) (sym parts ∙ e)))
 
+-- a text begins with the word of one entry
+same_entry : (entry other : Entry) (text rest : List ℕ) → entry_word entry ++ space ∷ text ≡ entry_word other ++ space ∷ rest
+    → (entry ≡ other) × (text ≡ rest)
+same_entry Ethernet Ethernet text rest same = (refl, append_cancel_left (codes "eth" ++ space ∷ []) text rest same)
+same_entry LinuxSll LinuxSll text rest same = (refl, append_cancel_left (codes "sll" ++ space ∷ []) text rest same)
+same_entry Ethernet LinuxSll text rest same =
+    let head : 101 ≡ 115 = ap (λ t. get_or t 0 0) same in absurd (omega (arith, head))
+same_entry LinuxSll Ethernet text rest same =
+    let head : 115 ≡ 101 = ap (λ t. get_or t 0 0) same in absurd (omega (arith, head))
+
 -- a line that begins with these words asks nothing else
 pub asked_again : (line rest text : List ℕ) (entry : Entry) → line ≡ codes "slice" ++ space ∷ rest → rest ≡ entry_word entry ++ space ∷ text
-    → (request : Request) (said : List ℕ) → Asks line request said → IsHex text said
-asked_again line rest text Ethernet slice eth (Slice Ethernet) said (again, parts, is) =
-    let same : again ≡ text =
-    append_cancel_left (codes "slice" ++ space ∷ codes "eth" ++ space ∷ []) again text
-    (sym parts ∙ slice ∙ ap (λ t. codes "slice" ++ space ∷ t) eth) in
-    rw (← same) is
+    → (request : Request) (said : List ℕ) → Asks line request said → (Slice entry ≡ request) × IsHex text said
+asked_again line rest text entry slice word (Slice other) said (again, parts, is) =
+    let same = same_entry entry other text again
+    (append_cancel_left (codes "slice" ++ space ∷ []) (entry_word entry ++ space ∷ text) (entry_word other ++ space ∷ again)
+    (ap (λ t. codes "slice" ++ space ∷ t) (sym word) ∙ sym slice ∙ parts)) in
+    (ap (λ (e : Entry). Slice e) same.0, rw (same.1) is)

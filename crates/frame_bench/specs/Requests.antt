@@ -3,13 +3,14 @@ use Rattle.std.specs.Prelude.{◌≡◌, ℕ, ◌<◌, ◌⊎◌, List, [], ◌�
 use Rattle.hex.specs.Hex.{decode_of}
 use Rattle.frame_bench.specs.Lines.{words}
 use Rattle.frame_bench.specs.declared.requests.Entry.{Entry}
-use Rattle.frame_bench.specs.declared.requests.Entry.TheVariants.{Ethernet}
+use Rattle.frame_bench.specs.declared.requests.Entry.TheVariants.{Ethernet, LinuxSll}
 use Rattle.frame_bench.specs.declared.requests.Request.{Request}
 use Rattle.frame_bench.specs.declared.requests.Request.TheVariants.{Slice}
 
 -- the word that names an entry
 abbrev pub entry_word : Entry → List ℕ
 entry_word Ethernet = codes "eth"
+entry_word LinuxSll = codes "sll"
 
 -- the bytes that a text says: `-` none, and else each byte by two hexadecimal digits of either case
 abbrev pub IsHex : List ℕ → List ℕ → Type 0

@@ -1,8 +1,9 @@
 //! Answers each line of standard input with one line of standard output.
 //!
-//! A line `slice eth HEX` asks for the layers of a frame that begins with an Ethernet II header, where HEX is two
-//! hexadecimal digits for each byte, or `-` for none. The answer is `ok LINK - NET TRANSPORT PAYLOAD`, with `-` for a layer
-//! that is not there, or says why the bytes are no frame. Any other line is answered `err line`.
+//! A line `slice eth HEX` asks for the layers of a frame that begins with an Ethernet II header, `slice sll HEX` for those of
+//! a Linux cooked capture, where HEX is two hexadecimal digits for each byte, or `-` for none. The answer is
+//! `ok LINK EXTS NET TRANSPORT PAYLOAD`, with `-` for a layer that is not there and commas between link extensions, or says
+//! why the bytes are no frame. Any other line is answered `err line`.
 #![tactic(auto)]
 
 pub mod engine;

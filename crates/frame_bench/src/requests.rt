@@ -10,14 +10,16 @@ use crate::hex_text::decode;
 use std::alloc::AllocError;
 
 /// What stands at the front of the bytes of a line.
-#[derive(Clone, Copy)]
+#[derive(Clone, Copy, Debug)]
 pub enum Entry {
     /// An Ethernet II header.
     Ethernet,
+    /// The header of a Linux cooked capture (SLL v1).
+    LinuxSll,
 }
 
 /// What a line asks of its bytes.
-#[derive(Clone, Copy)]
+#[derive(Clone, Copy, Debug)]
 pub enum Request {
     /// The layers of a frame.
     Slice(Entry),
@@ -46,8 +48,11 @@ fn entry_at(text: &[u8]) -> Option<(Entry, &[u8])>
     ensures some { IfSome result (λ found. text.now ≡ entry_word found.0 ++ space ∷ found.1.now) }
     ensures none { IfNone result ((entry : Entry) (rest : List ℕ) → text.now ≡ entry_word entry ++ space ∷ rest → ⊥) }
 {
-    let rest = behind(text, b"eth")?;
-    Some((Entry::Ethernet, rest))
+    if let Some(rest) = behind(text, b"eth") {
+        return Some((Entry::Ethernet, rest));
+    }
+    let rest = behind(text, b"sll")?;
+    Some((Entry::LinuxSll, rest))
 }
 
 /// What stands behind a word and a space at the front of a text.

@@ -1,17 +1,21 @@
 //! The reply about a frame.
 
-ghost use Rattle.std.specs.Prelude.{◌≡◌, ◌++◌, ℕ, List, OnOk};
+ghost use Rattle.std.specs.Prelude.{◌≡◌, ◌++◌, ℕ, List, IfErr, IfOk, OnOk, map};
 ghost use Rattle.std.specs.Option.{option_map};
+ghost use Rattle.ep_link.specs.LinkExtensions.{link_extension_of};
 ghost use Rattle.ep_link.specs.LinkSlices.{link_layer_of};
+ghost use Rattle.ep_packet.specs.Frame.{IsFrame};
+ghost use Rattle.ep_packet.specs.FrameBytes.{last_payload, link_payload, payload_behind};
 ghost use Rattle.ep_packet.specs.Layers.{layers_of, net_layer_of};
+ghost use Rattle.ep_packet.specs.Refusals.{RefusesFrame};
 ghost use Rattle.ep_transport.specs.TransportSlices.{transport_layer_of};
-ghost use Rattle.frame_bench.specs.Replies.{IsReply, innermost_payload, layers_text, link_word, net_word, refusal_text, transport_word};
+ghost use Rattle.frame_bench.specs.Replies.{IsReply, frame_entry, extension_text, extensions_word, layers_text, link_word, net_word, refusal_text, transport_word};
 ghost use Rattle.frame_bench.specs.declared.requests.Request.TheVariants.{Slice};
 
 use crate::hex_text;
 use crate::requests::Entry;
-use ep_base::err::{LenError, ip_auth, ipv4};
-use ep_link::LinkSlice;
+use ep_base::err::{LenError, ip_auth, ipv4, linux_sll, macsec};
+use ep_link::{LinkExtSlice, LinkSlice};
 use ep_packet::err::SliceError;
 use ep_packet::{NetSlice, SlicedPacket};
 use ep_transport::TransportSlice;
@@ -22,12 +26,20 @@ use std::io::Write;
 pub fn push_slice(output: &mut Vec<u8>, entry: Entry, bytes: &[u8]) -> Result<(), AllocError>
     ensures { OnOk result ((reply : List ℕ) × IsReply (Slice entry) bytes.now reply × (output.new.items ≡ output.old.items ++ reply)) }
 {
-    let sliced = match entry {
-        Entry::Ethernet => SlicedPacket::from_ethernet(bytes),
-    };
-    match sliced {
+    match slice_at(entry, bytes) {
         Ok(packet) => push_layers(output, &packet),
         Err(error) => push_refusal(output, &error),
+    }
+}
+
+/// The packet that begins with the entry's header.
+fn slice_at(entry: Entry, bytes: &[u8]) -> Result<SlicedPacket<'_>, SliceError>
+    ensures ok { IfOk result (λ packet. IsFrame (frame_entry entry) bytes.now (layers_of packet)) }
+    ensures err { IfErr result (RefusesFrame (frame_entry entry) bytes.now) }
+{
+    match entry {
+        Entry::Ethernet => SlicedPacket::from_ethernet(bytes),
+        Entry::LinuxSll => SlicedPacket::from_linux_sll(bytes),
     }
 }
 
@@ -38,7 +50,9 @@ fn push_layers(output: &mut Vec<u8>, packet: &SlicedPacket<'_>) -> Result<(), Al
     let link = link_word(&packet.link);
     let net = net_word(&packet.net);
     let transport = transport_word(&packet.transport);
-    write!(output, "ok {link} - {net} {transport} ").map_err(|_| AllocError)?;
+    write!(output, "ok {link} ").map_err(|_| AllocError)?;
+    push_extensions(output, packet.link_exts.as_slice())?;
+    write!(output, " {net} {transport} ").map_err(|_| AllocError)?;
     hex_text::push(output, innermost_payload(packet))
 }
 
@@ -48,7 +62,36 @@ fn link_word(link: &Option<LinkSlice<'_>>) -> &'static str
 {
     match link {
         Some(LinkSlice::Ethernet2(_)) => "eth",
-        Some(LinkSlice::EtherPayload(_)) | None => "-",
+        Some(LinkSlice::LinuxSll(_)) => "sll",
+        Some(LinkSlice::EtherPayload(_) | LinkSlice::LinuxSllPayload(_)) | None => "-",
+    }
+}
+
+/// Appends the link extensions with a comma between two, or `-` for none.
+fn push_extensions(output: &mut Vec<u8>, extensions: &[LinkExtSlice<'_>]) -> Result<(), AllocError>
+    ensures { OnOk result (output.new.items ≡ output.old.items ++ extensions_word (map link_extension_of extensions.now)) }
+{
+    let Some((first, others)) = extensions.split_first() else {
+        return output.extend_from_slice(b"-");
+    };
+    push_extension(output, first)?;
+    for extension in others {
+        output.push(b',')?;
+        push_extension(output, extension)?;
+    }
+    Ok(())
+}
+
+/// Appends a link extension: a VLAN with its identifier.
+fn push_extension(output: &mut Vec<u8>, extension: &LinkExtSlice<'_>) -> Result<(), AllocError>
+    ensures { OnOk result (output.new.items ≡ output.old.items ++ extension_text (link_extension_of extension.now)) }
+{
+    match extension {
+        LinkExtSlice::Vlan(tag) => {
+            let vlan_id = tag.vlan_identifier().value();
+            write!(output, "vlan:{vlan_id}").map_err(|_| AllocError)
+        }
+        LinkExtSlice::Macsec(_) => output.extend_from_slice(b"macsec"),
     }
 }
 
@@ -58,6 +101,7 @@ fn net_word(net: &Option<NetSlice<'_>>) -> &'static str
 {
     match net {
         Some(NetSlice::Ipv4(_)) => "ipv4",
+        Some(NetSlice::Arp(_)) => "arp",
         None => "-",
     }
 }
@@ -74,17 +118,27 @@ fn transport_word(transport: &Option<TransportSlice<'_>>) -> &'static str
 
 /// The payload of the innermost layer.
 fn innermost_payload<'a>(packet: &SlicedPacket<'a>) -> &'a [u8]
-    ensures { let layers = layers_of packet.now in result.now ≡ innermost_payload layers.link layers.net layers.transport }
+    ensures { result.now ≡ last_payload (layers_of packet.now) }
 {
     if let Some(TransportSlice::Udp(datagram)) = &packet.transport {
         return datagram.payload();
     }
-    if let Some(NetSlice::Ipv4(ipv4)) = &packet.net {
-        return ipv4.payload().payload;
+    match &packet.net {
+        Some(NetSlice::Ipv4(ipv4)) => ipv4.payload().payload,
+        Some(NetSlice::Arp(_)) => &[],
+        None => open_payload(packet),
+    }
+}
+
+/// The bytes behind the last link extension, or else behind the link header.
+fn open_payload<'a>(packet: &SlicedPacket<'a>) -> &'a [u8]
+    ensures { let layers = layers_of packet.now in result.now ≡ payload_behind (link_payload layers.link) layers.link_exts }
+{
+    if let Some(extension) = packet.link_exts.last() {
+        return extension.payload_slice();
     }
     match &packet.link {
-        Some(LinkSlice::Ethernet2(frame)) => frame.payload_slice(),
-        Some(LinkSlice::EtherPayload(ether)) => ether.payload,
+        Some(link) => link.payload_slice(),
         None => &[],
     }
 }
@@ -95,6 +149,17 @@ fn push_refusal(output: &mut Vec<u8>, error: &SliceError) -> Result<(), AllocErr
 {
     match error {
         SliceError::Len(error) => push_len_error(output, error),
+        SliceError::LinuxSll(linux_sll::HeaderError::UnsupportedPacketTypeField { packet_type }) =>
+            { write!(output, "err sll-packet-type {packet_type}").map_err(|_| AllocError) }
+        SliceError::LinuxSll(
+            linux_sll::HeaderError::UnsupportedArpHardwareId { arp_hardware_type },
+        ) => { write!(output, "err sll-arp-hardware {arp_hardware_type}").map_err(|_| AllocError) }
+        SliceError::Macsec(macsec::HeaderError::UnexpectedVersion) => {
+            output.extend_from_slice(b"err macsec-version")
+        }
+        SliceError::Macsec(macsec::HeaderError::InvalidUnmodifiedShortLen) => {
+            output.extend_from_slice(b"err macsec-short-length")
+        }
         SliceError::Ipv4(ipv4::HeaderError::UnexpectedVersion { version_number }) => {
             write!(output, "err ipv4-version {version_number}").map_err(|_| AllocError)
         }

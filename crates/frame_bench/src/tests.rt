@@ -10,16 +10,8 @@ use std::io::{Read, Write};
 use std::process::Abort;
 use std::test::Fail;
 
-/// A frame of Ethernet II, IPv4 and UDP with 8 bytes of payload.
-const UDP_FRAME: &[u8] =
-    b"0708090a0b0c010203040506080045000024000040001411e375c0a80101c0a80102001504d20010677f0102030405060708";
-
-/// A frame of Ethernet II, IPv4 and TCP with 8 bytes of payload.
-const TCP_FRAME: &[u8] =
-    b"0708090a0b0c010203040506080045000030000040001406e374c0a80101c0a801020015000c000030390000000050020fa0dc7a00000102030405060708";
-
 /// Lines and their answers.
-const ROWS: [(&str, &str); 28] = [
+const ROWS: [(&str, &str); 56] = [
     // The whole frame, and with padding behind the packet.
     (
         "slice eth 0708090a0b0c010203040506080045000024000040001411e375c0a80101c0a80102001504d20010677f0102030405060708",
@@ -84,6 +76,111 @@ const ROWS: [(&str, &str); 28] = [
         "ok eth - - - 0a0b",
     ),
     ("slice eth 0708090A0B0C0102030405061234", "ok eth - - - -"),
+    // Three VLAN tags, of the three ether types, and a fourth that is payload; IPv4 in one and in two.
+    (
+        "slice eth 0708090a0b0c010203040506810000018100000281000003810000040800",
+        "ok eth vlan:1,vlan:2,vlan:3 - - 00040800",
+    ),
+    (
+        "slice eth 0708090a0b0c01020304050688a8a1239100b00181000fff12340a0b",
+        "ok eth vlan:291,vlan:1,vlan:4095 - - 0a0b",
+    ),
+    (
+        "slice eth 0708090a0b0c01020304050681000001080045000024000040001411e375c0a80101c0a80102001504d20010677f0102030405060708",
+        "ok eth vlan:1 ipv4 udp 0102030405060708",
+    ),
+    (
+        "slice eth 0708090a0b0c01020304050688a8012381000234080045000024000040001411e375c0a80101c0a80102001504d20010677f0102030405060708",
+        "ok eth vlan:291,vlan:564 ipv4 udp 0102030405060708",
+    ),
+    (
+        "slice eth 0708090a0b0c010203040506810000018100000281",
+        "err len 4 3 Slice VlanHeader 18",
+    ),
+    // MACsec: each refusal, a modified payload, one tag before VLAN tags, and an unmodified payload that is cut.
+    (
+        "slice eth 0708090a0b0c01020304050688e5800000000000",
+        "err macsec-version",
+    ),
+    (
+        "slice eth 0708090a0b0c01020304050688e5000100000000",
+        "err macsec-short-length",
+    ),
+    (
+        "slice eth 0708090a0b0c01020304050688e50800000000",
+        "err len 6 5 Slice MacsecHeader 14",
+    ),
+    (
+        "slice eth 0708090a0b0c01020304050688e5200000000000",
+        "err len 16 6 Slice MacsecHeader 14",
+    ),
+    (
+        "slice eth 0708090a0b0c01020304050688e50c0300000000aabbccdd",
+        "ok eth macsec - - aabbcc",
+    ),
+    (
+        "slice eth 0708090a0b0c01020304050688e50c0500000000aabbccdd",
+        "err len 11 10 Slice MacsecPacket 14",
+    ),
+    (
+        "slice eth 0708090a0b0c01020304050688e50000000000008100000181000002810000030800",
+        "ok eth macsec,vlan:1,vlan:2 - - 00030800",
+    ),
+    (
+        "slice eth 0708090a0b0c01020304050688e5002600000001080045000024000040001411e375c0a80101c0a80102001504d20010677f0102030405060708aabb",
+        "ok eth macsec ipv4 udp 0102030405060708",
+    ),
+    (
+        "slice eth 0708090a0b0c01020304050688e50005000000018100000181aabbccddee",
+        "err len 4 3 Slice VlanHeader 22",
+    ),
+    // ARP, whole and a byte short, and with padding behind it.
+    (
+        "slice eth 0708090a0b0c01020304050608060001080006040001010203040506070608090a0b0c0e0f1011121314",
+        "ok eth - arp - -",
+    ),
+    (
+        "slice eth 0708090a0b0c01020304050608060001080006040001010203040506070608090a0b0c0e0f10111213",
+        "err len 28 27 ArpAddrLengths Arp 14",
+    ),
+    (
+        "slice eth 0708090a0b0c01020304050608060001080006040001010203040506070608090a0b0c0e0f10111213140000",
+        "ok eth - arp - -",
+    ),
+    // Linux cooked captures: IPv4, a loopback device, netlink, and each refusal.
+    (
+        "slice sll 0003000100060102030405060000080045000024000040001411e375c0a80101c0a80102001504d20010677f0102030405060708",
+        "ok sll - ipv4 udp 0102030405060708",
+    ),
+    (
+        "slice sll 0003030400060102030405060000080045000024000040001411e375c0a80101c0a80102001504d20010677f0102030405060708",
+        "ok sll - ipv4 udp 0102030405060708",
+    ),
+    (
+        "slice sll 00030001000601020304050600008100000508060001080006040001010203040506070608090a0b0c0e0f1011121314",
+        "ok sll vlan:5 arp - -",
+    ),
+    (
+        "slice sll 000300010006010203040506000000040102",
+        "ok sll - - - 0102",
+    ),
+    (
+        "slice sll 000003380000000000000000000000100102",
+        "ok sll - - - 0102",
+    ),
+    (
+        "slice sll 000003380000000000000000000008000102",
+        "ok sll - - - 0102",
+    ),
+    (
+        "slice sll 0003010800060102030405060000080045000024000040001411e375c0a80101c0a80102001504d20010677f0102030405060708",
+        "err sll-arp-hardware 264",
+    ),
+    (
+        "slice sll 00080001000000000000000000000800",
+        "err sll-packet-type 8",
+    ),
+    ("slice sll -", "err len 16 0 Slice LinuxSllHeader 0"),
     // Lines that ask nothing.
     ("", "err line"),
     ("slice eth", "err line"),
@@ -94,7 +191,9 @@ const ROWS: [(&str, &str); 28] = [
     ("slice eth - ", "err line"),
     (" slice eth -", "err line"),
     ("Slice eth -", "err line"),
-    ("slice sll -", "err line"),
+    ("slice sll", "err line"),
+    ("slice sll  -", "err line"),
+    ("slice ether -", "err line"),
     ("slice ip -", "err line"),
     ("frag eth 1 0 -", "err line"),
     ("drop 3", "err line"),
@@ -144,22 +243,86 @@ fn answers_each_row(rt: HostRuntime) -> Result<(), Fail> {
     )
 }
 
-/// A frame, cut to each length: too short for Ethernet II, then for the header of IPv4, then for its total length.
-fn assert_cuts(rt: &impl Abort, alloc: Global, frame: &[u8], total_len: usize) -> Result<(), Fail> {
+/// The layers that a frame has to have, by the bytes that are there: up to so many, so many are needed for the layer at this
+/// place, whose end this set.
+struct Needs {
+    entry: &'static str,
+    frame: &'static [u8],
+    /// The length from which on the layer is whole, the bytes that it needs, what set its end, its name and its place.
+    layers: &'static [(usize, usize, &'static str, &'static str, usize)],
+}
+
+/// Frames that are cut to each length.
+const CUTS: [Needs; 5] = [
+    Needs {
+        entry: "eth",
+        frame: b"0708090a0b0c010203040506080045000024000040001411e375c0a80101c0a80102001504d20010677f0102030405060708",
+        layers: &[
+            (14, 14, "Slice", "Ethernet2Header", 0),
+            (34, 20, "Slice", "Ipv4Header", 14),
+            (50, 36, "Slice", "Ipv4Packet", 14),
+        ],
+    },
+    Needs {
+        entry: "eth",
+        frame: b"0708090a0b0c010203040506080045000030000040001406e374c0a80101c0a801020015000c000030390000000050020fa0dc7a00000102030405060708",
+        layers: &[
+            (14, 14, "Slice", "Ethernet2Header", 0),
+            (34, 20, "Slice", "Ipv4Header", 14),
+            (62, 48, "Slice", "Ipv4Packet", 14),
+        ],
+    },
+    Needs {
+        entry: "eth",
+        frame: b"0708090a0b0c0102030405068100000108004500001c000120001411037dc0a80101c0a801020001020304050607",
+        layers: &[
+            (14, 14, "Slice", "Ethernet2Header", 0),
+            (18, 4, "Slice", "VlanHeader", 14),
+            (38, 20, "Slice", "Ipv4Header", 18),
+            (46, 28, "Slice", "Ipv4Packet", 18),
+        ],
+    },
+    Needs {
+        entry: "eth",
+        frame: b"0708090a0b0c01020304050608060001080006040001010203040506070608090a0b0c0e0f1011121314",
+        layers: &[
+            (14, 14, "Slice", "Ethernet2Header", 0),
+            (22, 8, "Slice", "Arp", 14),
+            (42, 28, "ArpAddrLengths", "Arp", 14),
+        ],
+    },
+    Needs {
+        entry: "sll",
+        frame: b"0003000100060102030405060000080045000024000040001411e375c0a80101c0a80102001504d20010677f0102030405060708",
+        layers: &[
+            (16, 16, "Slice", "LinuxSllHeader", 0),
+            (36, 20, "Slice", "Ipv4Header", 16),
+            (52, 36, "Slice", "Ipv4Packet", 16),
+        ],
+    },
+];
+
+/// A frame, cut to each length: the first layer that is not whole is refused.
+fn assert_cuts(rt: &impl Abort, alloc: Global, needs: &Needs) -> Result<(), Fail> {
+    let entry = needs.entry;
     let mut input = Vec::new(alloc);
     let mut wanted = Vec::new(alloc);
-    for cut in 0..frame.len() / 2 {
-        input.extend_from_slice(b"slice eth ")?;
-        if cut == 0 {
+    for len in 0..needs.frame.len() / 2 {
+        write!(input, "slice {entry} ")?;
+        if len == 0 {
             input.push(b'-')?;
         }
-        input.extend_from_slice(&frame[..2 * cut])?;
+        input.extend_from_slice(&needs.frame[..2 * len])?;
         input.push(b'\n')?;
-        let behind = cut.saturating_sub(14);
-        match cut {
-            0..14 => writeln!(wanted, "err len 14 {cut} Slice Ethernet2Header 0")?,
-            14..34 => writeln!(wanted, "err len 20 {behind} Slice Ipv4Header 14")?,
-            _ => writeln!(wanted, "err len {total_len} {behind} Slice Ipv4Packet 14")?,
+        for (whole, required, source, layer, offset) in needs.layers {
+            if len < *whole {
+                let there = len.saturating_sub(*offset);
+                writeln!(
+                    wanted,
+                    "err len {required} {there} {source} {layer} {offset}"
+                )?;
+                break;
+            }
         }
     }
     assert_answers(rt, alloc, input.as_slice(), wanted.as_slice())
@@ -167,8 +330,10 @@ fn assert_cuts(rt: &impl Abort, alloc: Global, frame: &[u8], total_len: usize) -
 
 #[test]
 fn refuses_each_cut(rt: HostRuntime) -> Result<(), Fail> {
-    assert_cuts(&rt, rt.alloc(), UDP_FRAME, 36)?;
-    assert_cuts(&rt, rt.alloc(), TCP_FRAME, 48)
+    for needs in &CUTS {
+        assert_cuts(&rt, rt.alloc(), needs)?;
+    }
+    Ok(())
 }
 
 /// A reader or a writer that moves one byte a call, and fails once it moved so many.

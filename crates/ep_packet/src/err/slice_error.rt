@@ -1,6 +1,6 @@
 //! Why no packet could be sliced.
 
-use ep_base::err::{LenError, ip_auth, ipv4};
+use ep_base::err::{LenError, ip_auth, ipv4, linux_sll, macsec};
 use thiserror::Error;
 
 /// Why no packet could be sliced: the refusal of the first layer that does not stand.
@@ -9,6 +9,12 @@ pub enum SliceError {
     /// A layer has too few bytes.
     #[error(transparent)]
     Len(LenError),
+    /// The bytes are no header of a Linux cooked capture.
+    #[error(transparent)]
+    LinuxSll(linux_sll::HeaderError),
+    /// The bytes are no MACsec tag.
+    #[error(transparent)]
+    Macsec(macsec::HeaderError),
     /// The bytes are no IPv4 header.
     #[error(transparent)]
     Ipv4(ipv4::HeaderError),

@@ -6,5 +6,5 @@ pub returns-else-branch-clause-none : goal.returns-else-branch-clause-none
 returns-else-branch-clause-none c = λ request said asks.
     let is = asked_again c.args.line.now c.in-Some.rest.now c.in-Some-entry_at.text.now c.in-Some-entry_at.entry
     c.in-Some.ensures.some c.in-Some-entry_at.ensures.some request said asks in
-    let holds : c.in_ok-decode.field-0 ≡ true = c.in_ok-decode.ensures.only said is in
+    let holds : c.in_ok-decode.field-0 ≡ true = c.in_ok-decode.ensures.only said is.1 in
     cc (holds, c.if-branch.false)

@@ -1,7 +1,8 @@
 use Rattle.std.proofs.Common.{◌-◌, List, ℕ, length, take, drop, sym, subst}
 use Rattle.ep_ip.specs.declared.ipv4_header.Ipv4Header.{Ipv4Header}
 use Rattle.ep_ip.specs.Ipv4.{IsIpv4Header, ipv4_header_of}
-use Rattle.ep_ip.proofs.Ipv4Lemmas.{rest_of, header_one_value}
+use Rattle.ep_base.proofs.BytesLemmas.{rest_of}
+use Rattle.ep_ip.proofs.Ipv4Lemmas.{header_one_value}
 use Rattle.ep_ip.proofs.ipv4_header.Ipv4Header.from_slice.Goals as goal
 
 pub returns-clause-ok : goal.returns-clause-ok

@@ -1,0 +1,300 @@
+-- The fields of a MACsec tag, read from its bytes.
+use Rattle.std.proofs.Common.{◌≡◌, ℕ, zero, suc, ◌+◌, ◌*◌, ◌/◌, ◌%◌, ◌^◌, ◌<◌, ◌≤◌, ◌==◌, Bool, true, false, Option, Some, None, List, [], ◌∷◌, ◌++◌, length, drop, get_or, refl, sym, ap, add-zero, subst, ◌∙◌, arith, slice_index, slice_range}
+use Rattle.std.proofs.lemmas.Grind.{common_steps}
+use Rattle.std.proofs.lemmas.Nat.{from_be_bytes-to_be_bytes_4, from_be_bytes-to_be_bytes_8, be_bytes_4, be_bytes_8}
+use Rattle.std.proofs.lemmas.List.{length-take, length-drop, take-append-drop, drop-drop, drop_all, get_or-drop}
+use Rattle.std.specs.Int.{w16, w32, w64, to_be_bytes, from_be_bytes}
+use Rattle.ep_base.specs.Bytes.{AreBytes, word_at, bit}
+use Rattle.ep_base.proofs.BytesLemmas.{AreBytes-take, AreBytes-drop, bit_le, bit_read, bit_of_read}
+use Rattle.ep_link.specs.declared.macsec_ptype.MacsecPType.{MacsecPType}
+use Rattle.ep_link.specs.declared.macsec_ptype.MacsecPType.TheVariants as ptype
+use Rattle.ep_link.specs.declared.macsec_header.MacsecHeader.{MacsecHeader}
+use Rattle.ep_link.specs.Macsec.{encryption_bit, changed_text_bit, ptype_bytes, sci_bit, sci_bytes, macsec_bytes_with, ptype_len, sci_len, macsec_header_len, FitsPType, FitsSci, FitsMacsec, EncodesMacsec, short_len_of, modification_of, sci_bit_of, type_len_by, tag_len_of, HasNoRoomForType, ptype_by, sci_by, macsec_header_of}
+
+-- the bytes are a whole tag: as long as their flags say
+pub record IsWhole (bytes : List ℕ) : Type 0 where
+  pub fixed : 6 ≤ length bytes
+  pub version : slice_index bytes 0 < 128
+  pub room : ¬ HasNoRoomForType bytes
+  pub whole : length bytes ≡ tag_len_of bytes
+
+-- ---- flags
+
+encryption_bit_le : (p : MacsecPType) → encryption_bit p ≤ 1
+encryption_bit_le (ptype.Unmodified type) = omega arith
+encryption_bit_le ptype.Modified = omega arith
+encryption_bit_le ptype.Encrypted = omega arith
+encryption_bit_le ptype.EncryptedUnmodified = omega arith
+
+changed_text_bit_le : (p : MacsecPType) → changed_text_bit p ≤ 1
+changed_text_bit_le (ptype.Unmodified type) = omega arith
+changed_text_bit_le ptype.Modified = omega arith
+changed_text_bit_le ptype.Encrypted = omega arith
+changed_text_bit_le ptype.EncryptedUnmodified = omega arith
+
+sci_bit_le : (sci : Option ℕ) → sci_bit sci ≤ 1
+sci_bit_le None = omega arith
+sci_bit_le (Some sci) = omega arith
+
+-- the first byte, made of its flags and the association number
+abbrev first_of : ℕ → ℕ → ℕ → ℕ → ℕ → ℕ → ℕ
+first_of station sci single encrypted changed an = 2 ^ 6 * station + 2 ^ 5 * sci + 2 ^ 4 * single + 2 ^ 3 * encrypted + 2 ^ 2 * changed + an
+
+-- each flag is one bit
+record AreFlags (t s b e c a : ℕ) : Type 0 where
+  station : t ≤ 1
+  sci : s ≤ 1
+  single : b ≤ 1
+  encrypted : e ≤ 1
+  changed : c ≤ 1
+  an : a < 2 ^ 2
+
+flags_of : (h : MacsecHeader) → FitsMacsec h → AreFlags (bit h.endstation_id) (sci_bit h.sci) (bit h.scb) (encryption_bit h.ptype) (changed_text_bit h.ptype) h.an
+flags_of h fits = record {
+  station = bit_le h.endstation_id;
+  sci = sci_bit_le h.sci;
+  single = bit_le h.scb;
+  encrypted = encryption_bit_le h.ptype;
+  changed = changed_text_bit_le h.ptype;
+  an = fits.an;
+}
+
+first_version : (t s b e c a : ℕ) → AreFlags t s b e c a → first_of t s b e c a < 128
+first_version t s b e c a f = omega arith
+
+first_station : (t s b e c a : ℕ) → AreFlags t s b e c a → first_of t s b e c a / 64 % 2 ≡ t
+first_station t s b e c a f = omega arith
+
+first_sci : (t s b e c a : ℕ) → AreFlags t s b e c a → first_of t s b e c a / 32 % 2 ≡ s
+first_sci t s b e c a f = omega arith
+
+first_single : (t s b e c a : ℕ) → AreFlags t s b e c a → first_of t s b e c a / 16 % 2 ≡ b
+first_single t s b e c a f = omega arith
+
+first_modification : (t s b e c a : ℕ) → AreFlags t s b e c a → first_of t s b e c a / 4 % 4 ≡ 2 * e + c
+first_modification t s b e c a f = omega arith
+
+first_an : (t s b e c a : ℕ) → AreFlags t s b e c a → first_of t s b e c a % 4 ≡ a
+first_an t s b e c a f = omega arith
+
+-- the flags of the first byte, put together again
+first_again : (n t s b e c a : ℕ) → n < 128 → t ≡ n / 64 % 2 → s ≡ n / 32 % 2 → b ≡ n / 16 % 2 → 2 * e + c ≡ n / 4 % 4 → a ≡ n % 4 → n ≡ first_of t s b e c a
+first_again n t s b e c a below station sci single modification an = omega arith
+
+-- ---- the bytes of a tag are read as this tag
+
+-- the number of 4 bytes has 32 bits
+four_below : (xs : List ℕ) → length xs ≡ 4 → AreBytes xs → from_be_bytes w32 xs < 2 ^ 32
+four_below (a ∷ b ∷ c ∷ d ∷ []) len fits = omega (arith, fits 0, fits 1, fits 2, fits 3)
+four_below _ len fits = absurd (omega arith)
+
+-- the number of 8 bytes has 64 bits
+eight_below : (xs : List ℕ) → length xs ≡ 8 → AreBytes xs → from_be_bytes w64 xs < 2 ^ 64
+eight_below (a ∷ b ∷ c ∷ d ∷ e ∷ f ∷ g ∷ h ∷ []) len fits = omega (arith, fits 0, fits 1, fits 2, fits 3, fits 4, fits 5, fits 6, fits 7)
+eight_below _ len fits = absurd (omega arith)
+
+-- the two bytes of a type are its number
+type_read : (type : ℕ) → type < 2 ^ 16 → word_at (to_be_bytes w16 type) 0 ≡ type
+type_read type below = omega arith
+
+-- a tag's type, read where its flags say
+ptype_read : (a b c d e f : ℕ) (sci : Option ℕ) (p : MacsecPType) (short_len : ℕ) → FitsPType p short_len →
+    ptype_by (2 * encryption_bit p + changed_text_bit p) (word_at (a ∷ b ∷ c ∷ d ∷ e ∷ f ∷ (sci_bytes sci ++ ptype_bytes p)) (6 + 8 * sci_bit sci)) ≡ p
+ptype_read a b c d e f None (ptype.Unmodified type) short_len fits = ap (λ (n : ℕ). ptype.Unmodified (record { 0 = n })) (type_read type.0 fits.0)
+ptype_read a b c d e f (Some sci) (ptype.Unmodified type) short_len fits = ap (λ (n : ℕ). ptype.Unmodified (record { 0 = n })) (type_read type.0 fits.0)
+ptype_read a b c d e f sci ptype.Modified short_len fits = refl
+ptype_read a b c d e f sci ptype.Encrypted short_len fits = refl
+ptype_read a b c d e f sci ptype.EncryptedUnmodified short_len fits = refl
+
+-- a tag's identifier, read where its flag says that it is there
+sci_read : (a b c d e f : ℕ) (sci : Option ℕ) (rest : List ℕ) → FitsSci sci →
+    sci_by (sci_bit sci) (from_be_bytes w64 (slice_range (a ∷ b ∷ c ∷ d ∷ e ∷ f ∷ (sci_bytes sci ++ rest)) 6 14)) ≡ sci
+sci_read a b c d e f None rest fits = refl
+sci_read a b c d e f (Some sci) rest fits = ap Some (from_be_bytes-to_be_bytes_8 sci fits)
+
+with_read : (r : ℕ) (h : MacsecHeader) → r < 4 → FitsMacsec h → h ≡ macsec_header_of (macsec_bytes_with r h)
+with_read r h bits fits =
+    let bytes = macsec_bytes_with r h in
+    let flags = flags_of h fits in
+    let modification : modification_of bytes ≡ 2 * encryption_bit h.ptype + changed_text_bit h.ptype = first_modification _ _ _ _ _ _ flags in
+    let sci_flag : sci_bit_of bytes ≡ sci_bit h.sci = first_sci _ _ _ _ _ _ flags in
+    let station : slice_index bytes 0 / 64 % 2 ≡ bit h.endstation_id = first_station _ _ _ _ _ _ flags in
+    let single : slice_index bytes 0 / 16 % 2 ≡ bit h.scb = first_single _ _ _ _ _ _ flags in
+    let an : slice_index bytes 0 % 4 ≡ h.an = first_an _ _ _ _ _ _ flags in
+    let short_len : short_len_of bytes ≡ h.short_len = omega (arith, fits.short_len) in
+    let packet_nr : from_be_bytes w32 (slice_range bytes 2 6) ≡ h.packet_nr = from_be_bytes-to_be_bytes_4 h.packet_nr fits.packet_nr in
+    let type : ptype_by (modification_of bytes) (word_at bytes (6 + 8 * sci_bit_of bytes)) ≡ h.ptype =
+    (λ i. ptype_by (modification i) (word_at bytes (6 + 8 * sci_flag i)))
+    ∙ ptype_read (slice_index bytes 0) (slice_index bytes 1) (slice_index bytes 2) (slice_index bytes 3) (slice_index bytes 4) (slice_index bytes 5) h.sci h.ptype h.short_len fits.ptype in
+    let sci : sci_by (sci_bit_of bytes) (from_be_bytes w64 (slice_range bytes 6 14)) ≡ h.sci =
+    ap (λ (n : ℕ). sci_by n (from_be_bytes w64 (slice_range bytes 6 14))) sci_flag
+    ∙ sci_read (slice_index bytes 0) (slice_index bytes 1) (slice_index bytes 2) (slice_index bytes 3) (slice_index bytes 4) (slice_index bytes 5) h.sci (ptype_bytes h.ptype) fits.sci in
+    sym (λ i. record {
+      ptype = type i;
+      endstation_id = bit_read _ h.endstation_id station i;
+      scb = bit_read _ h.scb single i;
+      an = an i;
+      short_len = short_len i;
+      packet_nr = packet_nr i;
+      sci = sci i;
+    })
+
+pub encoded_read : (e : List ℕ) (h : MacsecHeader) → EncodesMacsec e h → h ≡ macsec_header_of e
+encoded_read e h a = with_read a.reserved h a.bits a.fits ∙ ap macsec_header_of (sym a.same)
+
+-- how many bytes of the type the flags demand
+type_len_same : (p : MacsecPType) → type_len_by (2 * encryption_bit p + changed_text_bit p) ≡ ptype_len p
+type_len_same (ptype.Unmodified type) = refl
+type_len_same ptype.Modified = refl
+type_len_same ptype.Encrypted = refl
+type_len_same ptype.EncryptedUnmodified = refl
+
+sci_len_same : (sci : Option ℕ) → 8 * sci_bit sci ≡ sci_len sci
+sci_len_same None = refl
+sci_len_same (Some sci) = refl
+
+tail_len : (sci : Option ℕ) (p : MacsecPType) → length (sci_bytes sci ++ ptype_bytes p) ≡ sci_len sci + ptype_len p
+tail_len None (ptype.Unmodified type) = refl
+tail_len None ptype.Modified = refl
+tail_len None ptype.Encrypted = refl
+tail_len None ptype.EncryptedUnmodified = refl
+tail_len (Some sci) (ptype.Unmodified type) = refl
+tail_len (Some sci) ptype.Modified = refl
+tail_len (Some sci) ptype.Encrypted = refl
+tail_len (Some sci) ptype.EncryptedUnmodified = refl
+
+-- a type that fits a short length has room
+room_of : (p : MacsecPType) (short_len : ℕ) → FitsPType p short_len → 2 * encryption_bit p + changed_text_bit p ≡ 0 → short_len ≡ 1 → ⊥
+room_of (ptype.Unmodified type) short_len fits none one = fits.1 one
+room_of ptype.Modified short_len fits none one = omega (arith, none)
+room_of ptype.Encrypted short_len fits none one = omega (arith, none)
+room_of ptype.EncryptedUnmodified short_len fits none one = omega (arith, none)
+
+-- the number of bytes of a tag
+with_len : (r : ℕ) (h : MacsecHeader) → length (macsec_bytes_with r h) ≡ macsec_header_len h
+with_len r h = omega (arith, tail_len h.sci h.ptype)
+
+with_whole : (r : ℕ) (h : MacsecHeader) → r < 4 → FitsMacsec h → IsWhole (macsec_bytes_with r h)
+with_whole r h bits fits =
+    let bytes = macsec_bytes_with r h in
+    let flags = flags_of h fits in
+    let modification : modification_of bytes ≡ 2 * encryption_bit h.ptype + changed_text_bit h.ptype = first_modification _ _ _ _ _ _ flags in
+    let sci_flag : sci_bit_of bytes ≡ sci_bit h.sci = first_sci _ _ _ _ _ _ flags in
+    let short_len : short_len_of bytes ≡ h.short_len = omega (arith, fits.short_len) in
+    let len : length bytes ≡ 6 + sci_len h.sci + ptype_len h.ptype = with_len r h in
+    let type_len : type_len_by (modification_of bytes) ≡ ptype_len h.ptype = ap type_len_by modification ∙ type_len_same h.ptype in
+    let id_len = sci_len_same h.sci in
+    record {
+      fixed = omega (arith, len);
+      version = first_version _ _ _ _ _ _ flags;
+      room = λ none. room_of h.ptype h.short_len fits.ptype (sym modification ∙ none.0) (sym short_len ∙ none.1);
+      whole = omega (arith, len, type_len, id_len, sci_flag);
+    }
+
+pub encoded_whole : (e : List ℕ) (h : MacsecHeader) → EncodesMacsec e h → IsWhole e
+encoded_whole e h a = subst IsWhole (sym a.same) (with_whole a.reserved h a.bits a.fits)
+
+-- the number of bytes of a tag, whatever its reserved bits
+pub encoded_len : (e : List ℕ) (h : MacsecHeader) → EncodesMacsec e h → length e ≡ macsec_header_len h
+encoded_len e h a = ap length a.same ∙ with_len a.reserved h
+
+-- ---- whole bytes are those of the tag that is read from them
+
+bits_by : (m type : ℕ) → m < 4 → 2 * encryption_bit (ptype_by m type) + changed_text_bit (ptype_by m type) ≡ m
+bits_by zero type below = refl
+bits_by (suc zero) type below = refl
+bits_by (suc (suc zero)) type below = refl
+bits_by (suc (suc (suc zero))) type below = refl
+bits_by (suc (suc (suc (suc m)))) type below = absurd (omega arith)
+
+sci_bit_by : (s sci : ℕ) → s < 2 → sci_bit (sci_by s sci) ≡ s
+sci_bit_by zero sci below = refl
+sci_bit_by (suc zero) sci below = refl
+sci_bit_by (suc (suc s)) sci below = absurd (omega arith)
+
+FitsPType_by : (m type short_len : ℕ) → type < 2 ^ 16 → ¬ ((m ≡ 0) × (short_len ≡ 1)) → FitsPType (ptype_by m type) short_len
+FitsPType_by zero type short_len below room = (below, λ one. room (refl, one))
+FitsPType_by (suc zero) type short_len below room = tt
+FitsPType_by (suc (suc zero)) type short_len below room = tt
+FitsPType_by (suc (suc (suc m))) type short_len below room = tt
+
+-- two bytes are those of their number
+two_again : (xs : List ℕ) → length xs ≡ 2 → AreBytes xs → to_be_bytes w16 (word_at xs 0) ≡ xs
+two_again (a ∷ b ∷ []) len fits =
+    let upper : word_at (a ∷ b ∷ []) 0 / 256 ^ 1 % 256 ≡ a = omega (arith, fits 0, fits 1) in
+    let lower : word_at (a ∷ b ∷ []) 0 % 256 ≡ b = omega (arith, fits 0, fits 1) in
+    λ i. upper i ∷ lower i ∷ []
+two_again _ len fits = absurd (omega arith)
+
+none_left : (k : ℕ) (e : List ℕ) → length e ≡ k → [] ≡ drop k e
+none_left k e len = sym (drop_all k e (omega arith))
+
+-- what stands at the end of a tag is its type, where its flags say so
+type_again : (e : List ℕ) (k m : ℕ) → AreBytes e → length e ≡ k + type_len_by m → ptype_bytes (ptype_by m (word_at e k)) ≡ drop k e
+type_again e k zero fits len =
+    let upper : get_or (drop k e) 0 0 ≡ get_or e k 0 = get_or-drop k e 0 0 ∙ ap (λ (i : ℕ). get_or e i 0) (add-zero k) in
+    let word : word_at e k ≡ word_at (drop k e) 0 = omega (arith, upper, get_or-drop k e 1 0) in
+    ap (to_be_bytes w16) word ∙ two_again (drop k e) (omega (arith, length-drop k e)) (AreBytes-drop k e fits)
+type_again e k (suc zero) fits len = none_left k e (omega arith)
+type_again e k (suc (suc zero)) fits len = none_left k e (omega arith)
+type_again e k (suc (suc (suc m))) fits len = none_left k e (omega arith)
+
+-- the bytes of the identifier are those of its number
+sci_again : (e : List ℕ) → AreBytes e → 14 ≤ length e → to_be_bytes w64 (from_be_bytes w64 (slice_range e 6 14)) ≡ slice_range e 6 14
+sci_again e fits long =
+    be_bytes_8 (slice_range e 6 14) _ (omega (arith, length-take 8 (drop 6 e), length-drop 6 e)) (AreBytes-take 8 (drop 6 e) (AreBytes-drop 6 e fits)) refl
+
+FitsSci_by : (s sci : ℕ) → (0 < s → sci < 2 ^ 64) → FitsSci (sci_by s sci)
+FitsSci_by zero sci below = tt
+FitsSci_by (suc s) sci below = below (omega arith)
+
+-- the identifier and the type stand behind the first 6 bytes
+tail_again : (e : List ℕ) (s m : ℕ) → AreBytes e → s < 2 → length e ≡ 6 + 8 * s + type_len_by m →
+    sci_bytes (sci_by s (from_be_bytes w64 (slice_range e 6 14))) ++ ptype_bytes (ptype_by m (word_at e (6 + 8 * s))) ≡ drop 6 e
+tail_again e zero m fits below len = type_again e 6 m fits len
+tail_again e (suc zero) m fits below len =
+    ap (λ (x : List ℕ). x ++ ptype_bytes (ptype_by m (word_at e 14))) (sci_again e fits (omega arith))
+    ∙ ap (λ (x : List ℕ). slice_range e 6 14 ++ x) (type_again e 14 m fits len ∙ sym (drop-drop 8 6 e))
+    ∙ take-append-drop 8 (drop 6 e)
+tail_again e (suc (suc s)) m fits below len = absurd (omega arith)
+
+-- the first 6 bytes, one by one
+six : (e : List ℕ) → 6 ≤ length e → e ≡ get_or e 0 0 ∷ get_or e 1 0 ∷ (slice_range e 2 6 ++ drop 6 e)
+six e long = grind (arith, common_steps)
+
+pub whole_fits : (e : List ℕ) → AreBytes e → IsWhole e → FitsMacsec (macsec_header_of e)
+whole_fits e fits a = record {
+  ptype = FitsPType_by (modification_of e) (word_at e (6 + 8 * sci_bit_of e)) (short_len_of e) (omega (arith, fits (6 + 8 * sci_bit_of e), fits (6 + 8 * sci_bit_of e + 1))) a.room;
+  an = omega arith;
+  short_len = omega arith;
+  packet_nr = four_below (slice_range e 2 6) (omega (arith, length-take 4 (drop 2 e), length-drop 2 e, a.fixed)) (AreBytes-take 4 (drop 2 e) (AreBytes-drop 2 e fits));
+  sci = FitsSci_by (sci_bit_of e) (from_be_bytes w64 (slice_range e 6 14)) (λ there. eight_below (slice_range e 6 14) (omega (arith, length-take 8 (drop 6 e), length-drop 6 e, a.whole, there)) (AreBytes-take 8 (drop 6 e) (AreBytes-drop 6 e fits)));
+}
+
+pub whole_encodes : (e : List ℕ) → AreBytes e → IsWhole e → EncodesMacsec e (macsec_header_of e)
+whole_encodes e fits a =
+    let h = macsec_header_of e in
+    let packet_nr : slice_range e 2 6 ≡ to_be_bytes w32 (from_be_bytes w32 (slice_range e 2 6)) = sym (be_bytes_4 (slice_range e 2 6) _ (omega (arith, length-take 4 (drop 2 e), length-drop 2 e, a.fixed)) (AreBytes-take 4 (drop 2 e) (AreBytes-drop 2 e fits)) refl) in
+    let tail : drop 6 e ≡ sci_bytes h.sci ++ ptype_bytes h.ptype = sym (tail_again e (sci_bit_of e) (modification_of e) fits (omega arith) a.whole) in
+    let first : get_or e 0 0 ≡ first_of (bit h.endstation_id) (sci_bit h.sci) (bit h.scb) (encryption_bit h.ptype) (changed_text_bit h.ptype) h.an =
+    first_again (get_or e 0 0) _ _ _ _ _ _ a.version (bit_of_read _ (omega arith)) (sci_bit_by (sci_bit_of e) _ (omega arith)) (bit_of_read _ (omega arith)) (bits_by (modification_of e) _ (omega arith)) refl in
+    let second : get_or e 1 0 ≡ 2 ^ 6 * (get_or e 1 0 / 64) + h.short_len = omega arith in
+    record {
+      fits = whole_fits e fits a;
+      reserved = get_or e 1 0 / 64;
+      bits = omega (arith, fits 1);
+      same = six e a.fixed ∙ (λ i. first i ∷ second i ∷ (packet_nr i ++ tail i));
+    }
+
+pub type_len_by_same : (m type : ℕ) → type_len_by m ≡ ptype_len (ptype_by m type)
+type_len_by_same zero type = refl
+type_len_by_same (suc zero) type = refl
+type_len_by_same (suc (suc zero)) type = refl
+type_len_by_same (suc (suc (suc m))) type = refl
+
+-- both flags
+pub encrypted_by : (m type : ℕ) → 2 < m → ptype.Encrypted ≡ ptype_by m type
+encrypted_by zero type both = absurd (omega arith)
+encrypted_by (suc zero) type both = absurd (omega arith)
+encrypted_by (suc (suc zero)) type both = absurd (omega arith)
+encrypted_by (suc (suc (suc m))) type both = refl

@@ -1,0 +1,95 @@
+-- ARP (RFC 826).
+use Rattle.std.specs.Prelude.{◌≡◌, ℕ, ◌+◌, ◌*◌, ◌^◌, ◌<◌, ◌≤◌, ◌⊎◌, List, [], ◌∷◌, ◌++◌, length, slice_index, slice_range}
+use Rattle.std.specs.Int.{w16, to_be_bytes}
+use Rattle.ep_base.specs.Bytes.{AreBytes, word_at}
+use Rattle.ep_base.specs.Layer.{len_error}
+use Rattle.ep_base.specs.declared.ether_type.EtherType.{EtherType}
+use Rattle.ep_base.specs.declared.err.len_error.LenError.{LenError}
+use Rattle.ep_base.specs.declared.err.layer.Layer.TheVariants as layer
+use Rattle.ep_base.specs.declared.len_source.LenSource.TheVariants as source
+use Rattle.ep_link.specs.declared.arp_hardware_id.ArpHardwareId.{ArpHardwareId}
+use Rattle.ep_link.specs.declared.arp_operation.ArpOperation.{ArpOperation}
+use Rattle.ep_link.specs.declared.err.arp.arp_hw_addr_error.ArpHwAddrError.TheVariants as hw_error
+use Rattle.ep_link.specs.declared.err.arp.arp_proto_addr_error.ArpProtoAddrError.TheVariants as proto_error
+use Rattle.ep_link.specs.declared.err.arp.arp_new_error.ArpNewError.{ArpNewError}
+use Rattle.ep_link.specs.declared.err.arp.arp_new_error.ArpNewError.TheVariants as new_error
+
+-- a packet as plain data, each address as its bytes
+pub record Arp : Type 0 where
+  pub hw_addr_type : ArpHardwareId
+  pub proto_addr_type : EtherType
+  pub operation : ArpOperation
+  pub sender_hw_addr : List ℕ
+  pub sender_protocol_addr : List ℕ
+  pub target_hw_addr : List ℕ
+  pub target_protocol_addr : List ℕ
+
+-- each field fits its place, and the addresses of sender and target have one length
+pub record FitsArp (packet : Arp) : Type 0 where
+  pub hw_addr_type : packet.hw_addr_type.0 < 2 ^ 16
+  pub proto_addr_type : packet.proto_addr_type.0 < 2 ^ 16
+  pub operation : packet.operation.0 < 2 ^ 16
+  pub hw_addr_len : length packet.sender_hw_addr ≤ 255
+  pub same_hw_addr_len : length packet.target_hw_addr ≡ length packet.sender_hw_addr
+  pub protocol_addr_len : length packet.sender_protocol_addr ≤ 255
+  pub same_protocol_addr_len : length packet.target_protocol_addr ≡ length packet.sender_protocol_addr
+  pub sender_hw_addr : AreBytes packet.sender_hw_addr
+  pub sender_protocol_addr : AreBytes packet.sender_protocol_addr
+  pub target_hw_addr : AreBytes packet.target_hw_addr
+  pub target_protocol_addr : AreBytes packet.target_protocol_addr
+
+-- the number of bytes of a packet
+abbrev pub arp_len : Arp → ℕ
+arp_len packet = 8 + 2 * length packet.sender_hw_addr + 2 * length packet.sender_protocol_addr
+
+-- The bytes of a packet: two types, the two address lengths, the operation, and the addresses of sender and target.
+abbrev pub arp_bytes : Arp → List ℕ
+arp_bytes packet =
+    to_be_bytes w16 packet.hw_addr_type.0 ++ to_be_bytes w16 packet.proto_addr_type.0
+    ++ length packet.sender_hw_addr ∷ length packet.sender_protocol_addr ∷ []
+    ++ to_be_bytes w16 packet.operation.0
+    ++ packet.sender_hw_addr ++ packet.sender_protocol_addr ++ packet.target_hw_addr ++ packet.target_protocol_addr
+
+-- the bytes are a packet, and what is left behind it
+pub record IsArp (bytes : List ℕ) (packet : Arp) (left : List ℕ) : Type 0 where
+  pub fits : FitsArp packet
+  pub parts : bytes ≡ arp_bytes packet ++ left
+
+-- the number of bytes of the packet that the two address lengths, bytes 4 and 5, demand
+abbrev pub arp_len_of : List ℕ → ℕ
+arp_len_of bytes = 8 + 2 * slice_index bytes 4 + 2 * slice_index bytes 5
+
+-- why bytes begin with no packet
+abbrev pub RefusesArp : List ℕ → LenError → Type 0
+RefusesArp bytes error =
+    ((length bytes < 8) × (error ≡ len_error 8 (length bytes) source.Slice layer.Arp))
+    ⊎ ((8 ≤ length bytes) × (length bytes < arp_len_of bytes) × (error ≡ len_error (arp_len_of bytes) (length bytes) source.ArpAddrLengths layer.Arp))
+
+-- the packet that stands at the front of bytes
+abbrev pub arp_packet_of : List ℕ → Arp
+arp_packet_of bytes =
+    let hw = slice_index bytes 4 in
+    let protocol = slice_index bytes 5 in
+    record {
+      hw_addr_type = record { 0 = word_at bytes 0 };
+      proto_addr_type = record { 0 = word_at bytes 2 };
+      operation = record { 0 = word_at bytes 6 };
+      sender_hw_addr = slice_range bytes 8 (8 + hw);
+      sender_protocol_addr = slice_range bytes (8 + hw) (8 + hw + protocol);
+      target_hw_addr = slice_range bytes (8 + hw + protocol) (8 + 2 * hw + protocol);
+      target_protocol_addr = slice_range bytes (8 + 2 * hw + protocol) (8 + 2 * hw + 2 * protocol);
+    }
+
+-- why no packet is made of these addresses
+abbrev pub RefusesArpAddresses : List ℕ → List ℕ → List ℕ → List ℕ → ArpNewError → Type 0
+RefusesArpAddresses sender_hw sender_protocol target_hw target_protocol error =
+    ((¬ (length sender_hw ≡ length target_hw))
+    × (error ≡ new_error.HwAddr (hw_error.LenNonMatching (length sender_hw) (length target_hw))))
+    ⊎ ((length sender_hw ≡ length target_hw) × (255 < length sender_hw)
+    × (error ≡ new_error.HwAddr (hw_error.LenTooBig (length sender_hw))))
+    ⊎ ((length sender_hw ≡ length target_hw) × (length sender_hw ≤ 255)
+    × (¬ (length sender_protocol ≡ length target_protocol))
+    × (error ≡ new_error.ProtoAddr (proto_error.LenNonMatching (length sender_protocol) (length target_protocol))))
+    ⊎ ((length sender_hw ≡ length target_hw) × (length sender_hw ≤ 255)
+    × (length sender_protocol ≡ length target_protocol) × (255 < length sender_protocol)
+    × (error ≡ new_error.ProtoAddr (proto_error.LenTooBig (length sender_protocol))))

@@ -1,0 +1,239 @@
+-- MACsec (IEEE 802.1AE, 9).
+use Rattle.std.specs.Prelude.{◌≡◌, ℕ, zero, suc, ◌+◌, ◌-◌, ◌*◌, ◌/◌, ◌%◌, ◌^◌, ◌<◌, ◌≤◌, ◌⊎◌, ◌==◌, ⊤, List, [], ◌∷◌, ◌++◌, length, Option, Some, None, slice_index, slice_range}
+use Rattle.std.specs.Int.{w16, w32, w64, to_be_bytes, from_be_bytes}
+use Rattle.ep_base.specs.Bytes.{word_at, bit}
+use Rattle.ep_base.specs.Layer.{len_error}
+use Rattle.ep_base.specs.declared.ether_type.EtherType.{EtherType}
+use Rattle.ep_base.specs.declared.len_source.LenSource.{LenSource}
+use Rattle.ep_base.specs.declared.len_source.LenSource.TheVariants as source
+use Rattle.ep_base.specs.declared.err.layer.Layer.TheVariants as layer
+use Rattle.ep_base.specs.declared.err.macsec.HeaderError.TheVariants as content
+use Rattle.ep_base.specs.declared.err.macsec.HeaderSliceError.{HeaderSliceError}
+use Rattle.ep_base.specs.declared.err.macsec.HeaderSliceError.TheVariants as header_error
+use Rattle.ep_link.specs.declared.macsec_ptype.MacsecPType.{MacsecPType}
+use Rattle.ep_link.specs.declared.macsec_ptype.MacsecPType.TheVariants as ptype
+use Rattle.ep_link.specs.declared.macsec_header.MacsecHeader.{MacsecHeader}
+
+-- ---- the bytes of a tag
+
+-- the flag E: the payload is encrypted
+abbrev pub encryption_bit : MacsecPType → ℕ
+encryption_bit (ptype.Unmodified type) = 0
+encryption_bit ptype.Modified = 0
+encryption_bit ptype.Encrypted = 1
+encryption_bit ptype.EncryptedUnmodified = 1
+
+-- the flag C: the payload's text is changed
+abbrev pub changed_text_bit : MacsecPType → ℕ
+changed_text_bit (ptype.Unmodified type) = 0
+changed_text_bit ptype.Modified = 1
+changed_text_bit ptype.Encrypted = 1
+changed_text_bit ptype.EncryptedUnmodified = 0
+
+-- the type of the payload, which can be read where both flags are 0
+abbrev pub ptype_bytes : MacsecPType → List ℕ
+ptype_bytes (ptype.Unmodified type) = to_be_bytes w16 type.0
+ptype_bytes ptype.Modified = []
+ptype_bytes ptype.Encrypted = []
+ptype_bytes ptype.EncryptedUnmodified = []
+
+-- the flag SC: the secure channel identifier is there
+abbrev pub sci_bit : Option ℕ → ℕ
+sci_bit None = 0
+sci_bit (Some sci) = 1
+
+-- the secure channel identifier, where it is there
+abbrev pub sci_bytes : Option ℕ → List ℕ
+sci_bytes None = []
+sci_bytes (Some sci) = to_be_bytes w64 sci
+
+-- The bytes of a tag, with the two reserved bits above the short length. The first byte is the flags (version, end
+-- station, SC, single copy broadcast, E, C) and the association number.
+abbrev pub macsec_bytes_with : ℕ → MacsecHeader → List ℕ
+macsec_bytes_with reserved header =
+    (2 ^ 6 * bit header.endstation_id + 2 ^ 5 * sci_bit header.sci + 2 ^ 4 * bit header.scb
+    + 2 ^ 3 * encryption_bit header.ptype + 2 ^ 2 * changed_text_bit header.ptype + header.an)
+    ∷ (2 ^ 6 * reserved + header.short_len) ∷ []
+    ++ to_be_bytes w32 header.packet_nr ++ sci_bytes header.sci ++ ptype_bytes header.ptype
+
+-- the bytes of a tag as it is written: the reserved bits are 0
+abbrev pub macsec_bytes : MacsecHeader → List ℕ
+macsec_bytes header = macsec_bytes_with 0 header
+
+-- how many bytes of the type stand behind the tag proper
+abbrev pub ptype_len : MacsecPType → ℕ
+ptype_len (ptype.Unmodified type) = 2
+ptype_len ptype.Modified = 0
+ptype_len ptype.Encrypted = 0
+ptype_len ptype.EncryptedUnmodified = 0
+
+-- how many bytes of the identifier there are
+abbrev pub sci_len : Option ℕ → ℕ
+sci_len None = 0
+sci_len (Some sci) = 8
+
+-- the number of bytes of a tag, with the type behind it
+abbrev pub macsec_header_len : MacsecHeader → ℕ
+macsec_header_len header = 6 + sci_len header.sci + ptype_len header.ptype
+
+-- ---- which bytes are MACsec
+
+-- the type fits, and a short length other than 0 has room for it
+abbrev pub FitsPType : MacsecPType → ℕ → Type 0
+FitsPType (ptype.Unmodified type) short_len = (type.0 < 2 ^ 16) × (¬ (short_len ≡ 1))
+FitsPType ptype.Modified short_len = ⊤
+FitsPType ptype.Encrypted short_len = ⊤
+FitsPType ptype.EncryptedUnmodified short_len = ⊤
+
+-- the identifier fits its 64 bits
+abbrev pub FitsSci : Option ℕ → Type 0
+FitsSci None = ⊤
+FitsSci (Some sci) = sci < 2 ^ 64
+
+-- each field fits its place
+pub record FitsMacsec (header : MacsecHeader) : Type 0 where
+  pub ptype : FitsPType header.ptype header.short_len
+  pub an : header.an < 2 ^ 2
+  pub short_len : header.short_len < 2 ^ 6
+  pub packet_nr : header.packet_nr < 2 ^ 32
+  pub sci : FitsSci header.sci
+
+-- the bytes are the tag's, whatever the reserved bits
+pub record EncodesMacsec (bytes : List ℕ) (header : MacsecHeader) : Type 0 where
+  pub fits : FitsMacsec header
+  pub reserved : ℕ
+  pub bits : reserved < 4
+  pub same : bytes ≡ macsec_bytes_with reserved header
+
+-- the bytes are a tag, and then the rest
+pub record IsMacsecHeader (bytes : List ℕ) (header : MacsecHeader) (rest : List ℕ) : Type 0 where
+  pub encoded : List ℕ
+  pub encodes : EncodesMacsec encoded header
+  pub parts : bytes ≡ encoded ++ rest
+
+-- The bytes are a tag, its payload, and what its short length leaves behind it. The short length counts what follows the
+-- tag proper: the type, where it can be read, and the payload. The number 0 leaves nothing.
+pub record IsMacsec (bytes : List ℕ) (header : MacsecHeader) (payload left : List ℕ) : Type 0 where
+  pub encoded : List ℕ
+  pub encodes : EncodesMacsec encoded header
+  pub parts : bytes ≡ (encoded ++ payload) ++ left
+  pub cut : ((0 < header.short_len) × (header.short_len ≡ ptype_len header.ptype + length payload))
+      ⊎ ((header.short_len ≡ 0) × (left ≡ []))
+
+-- ---- what is read from bytes
+
+-- the short length, the lower 6 bits of byte 1
+abbrev pub short_len_of : List ℕ → ℕ
+short_len_of bytes = slice_index bytes 1 % 64
+
+-- the flags E and C as a number of two bits: 0 where the payload is unmodified
+abbrev pub modification_of : List ℕ → ℕ
+modification_of bytes = slice_index bytes 0 / 4 % 4
+
+-- the flag SC
+abbrev pub sci_bit_of : List ℕ → ℕ
+sci_bit_of bytes = slice_index bytes 0 / 32 % 2
+
+-- how many bytes of the type such flags demand
+abbrev pub type_len_by : ℕ → ℕ
+type_len_by zero = 2
+type_len_by (suc modification) = 0
+
+-- the number of bytes of the tag that the flags demand, with the type behind it
+abbrev pub tag_len_of : List ℕ → ℕ
+tag_len_of bytes = 6 + 8 * sci_bit_of bytes + type_len_by (modification_of bytes)
+
+-- the number of payload bytes that a short length other than 0 demands
+abbrev pub payload_len_of : List ℕ → ℕ
+payload_len_of bytes = short_len_of bytes - type_len_by (modification_of bytes)
+
+-- a payload whose type can be read has no room for it
+abbrev pub HasNoRoomForType : List ℕ → Type 0
+HasNoRoomForType bytes = (modification_of bytes ≡ 0) × (short_len_of bytes ≡ 1)
+
+-- the bytes begin with a whole tag
+pub record BeginsMacsec (bytes : List ℕ) : Type 0 where
+  pub fixed : 6 ≤ length bytes
+  pub version : slice_index bytes 0 < 128
+  pub room : ¬ HasNoRoomForType bytes
+  pub whole : tag_len_of bytes ≤ length bytes
+
+-- why bytes begin with no tag
+abbrev pub RefusesMacsecHeader : List ℕ → HeaderSliceError → Type 0
+RefusesMacsecHeader bytes error =
+    ((length bytes < 6) × (error ≡ header_error.Len (len_error 6 (length bytes) source.Slice layer.MacsecHeader)))
+    ⊎ ((6 ≤ length bytes) × (128 ≤ slice_index bytes 0) × (error ≡ header_error.Content content.UnexpectedVersion))
+    ⊎ ((6 ≤ length bytes) × (slice_index bytes 0 < 128) × HasNoRoomForType bytes × (error ≡ header_error.Content content.InvalidUnmodifiedShortLen))
+    ⊎ ((6 ≤ length bytes) × (slice_index bytes 0 < 128) × (¬ HasNoRoomForType bytes) × (length bytes < tag_len_of bytes) × (error ≡ header_error.Len (len_error (tag_len_of bytes) (length bytes) source.Slice layer.MacsecHeader)))
+
+-- why bytes begin with no tag and the payload that its short length demands
+abbrev pub RefusesMacsec : List ℕ → HeaderSliceError → Type 0
+RefusesMacsec bytes error =
+    RefusesMacsecHeader bytes error
+    ⊎ (BeginsMacsec bytes × (0 < short_len_of bytes) × (length bytes < tag_len_of bytes + payload_len_of bytes)
+    × (error ≡ header_error.Len (len_error (tag_len_of bytes + payload_len_of bytes) (length bytes) source.Slice layer.MacsecPacket)))
+
+-- what such flags say of the payload, whose type is this where it can be read
+abbrev pub ptype_by : ℕ → ℕ → MacsecPType
+ptype_by zero type = ptype.Unmodified (record { 0 = type })
+ptype_by (suc zero) type = ptype.Modified
+ptype_by (suc (suc zero)) type = ptype.EncryptedUnmodified
+ptype_by (suc (suc (suc n))) type = ptype.Encrypted
+
+-- the identifier, where the flag says that it is there
+abbrev pub sci_by : ℕ → ℕ → Option ℕ
+sci_by zero sci = None
+sci_by (suc n) sci = Some sci
+
+-- the tag that stands at the front of bytes
+abbrev pub macsec_header_of : List ℕ → MacsecHeader
+macsec_header_of bytes = record {
+  ptype = ptype_by (modification_of bytes) (word_at bytes (6 + 8 * sci_bit_of bytes));
+  endstation_id = slice_index bytes 0 / 64 % 2 == 1;
+  scb = slice_index bytes 0 / 16 % 2 == 1;
+  an = slice_index bytes 0 % 4;
+  short_len = short_len_of bytes;
+  packet_nr = from_be_bytes w32 (slice_range bytes 2 6);
+  sci = sci_by (sci_bit_of bytes) (from_be_bytes w64 (slice_range bytes 6 14));
+}
+
+-- ---- the payload
+
+-- The payload of a tag, as plain data: as it was sent, with its type and what set its end; or modified, so that its type
+-- can't be read.
+pub data MacsecPayload : Type 0 where
+  unmodified : EtherType → LenSource → List ℕ → MacsecPayload
+  modified : List ℕ → MacsecPayload
+
+-- the bytes of the payload
+abbrev pub macsec_payload_bytes : MacsecPayload → List ℕ
+macsec_payload_bytes (unmodified type source bytes) = bytes
+macsec_payload_bytes (modified bytes) = bytes
+
+-- what sets the end of the payload: a short length other than 0, or the end of all bytes
+abbrev pub macsec_len_source : ℕ → LenSource
+macsec_len_source zero = source.Slice
+macsec_len_source (suc n) = source.MacsecShortLength
+
+-- the payload of this kind
+abbrev pub payload_by : MacsecPType → LenSource → List ℕ → MacsecPayload
+payload_by (ptype.Unmodified type) source bytes = unmodified type source bytes
+payload_by ptype.Modified source bytes = modified bytes
+payload_by ptype.Encrypted source bytes = modified bytes
+payload_by ptype.EncryptedUnmodified source bytes = modified bytes
+
+-- the payload of a tag with these bytes behind it
+abbrev pub macsec_payload : MacsecHeader → List ℕ → MacsecPayload
+macsec_payload header bytes = payload_by header.ptype (macsec_len_source header.short_len) bytes
+
+-- the type of the payload, where it can be read
+abbrev pub ptype_type : MacsecPType → Option EtherType
+ptype_type (ptype.Unmodified type) = Some type
+ptype_type ptype.Modified = None
+ptype_type ptype.Encrypted = None
+ptype_type ptype.EncryptedUnmodified = None
+
+-- the type of the payload, where it can be read
+abbrev pub macsec_payload_type : MacsecPayload → Option EtherType
+macsec_payload_type (unmodified type source bytes) = Some type
+macsec_payload_type (modified bytes) = None

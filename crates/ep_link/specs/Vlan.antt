@@ -1,0 +1,76 @@
+-- VLAN tags (IEEE 802.1Q, 9.6).
+use Rattle.std.specs.Prelude.{◌≡◌, ℕ, ◌+◌, ◌-◌, ◌*◌, ◌/◌, ◌%◌, ◌^◌, ◌<◌, ◌≤◌, ◌⊎◌, ◌==◌, List, [], ◌++◌, length, drop, slice_index}
+use Rattle.std.specs.Int.{w16, to_be_bytes}
+use Rattle.ep_base.specs.Bytes.{word_at, bit}
+use Rattle.ep_base.specs.Layer.{len_error}
+use Rattle.ep_base.specs.declared.err.len_error.LenError.{LenError}
+use Rattle.ep_base.specs.declared.err.layer.Layer.TheVariants as layer
+use Rattle.ep_base.specs.declared.len_source.LenSource.TheVariants as source
+use Rattle.ep_link.specs.declared.single_vlan_header.SingleVlanHeader.{SingleVlanHeader}
+use Rattle.ep_link.specs.declared.double_vlan_header.DoubleVlanHeader.{DoubleVlanHeader}
+use Rattle.ep_link.specs.declared.vlan_header.VlanHeader.{VlanHeader}
+use Rattle.ep_link.specs.declared.vlan_header.VlanHeader.TheVariants as tags
+
+-- each field fits its place
+pub record FitsVlan (header : SingleVlanHeader) : Type 0 where
+  pub pcp : header.pcp < 2 ^ 3
+  pub vlan_id : header.vlan_id < 2 ^ 12
+  pub ether_type : header.ether_type.0 < 2 ^ 16
+
+-- the number of bytes of a tag
+abbrev pub vlan_header_len : ℕ
+vlan_header_len = 4
+
+-- The bytes of a tag behind its ether type: the priority, the drop eligible flag and the identifier in 3, 1 and 12 bits,
+-- then the type of what follows.
+abbrev pub vlan_bytes : SingleVlanHeader → List ℕ
+vlan_bytes header =
+    to_be_bytes w16 (2 ^ 13 * header.pcp + 2 ^ 12 * bit header.drop_eligible_indicator + header.vlan_id)
+    ++ to_be_bytes w16 header.ether_type.0
+
+-- the bytes are a tag and its payload, and nothing is left behind them
+pub record IsVlan (bytes : List ℕ) (header : SingleVlanHeader) (payload left : List ℕ) : Type 0 where
+  pub fits : FitsVlan header
+  pub parts : bytes ≡ (vlan_bytes header ++ payload) ++ left
+  pub cut : left ≡ []
+
+-- why bytes begin with no tag
+abbrev pub RefusesVlan : List ℕ → LenError → Type 0
+RefusesVlan bytes error =
+    (length bytes < 4) × (error ≡ len_error 4 (length bytes) source.Slice layer.VlanHeader)
+
+-- the tag that stands at the front of 4 bytes and more
+abbrev pub vlan_header_of : List ℕ → SingleVlanHeader
+vlan_header_of bytes = record {
+  pcp = slice_index bytes 0 / 32;
+  drop_eligible_indicator = slice_index bytes 0 / 16 % 2 == 1;
+  vlan_id = word_at bytes 0 % 4096;
+  ether_type = record { 0 = word_at bytes 2 };
+}
+
+-- the bytes of two tags, the outer one first
+abbrev pub double_vlan_bytes : DoubleVlanHeader → List ℕ
+double_vlan_bytes header = vlan_bytes header.outer ++ vlan_bytes header.inner
+
+-- the bytes are two tags and the payload of the inner one, and nothing is left behind them
+pub record IsDoubleVlan (bytes : List ℕ) (header : DoubleVlanHeader) (payload left : List ℕ) : Type 0 where
+  pub outer : FitsVlan header.outer
+  pub inner : FitsVlan header.inner
+  pub parts : bytes ≡ (double_vlan_bytes header ++ payload) ++ left
+  pub cut : left ≡ []
+
+-- why bytes begin with no two tags: there is no outer one, or no inner one behind its 4 bytes
+abbrev pub RefusesDoubleVlan : List ℕ → LenError → Type 0
+RefusesDoubleVlan bytes error =
+    RefusesVlan bytes error
+    ⊎ ((4 ≤ length bytes) × (length bytes < 8)
+    × (error ≡ record (len_error 4 (length bytes - 4) source.Slice layer.VlanHeader) { layer_start_offset = 4 }))
+
+-- the tags that stand at the front of 8 bytes and more
+abbrev pub double_vlan_header_of : List ℕ → DoubleVlanHeader
+double_vlan_header_of bytes = record { outer = vlan_header_of bytes; inner = vlan_header_of (drop 4 bytes) }
+
+-- the bytes of one tag or of two
+abbrev pub vlan_tags_bytes : VlanHeader → List ℕ
+vlan_tags_bytes (tags.Single header) = vlan_bytes header
+vlan_tags_bytes (tags.Double header) = double_vlan_bytes header

@@ -1,0 +1,41 @@
+-- What slices of VLAN tags show.
+use Rattle.std.specs.Prelude.{ℕ, List, drop}
+use Rattle.ep_link.specs.declared.single_vlan_header.SingleVlanHeader.{SingleVlanHeader}
+use Rattle.ep_link.specs.declared.double_vlan_header.DoubleVlanHeader.{DoubleVlanHeader}
+use Rattle.ep_link.specs.declared.vlan_header.VlanHeader.{VlanHeader}
+use Rattle.ep_link.specs.declared.vlan_header.VlanHeader.TheVariants as tags
+use Rattle.ep_link.specs.declared.single_vlan_slice.SingleVlanSlice.{SingleVlanSlice}
+use Rattle.ep_link.specs.declared.double_vlan_slice.DoubleVlanSlice.{DoubleVlanSlice}
+use Rattle.ep_link.specs.declared.vlan_slice.VlanSlice.{VlanSlice}
+use Rattle.ep_link.specs.declared.vlan_slice.VlanSlice.TheVariants as slice
+use Rattle.ep_link.specs.Vlan.{vlan_header_of}
+
+-- the bytes of tag and payload
+abbrev pub vlan_slice_bytes : SingleVlanSlice → List ℕ
+vlan_slice_bytes slice = slice.slice.now
+
+-- its tag
+abbrev pub vlan_slice_header : SingleVlanSlice → SingleVlanHeader
+vlan_slice_header slice = vlan_header_of (vlan_slice_bytes slice)
+
+-- the bytes after its tag
+abbrev pub vlan_slice_payload : SingleVlanSlice → List ℕ
+vlan_slice_payload slice = drop 4 (vlan_slice_bytes slice)
+
+-- two tags
+abbrev pub double_vlan_slice_header : DoubleVlanSlice → DoubleVlanHeader
+double_vlan_slice_header slice = record { outer = vlan_slice_header slice.outer; inner = vlan_slice_header slice.inner }
+
+-- the bytes after the inner of two tags
+abbrev pub double_vlan_slice_payload : DoubleVlanSlice → List ℕ
+double_vlan_slice_payload slice = vlan_slice_payload slice.inner
+
+-- one tag or two
+abbrev pub vlan_tags_of : VlanSlice → VlanHeader
+vlan_tags_of (slice.SingleVlan tag) = tags.Single (vlan_slice_header tag)
+vlan_tags_of (slice.DoubleVlan pair) = tags.Double (double_vlan_slice_header pair)
+
+-- the innermost tag
+abbrev pub innermost_tag : VlanSlice → SingleVlanSlice
+innermost_tag (slice.SingleVlan tag) = tag
+innermost_tag (slice.DoubleVlan pair) = pair.inner

@@ -1,0 +1,8 @@
+-- The VLAN tags among the link extensions, one after the other.
+use Rattle.std.proofs.Common.{◌≡◌, ℕ, List, ◌∷◌, Option, Some, None}
+use Rattle.ep_link.specs.declared.single_vlan_slice.SingleVlanSlice.{SingleVlanSlice}
+
+-- the tags with one before them, where there is one
+abbrev pub tags_with : Option SingleVlanSlice → List SingleVlanSlice → List SingleVlanSlice
+tags_with None tags = tags
+tags_with (Some tag) tags = tag ∷ tags
