@@ -49,11 +49,12 @@ fn too_short(
 
 #[test]
 fn payloads_behind_extensions(rt: HostRuntime) -> Result<(), Fail> {
-    // the extensions: a VLAN tag by its identifier, and None for a MACsec tag
-    let rows: [(&[u8], &[Option<u16>], Option<EtherPayloadSlice<'_>>); 5] = [
+    // how many extensions there are, how many of them are VLAN tags, and the payload behind them
+    let rows: [(&[u8], usize, usize, Option<EtherPayloadSlice<'_>>); 5] = [
         (
             FOUR_TAGS,
-            &[Some(1), Some(2), Some(3)],
+            3,
+            3,
             Some(EtherPayloadSlice {
                 ether_type: EtherType(0x8100),
                 len_source: LenSource::Slice,
@@ -62,7 +63,8 @@ fn payloads_behind_extensions(rt: HostRuntime) -> Result<(), Fail> {
         ),
         (
             b"\x88\xe5\x00\x00\x00\x00\x00\x00\x81\x00\x00\x01\x81\x00\x00\x02\x81\x00\x00\x03\x08\x00",
-            &[None, Some(1), Some(2)],
+            3,
+            2,
             Some(EtherPayloadSlice {
                 ether_type: EtherType(0x8100),
                 len_source: LenSource::Slice,
@@ -71,7 +73,8 @@ fn payloads_behind_extensions(rt: HostRuntime) -> Result<(), Fail> {
         ),
         (
             b"\x88\xe5\x00\x05\x00\x00\x00\x01\x12\x34\x01\x02\x03\xff\xff",
-            &[None],
+            1,
+            0,
             Some(EtherPayloadSlice {
                 ether_type: EtherType(0x1234),
                 len_source: LenSource::MacsecShortLength,
@@ -80,32 +83,24 @@ fn payloads_behind_extensions(rt: HostRuntime) -> Result<(), Fail> {
         ),
         (
             b"\x88\xe5\x00\x08\x00\x00\x00\x01\x81\x00\x00\x07\x12\x34\x01\x02\xff\xff",
-            &[None, Some(7)],
+            2,
+            1,
             Some(EtherPayloadSlice {
                 ether_type: EtherType(0x1234),
                 len_source: LenSource::MacsecShortLength,
                 payload: b"\x01\x02",
             }),
         ),
-        (MODIFIED, &[None], None),
+        (MODIFIED, 1, 0, None),
     ];
-    for (type_and_payload, extensions, payload) in &rows {
+    for (type_and_payload, extensions, tags, payload) in &rows {
         let frame = ethernet(rt.alloc(), type_and_payload)?;
         let packet = SlicedPacket::from_ethernet(&frame)?;
         assert!(rt; packet.net.is_none());
-        assert_eq!(rt; packet.link_exts.len(), extensions.len());
-        let mut ids = Vec::new(rt.alloc());
-        for (extension, id) in packet.link_exts.iter().zip(extensions.iter()) {
-            match extension {
-                LinkExtSlice::Vlan(tag) => {
-                    assert_eq!(rt; Some(tag.vlan_identifier().value()), *id);
-                    ids.push(tag.vlan_identifier())?;
-                }
-                LinkExtSlice::Macsec(_) => assert_eq!(rt; None, *id),
-            }
-        }
-        assert_eq!(rt; packet.vlan_ids().as_slice(), ids.as_slice());
+        assert_eq!(rt; packet.link_exts.len(), *extensions);
+        assert_eq!(rt; packet.vlan_ids().len(), *tags);
         assert_eq!(rt; packet.ether_payload(), payload.clone()?);
+        assert_eq!(rt; packet.clone()?, packet);
         assert_eq!(rt;
             packet.payload_ether_type(),
             payload.as_ref().map(|p| p.ether_type)
@@ -124,6 +119,11 @@ fn outer_tags_and_modified_payload(rt: HostRuntime) -> Result<(), Fail> {
     };
     assert_eq!(rt; tags.outer.vlan_identifier().value(), 1);
     assert_eq!(rt; tags.inner.vlan_identifier().value(), 2);
+    let ids = packet.vlan_ids();
+    assert_eq!(rt; ids.len(), 3);
+    for (before, id) in ids.iter().enumerate() {
+        assert_eq!(rt; id.value() as usize, before + 1);
+    }
     let frame = ethernet(rt.alloc(), MODIFIED)?;
     let packet = SlicedPacket::from_ethernet(&frame)?;
     assert!(rt; packet.vlan().is_none());
