@@ -3,3 +3,4 @@ pub mod Bytes
 pub mod Checksum
 pub mod Layer
 pub mod Names
+pub mod Padding

@@ -1,4 +1,3 @@
-pub mod Options
 pub mod Ipv4
 pub mod IpPayload
 pub mod Ipv4Slices

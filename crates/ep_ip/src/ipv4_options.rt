@@ -17,7 +17,7 @@ pub struct Ipv4Options {
 
 impl Model for Ipv4Options {
     ghost use Rattle.std.specs.Prelude.{◌≡◌, ℕ, ◌-◌, ◌≤◌, ◌%◌, List, ◌++◌, length, take, drop, replicate};
-    ghost use Rattle.ep_ip.specs.Options.{padded, padded_front};
+    ghost use Rattle.ep_base.specs.Padding.{padded, padded_front};
     ghost use Rattle.std.proofs.Common.{arith, length-take-le};
 
     ghost Value = { List ℕ };
@@ -26,10 +26,10 @@ impl Model for Ipv4Options {
 
     ghost invariant = { λ o. (length o.bytes ≡ 40) × (o.len ≤ 40) × (o.len % 4 ≡ 0) × (drop o.len o.bytes ≡ replicate (40 - o.len) 0) };
 
-    ghost inverse = { λ options. record { bytes = padded options; len = length options } };
+    ghost inverse = { λ options. record { bytes = padded 40 options; len = length options } };
 
     ghost inverse_ok = { λ o h i. record {
-      bytes = padded_front o.len o.bytes h.0 h.1 h.3 i;
+      bytes = padded_front 40 o.len o.bytes h.0 h.1 h.3 i;
       len = length-take-le o.len o.bytes (Prim.omega (arith, h.0, h.1)) i;
     } };
 }

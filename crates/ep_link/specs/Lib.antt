@@ -7,7 +7,6 @@ pub mod VlanSlices
 pub mod Macsec
 pub mod MacsecSlices
 pub mod Arp
-pub mod ArpAddresses
 pub mod ArpSlices
 pub mod EtherPayloads
 pub mod LinkSlices

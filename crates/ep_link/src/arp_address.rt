@@ -15,7 +15,7 @@ pub(crate) struct ArpAddress {
 
 impl Model for ArpAddress {
     ghost use Rattle.std.specs.Prelude.{◌≡◌, ℕ, ◌-◌, ◌≤◌, List, ◌++◌, length, take, drop, replicate};
-    ghost use Rattle.ep_link.specs.ArpAddresses.{padded_address, padded_address_front};
+    ghost use Rattle.ep_base.specs.Padding.{padded, padded_front};
     ghost use Rattle.std.proofs.Common.{arith, length-take-le};
 
     ghost Value = { List ℕ };
@@ -24,10 +24,10 @@ impl Model for ArpAddress {
 
     ghost invariant = { λ a. (length a.bytes ≡ 255) × (a.len ≤ 255) × (drop a.len a.bytes ≡ replicate (255 - a.len) 0) };
 
-    ghost inverse = { λ address. record { bytes = padded_address address; len = length address } };
+    ghost inverse = { λ address. record { bytes = padded 255 address; len = length address } };
 
     ghost inverse_ok = { λ a h i. record {
-      bytes = padded_address_front a.len a.bytes h.0 h.1 h.2 i;
+      bytes = padded_front 255 a.len a.bytes h.0 h.1 h.2 i;
       len = length-take-le a.len a.bytes (Prim.omega (arith, h.0, h.1)) i;
     } };
 }

@@ -1,5 +1,5 @@
 -- The VLAN tags among the link extensions, one after the other.
-use Rattle.std.proofs.Common.{◌≡◌, ℕ, List, ◌∷◌, Option, Some, None}
+use Rattle.std.proofs.Common.{List, ◌∷◌, Option, Some, None}
 use Rattle.ep_link.specs.declared.single_vlan_slice.SingleVlanSlice.{SingleVlanSlice}
 
 -- the tags with one before them, where there is one

@@ -6,9 +6,7 @@ use Rattle.std.specs.Option.{option_map}
 use Rattle.std.specs.Prelude.{IfSome}
 use Rattle.ep_base.specs.declared.ether_type.EtherType.{EtherType}
 use Rattle.ep_link.specs.declared.link_ext_slice.LinkExtSlice.{LinkExtSlice}
-use Rattle.ep_link.specs.LinkExtensions.{LinkExtension, IsLinkExtension, link_extension_of, extension_header, extension_payload, extension_type, link_ext_header_len}
-use Rattle.ep_transport.specs.TransportSlices.{transport_layer_of}
-use Rattle.ep_packet.specs.Layers.{net_layer_of}
+use Rattle.ep_link.specs.LinkExtensions.{LinkExtension, IsLinkExtension, link_extension_of, extension_payload, extension_type}
 use Rattle.ep_packet.specs.Frame.{IsInside, most_link_exts}
 use Rattle.ep_packet.specs.Refusals.{RefusesInside}
 use Rattle.ep_packet.proofs.InsideWalkLemmas.{IsOkAnd-weaker, ends, steps_only, steps_refused, one_more}

@@ -1,6 +1,6 @@
-use Rattle.std.proofs.Common.{◌≡◌, ◌-◌, ◌++◌, ℕ, List, [], map, length, refl, sym, ap, subst, ◌∙◌}
+use Rattle.std.proofs.Common.{◌-◌, ◌++◌, List, map, length, refl, sym, ap, subst, ◌∙◌}
 use Rattle.ep_link.specs.declared.link_ext_slice.LinkExtSlice.{LinkExtSlice}
-use Rattle.ep_link.specs.LinkExtensions.{LinkExtension, link_extension_of}
+use Rattle.ep_link.specs.LinkExtensions.{link_extension_of}
 use Rattle.ep_packet.specs.Frame.{IsInside, most_link_exts}
 use Rattle.ep_packet.proofs.InsideWalkLemmas.{same_layers}
 use Rattle.ep_packet.proofs.sliced_packet.slice_behind.Goals as goal
