@@ -15,7 +15,8 @@ same_parts a b x y len same = (
 )
 
 -- what stands behind a front
-pub rest_of : (bytes front rest : List ℕ) (n : ℕ) → bytes ≡ front ++ rest → n ≡ length front → take (length bytes - n) (drop n bytes) ≡ rest
+pub rest_of : (bytes front rest : List ℕ) (n : ℕ) → bytes ≡ front ++ rest → n ≡ length front
+    → take (length bytes - n) (drop n bytes) ≡ rest
 rest_of bytes front rest n parts len =
     take_all (length bytes - n) (drop n bytes) (omega (arith, length-drop n bytes)) ∙ ap (drop n) parts ∙ drop_at front rest n (sym len)
 
@@ -25,7 +26,8 @@ elements zero i bytes = []
 elements (suc n) i bytes = get_or bytes i 0 ∷ elements n (i + 1) bytes
 
 -- what stands from i on is n elements, and what stands behind them
-pub drop-elements : (n i : ℕ) (bytes : List ℕ) → i + n ≤ length bytes → drop i bytes ≡ elements n i bytes ++ drop (i + n) bytes
+pub drop-elements : (n i : ℕ) (bytes : List ℕ) → i + n ≤ length bytes
+    → drop i bytes ≡ elements n i bytes ++ drop (i + n) bytes
 unfolding elements
 drop-elements zero i bytes within = ap (λ (k : ℕ). drop k bytes) (omega arith)
 drop-elements (suc n) i bytes within =
@@ -56,7 +58,8 @@ cells_4 (a ∷ b ∷ c ∷ d ∷ []) len = refl
 cells_4 _ len = absurd (omega arith)
 
 -- the cells of a list of 6 bytes
-pub cells_6 : (xs : List ℕ) → length xs ≡ 6 → xs ≡ get_or xs 0 0 ∷ get_or xs 1 0 ∷ get_or xs 2 0 ∷ get_or xs 3 0 ∷ get_or xs 4 0 ∷ get_or xs 5 0 ∷ []
+pub cells_6 : (xs : List ℕ) → length xs ≡ 6
+    → xs ≡ get_or xs 0 0 ∷ get_or xs 1 0 ∷ get_or xs 2 0 ∷ get_or xs 3 0 ∷ get_or xs 4 0 ∷ get_or xs 5 0 ∷ []
 cells_6 (a ∷ b ∷ c ∷ d ∷ e ∷ f ∷ []) len = refl
 cells_6 _ len = absurd (omega arith)
 
@@ -69,7 +72,8 @@ pub AreBytes-back : (a b : List ℕ) → AreBytes (a ++ b) → AreBytes b
 AreBytes-back a b fits = subst AreBytes (drop-append_seam a b) (AreBytes-drop (length a) (a ++ b) fits)
 
 -- a payload, between its header and what its cut leaves, is bytes
-pub AreBytes-payload : (bytes front payload left : List ℕ) → AreBytes bytes → bytes ≡ (front ++ payload) ++ left → AreBytes payload
+pub AreBytes-payload : (bytes front payload left : List ℕ) → AreBytes bytes → bytes ≡ (front ++ payload) ++ left
+    → AreBytes payload
 AreBytes-payload bytes front payload left fits parts =
     AreBytes-back front payload (AreBytes-front (front ++ payload) left (subst AreBytes parts fits))
 

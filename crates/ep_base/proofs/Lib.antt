@@ -1,3 +1,5 @@
 pub mod BytesLemmas
+pub mod DecidedLemmas
 pub mod Residue
 pub mod Sums
+pub mod TableLemmas

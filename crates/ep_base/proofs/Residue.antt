@@ -33,7 +33,8 @@ residue_more k (suc n) p =
     rw e (ap suc (mul-add-mod_self_left 65535 k n))
 
 -- two sums that are one up to multiples of 65535, both 0 or neither, have one residue
-pub residue_unique : (m n j k : ℕ) → 65535 * j + m ≡ 65535 * k + n → (m ≡ 0 → n ≡ 0) → (n ≡ 0 → m ≡ 0) → residue m ≡ residue n
+pub residue_unique : (m n j k : ℕ) → 65535 * j + m ≡ 65535 * k + n → (m ≡ 0 → n ≡ 0) → (n ≡ 0 → m ≡ 0)
+    → residue m ≡ residue n
 residue_unique zero zero j k e p q = refl
 residue_unique zero (suc n) j k e p q = absurd (omega (arith, p refl))
 residue_unique (suc m) zero j k e p q = absurd (omega (arith, q refl))

@@ -62,12 +62,14 @@ sum_with_word sum word new rest words e w =
     residue_beside new (sum + word) rest e ∙ turn ∙ residue_beside word words (sum + rest) w ∙ back
 
 -- the same, with nothing to come
-pub sum_with_last : (sum word new words : ℕ) → residue new ≡ residue (sum + word) → residue word ≡ residue words → residue new ≡ residue (sum + words)
+pub sum_with_last : (sum word new words : ℕ) → residue new ≡ residue (sum + word) → residue word ≡ residue words
+    → residue new ≡ residue (sum + words)
 sum_with_last sum word new words e w =
     e ∙ sym (residue_last sum word) ∙ ap (λ x. residue (sum + x)) w ∙ residue_last sum words
 
 -- a sum of words, as the sum of two sums
-pub ones_add-words : (sum : ℕ) (bytes : List ℕ) → residue (sum + word_sum bytes) ≡ ones_add (residue sum) (ones_sum bytes)
+pub ones_add-words : (sum : ℕ) (bytes : List ℕ)
+    → residue (sum + word_sum bytes) ≡ ones_add (residue sum) (ones_sum bytes)
 unfolding ones_add ones_sum
 ones_add-words sum bytes =
     sym (residue_last sum (word_sum bytes)) ∙ sym (residue_part sum (residue (word_sum bytes)))
@@ -119,7 +121,8 @@ ones_sum-zero bytes =
 even_append : (a b : List ℕ) → length a % 2 ≡ 0 → length b % 2 ≡ 0 → length (a ++ b) % 2 ≡ 0
 even_append a b p q = omega (arith, length-append a b)
 
-pub ones_sum-exchange : (a b back : List ℕ) → length a % 2 ≡ 0 → length b % 2 ≡ 0 → ones_sum ((a ++ b) ++ back) ≡ ones_sum ((b ++ a) ++ back)
+pub ones_sum-exchange : (a b back : List ℕ) → length a % 2 ≡ 0 → length b % 2 ≡ 0
+    → ones_sum ((a ++ b) ++ back) ≡ ones_sum ((b ++ a) ++ back)
 unfolding ones_sum
 ones_sum-exchange a b back p q =
     ap residue

@@ -1,6 +1,10 @@
 pub mod Bounded
 pub mod Bytes
 pub mod Checksum
+pub mod EtherTypes
+pub mod IpNumbers
+pub mod IpPayload
 pub mod Layer
 pub mod Names
 pub mod Padding
+pub mod Tables

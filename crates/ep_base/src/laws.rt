@@ -4,6 +4,13 @@ ghost use Rattle.std.specs.Prelude.{◌≡◌, ◌↔◌, ◌+◌, ◌%◌, ◌^
 ghost use Rattle.std.specs.Int.{w16, to_be_bytes};
 ghost use Rattle.std.specs.List.{All};
 ghost use Rattle.ep_base.specs.Checksum.{word_sum, ones_sum, ones_add, checksum_of};
+ghost use Rattle.ep_base.specs.declared.ether_type.TheConstants as ether;
+ghost use Rattle.ep_base.specs.declared.ip_number.TheConstants as number;
+
+use crate::{
+    EtherType, IpFragOffset, IpNumber, Ipv4Dscp, Ipv4Ecn, Ipv6FlowLabel, MacsecAn, MacsecShortLen,
+    VlanId, VlanPcp,
+};
 
 /// A one's complement sum is the sum of the words modulo 65535, in 1 to 65535, and 0 only where all bytes are 0.
 pub fn sum_is_a_residue()
@@ -41,3 +48,49 @@ pub fn checksum_is_found()
     ensures { (front back : List ℕ) → length front % 2 ≡ 0
         → ones_sum ((front ++ to_be_bytes w16 (checksum_of ((front ++ 0 ∷ 0 ∷ []) ++ back))) ++ back) ≡ 65535 }
 {}
+
+/// The ether types and protocol numbers are those that IEEE and IANA assign, under either name.
+pub fn constants()
+    ensures ipv4 { (EtherType.IPV4.0 ≡ 0x0800) × (ether.IPV4.0 ≡ 0x0800) }
+    ensures arp { (EtherType.ARP.0 ≡ 0x0806) × (ether.ARP.0 ≡ 0x0806) }
+    ensures ipv6 { (EtherType.IPV6.0 ≡ 0x86DD) × (ether.IPV6.0 ≡ 0x86DD) }
+    ensures vlan { (EtherType.VLAN_TAGGED_FRAME.0 ≡ 0x8100) × (ether.VLAN_TAGGED_FRAME.0 ≡ 0x8100) }
+    ensures provider_bridging { (EtherType.PROVIDER_BRIDGING.0 ≡ 0x88A8) × (ether.PROVIDER_BRIDGING.0 ≡ 0x88A8) }
+    ensures double_vlan { (EtherType.VLAN_DOUBLE_TAGGED_FRAME.0 ≡ 0x9100) × (ether.VLAN_DOUBLE_TAGGED_FRAME.0 ≡ 0x9100) }
+    ensures macsec { (EtherType.MACSEC.0 ≡ 0x88E5) × (ether.MACSEC.0 ≡ 0x88E5) }
+
+    ensures hop_by_hop { (IpNumber.IPV6_HEADER_HOP_BY_HOP.0 ≡ 0) × (number.IPV6_HEADER_HOP_BY_HOP.0 ≡ 0) }
+    ensures icmpv4 { (IpNumber.ICMP.0 ≡ 1) × (number.ICMP.0 ≡ 1) }
+    ensures tcp { (IpNumber.TCP.0 ≡ 6) × (number.TCP.0 ≡ 6) }
+    ensures udp { (IpNumber.UDP.0 ≡ 17) × (number.UDP.0 ≡ 17) }
+    ensures routing { (IpNumber.IPV6_ROUTE_HEADER.0 ≡ 43) × (number.IPV6_ROUTE_HEADER.0 ≡ 43) }
+    ensures fragment { (IpNumber.IPV6_FRAGMENTATION_HEADER.0 ≡ 44) × (number.IPV6_FRAGMENTATION_HEADER.0 ≡ 44) }
+    ensures authentication { (IpNumber.AUTHENTICATION_HEADER.0 ≡ 51) × (number.AUTHENTICATION_HEADER.0 ≡ 51) }
+    ensures icmpv6 { (IpNumber.IPV6_ICMP.0 ≡ 58) × (number.IPV6_ICMP.0 ≡ 58) }
+    ensures destination_options { (IpNumber.IPV6_DESTINATION_OPTIONS.0 ≡ 60) × (number.IPV6_DESTINATION_OPTIONS.0 ≡ 60) }
+{}
+
+/// The number 0 of each type of numbers, and the default of those that have one.
+pub fn zeros() -> (
+    [VlanId; 2],
+    VlanPcp,
+    IpFragOffset,
+    Ipv4Dscp,
+    Ipv4Ecn,
+    Ipv6FlowLabel,
+    MacsecShortLen,
+    MacsecAn,
+)
+    ensures { result ≡ record { 0 = 0 ∷ 0 ∷ []; 1 = 0; 2 = 0; 3 = 0; 4 = 0; 5 = 0; 6 = 0; 7 = 0 } }
+{
+    (
+        [VlanId::ZERO, VlanId::default()],
+        VlanPcp::ZERO,
+        IpFragOffset::ZERO,
+        Ipv4Dscp::ZERO,
+        Ipv4Ecn::ZERO,
+        Ipv6FlowLabel::ZERO,
+        MacsecShortLen::ZERO,
+        MacsecAn::ZERO,
+    )
+}

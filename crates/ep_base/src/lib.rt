@@ -1,6 +1,7 @@
 //! Numbers, lengths and errors that every layer of the packet library shares.
 #![tactic(auto)]
 
+mod at_least;
 pub mod checksum;
 pub mod err;
 mod ether_payload_slice;
@@ -13,6 +14,7 @@ mod numbers;
 #[cfg(test)]
 mod tests;
 
+pub use at_least::AtLeast;
 pub use ether_payload_slice::EtherPayloadSlice;
 pub use ether_type::EtherType;
 pub use ip_number::IpNumber;

@@ -13,18 +13,22 @@ use Rattle.ep_defrag.proofs.Sections.{IsOrdered}
 
 -- ---- what a list of fragments touches
 -- nothing behind its greatest end
-pub touched_to_reach : (fragments : List IpFragment) (position : ℕ) → is_touched fragments position ≡ true → position ≤ reach_of fragments
+pub touched_to_reach : (fragments : List IpFragment) (position : ℕ) → is_touched fragments position ≡ true
+    → position ≤ reach_of fragments
 touched_to_reach [] position touched = absurd (false≢true touched)
-touched_to_reach (fragment ∷ fragments) position touched = elim (or_cases (touches position (range_of fragment)) (is_touched fragments position) touched) [
-  | inl here ↦ grind (arith, nat_tests)
-  | inr later ↦ omega (arith, touched_to_reach fragments position later)
-]
+touched_to_reach (fragment ∷ fragments) position touched =
+    elim (or_cases (touches position (range_of fragment)) (is_touched fragments position) touched) [
+      | inl here ↦ grind (arith, nat_tests)
+      | inr later ↦ omega (arith, touched_to_reach fragments position later)
+    ]
 
 -- its greatest end, where there is one
-pub reach_touched : (fragments : List IpFragment) (reach : ℕ) → reach ≡ reach_of fragments → 0 < reach → is_touched fragments reach ≡ true
+pub reach_touched : (fragments : List IpFragment) (reach : ℕ) → reach ≡ reach_of fragments → 0 < reach
+    → is_touched fragments reach ≡ true
 reach_touched [] reach same some = absurd (omega arith)
 reach_touched (fragment ∷ fragments) reach same some = elim (cases_lt (fragment_end fragment) reach) [
-  | inl below ↦ or_right (touches reach (range_of fragment)) (is_touched fragments reach) (reach_touched fragments reach (omega arith) some)
+  | inl below ↦ or_right (touches reach (range_of fragment)) (is_touched fragments reach)
+      (reach_touched fragments reach (omega arith) some)
   | inr above ↦
       let here : touches reach (range_of fragment) ≡ true = grind (arith, nat_tests, same) in
       ap (λ t. t || is_touched fragments reach) here
@@ -36,11 +40,18 @@ abbrev starts_at : ℕ → IpFragRange → Bool
 starts_at position section = eqb section.start position
 
 -- a section with the byte before a position and one that starts there both touch it
-both_touch : (before : ℕ) (sections : List IpFragRange) → AllByRecursion IsOrdered sections → count_by (has_byte before) sections + count_by (starts_at (suc before)) sections ≤ count_by (touches (suc before)) sections
+both_touch : (before : ℕ) (sections : List IpFragRange) → AllByRecursion IsOrdered sections
+    → count_by (has_byte before) sections + count_by (starts_at (suc before)) sections
+    ≤ count_by (touches (suc before)) sections
 both_touch before [] all = omega arith
 both_touch before (section ∷ sections) all =
-    let each : cond (has_byte before section) 1 0 + cond (starts_at (suc before) section) 1 0 ≤ cond (touches (suc before) section) 1 0 = grind (arith, nat_tests, all.0) in
-    rw (sum_by-cons (λ s. cond (has_byte before s) 1 0) section sections, sum_by-cons (λ s. cond (starts_at (suc before) s) 1 0) section sections, sum_by-cons (λ s. cond (touches (suc before) s) 1 0) section sections)
+    let each : cond (has_byte before section) 1 0 + cond (starts_at (suc before) section) 1 0
+    ≤ cond (touches (suc before) section) 1 0 = grind (arith, nat_tests, all.0) in
+    rw (
+      sum_by-cons (λ s. cond (has_byte before s) 1 0) section sections,
+      sum_by-cons (λ s. cond (starts_at (suc before) s) 1 0) section sections,
+      sum_by-cons (λ s. cond (touches (suc before) s) 1 0) section sections,
+    )
     (omega (arith, each, both_touch before sections all.1))
 
 -- the sections fill what the fragments do, in order and apart
@@ -54,12 +65,21 @@ AllCovered : List IpFragment → Type 0
 AllCovered fragments = (position : ℕ) → position < reach_of fragments → is_covered fragments position ≡ true
 
 -- no section starts behind a byte that is covered
-no_start_behind : (sections : List IpFragRange) (fragments : List IpFragment) → Fill sections fragments → (before : ℕ) → is_covered fragments before ≡ true → list_any (starts_at (suc before)) sections ≡ true → ⊥
+no_start_behind : (sections : List IpFragRange) (fragments : List IpFragment) → Fill sections fragments → (before : ℕ)
+    → is_covered fragments before ≡ true → list_any (starts_at (suc before)) sections ≡ true → ⊥
 no_start_behind sections fragments fill before covered starts =
-    omega (arith, both_touch before sections fill.ordered, fill.apart (suc before), count_by-positive (has_byte before) sections (fill.bytes before ∙ covered), count_by-positive (starts_at (suc before)) sections starts)
+    omega (
+      arith,
+      both_touch before sections fill.ordered,
+      fill.apart (suc before),
+      count_by-positive (has_byte before) sections (fill.bytes before ∙ covered),
+      count_by-positive (starts_at (suc before)) sections starts,
+    )
 
 -- so each section starts at 0, where all positions are covered
-start_zero : (sections : List IpFragRange) (fragments : List IpFragment) → Fill sections fragments → AllCovered fragments → (start end : ℕ) → start ≤ end → list_any (starts_at start) sections ≡ true → list_any (touches end) sections ≡ true → start ≡ 0
+start_zero : (sections : List IpFragRange) (fragments : List IpFragment) → Fill sections fragments
+    → AllCovered fragments → (start end : ℕ) → start ≤ end → list_any (starts_at start) sections ≡ true
+    → list_any (touches end) sections ≡ true → start ≡ 0
 unfolding AllCovered
 start_zero sections fragments fill covered zero end ordered starts touched = refl
 start_zero sections fragments fill covered (suc before) end ordered starts touched =
@@ -73,14 +93,17 @@ touches_end : (section : IpFragRange) → IsOrdered section → touches section.
 touches_end section ordered = grind (arith, nat_tests, ordered)
 
 -- where all positions are covered, there is one section and it starts at 0
-whole_from_covered : (sections : List IpFragRange) (fragments : List IpFragment) → Fill sections fragments → AllCovered fragments → 0 < length sections → is_whole sections ≡ true
+whole_from_covered : (sections : List IpFragRange) (fragments : List IpFragment) → Fill sections fragments
+    → AllCovered fragments → 0 < length sections → is_whole sections ≡ true
 whole_from_covered [] fragments fill covered some = absurd (omega arith)
 whole_from_covered (section ∷ []) fragments fill covered some =
     eq-eqb section.start 0
-    (start_zero (section ∷ []) fragments fill covered section.start section.end fill.ordered.0 (or_left _ _ (starts_itself section)) (or_left _ _ (touches_end section fill.ordered.0)))
+    (start_zero (section ∷ []) fragments fill covered section.start section.end fill.ordered.0
+    (or_left _ _ (starts_itself section)) (or_left _ _ (touches_end section fill.ordered.0)))
 whole_from_covered (section ∷ other ∷ others) fragments fill covered some =
     let sections = section ∷ other ∷ others in
-    let first = start_zero sections fragments fill covered section.start section.end fill.ordered.0 (or_left _ _ (starts_itself section)) (or_left _ _ (touches_end section fill.ordered.0)) in
+    let first = start_zero sections fragments fill covered section.start section.end fill.ordered.0
+    (or_left _ _ (starts_itself section)) (or_left _ _ (touches_end section fill.ordered.0)) in
     let second =
     start_zero sections fragments fill covered other.start other.end fill.ordered.1.0
     (or_right (starts_at other.start section) _ (or_left _ _ (starts_itself other)))
@@ -88,35 +111,48 @@ whole_from_covered (section ∷ other ∷ others) fragments fill covered some =
     let count : IpFragRange → ℕ = λ s. cond (touches 0 s) 1 0 in
     let here : count section ≡ 1 = grind (arith, nat_tests, first) in
     let there : count other ≡ 1 = grind (arith, nat_tests, second) in
-    absurd (omega (arith, fill.apart 0, sum_by-cons count section (other ∷ others), sum_by-cons count other others, here, there))
+    let counted = sum_by-cons count section (other ∷ others) in
+    absurd (omega (arith, fill.apart 0, counted, sum_by-cons count other others, here, there))
 
 -- and the other way round
-covered_from_whole : (sections : List IpFragRange) (fragments : List IpFragment) → Fill sections fragments → is_whole sections ≡ true → AllCovered fragments
+covered_from_whole : (sections : List IpFragRange) (fragments : List IpFragment) → Fill sections fragments
+    → is_whole sections ≡ true → AllCovered fragments
 unfolding AllCovered
 covered_from_whole [] fragments fill whole position below = absurd (false≢true whole)
 covered_from_whole (section ∷ []) fragments fill whole position below =
     let zero_start : section.start ≡ 0 = eqb-true section.start 0 whole in
-    let reached : (touches (reach_of fragments) section || false) ≡ true = fill.points (reach_of fragments) ∙ reach_touched fragments (reach_of fragments) refl (omega arith) in
+    let reached : (touches (reach_of fragments) section || false) ≡ true =
+    fill.points (reach_of fragments) ∙ reach_touched fragments (reach_of fragments) refl (omega arith) in
     sym (fill.bytes position) ∙ grind (arith, nat_tests, zero_start, reached, below)
 covered_from_whole (section ∷ other ∷ others) fragments fill whole position below = absurd (false≢true whole)
 
 -- there is a section where there is a fragment
-some_section : (sections : List IpFragRange) (fragments : List IpFragment) → Fill sections fragments → is_some (end_of fragments) ≡ true → 0 < length sections
+some_section : (sections : List IpFragRange) (fragments : List IpFragment) → Fill sections fragments
+    → is_some (end_of fragments) ≡ true → 0 < length sections
 some_section sections [] fill known = absurd (false≢true known)
 some_section [] (fragment ∷ fragments) fill known =
     let here : touches (fragment_start fragment) (range_of fragment) ≡ true = grind (arith, nat_tests) in
-    absurd (false≢true (fill.points (fragment_start fragment) ∙ ap (λ t. t || is_touched fragments (fragment_start fragment)) here))
+    absurd
+    (false≢true (fill.points (fragment_start fragment)
+    ∙ ap (λ t. t || is_touched fragments (fragment_start fragment)) here))
 some_section (section ∷ sections) (fragment ∷ fragments) fill known = omega arith
 
 -- The fragments are complete exactly where their end is known and there is one section, which starts at 0.
-pub complete_by_sections : (sections : List IpFragRange) (fragments : List IpFragment) → Fill sections fragments → ((is_some (end_of fragments) && is_whole sections) ≡ true) ↔ IsComplete fragments
+pub complete_by_sections : (sections : List IpFragRange) (fragments : List IpFragment) → Fill sections fragments
+    → ((is_some (end_of fragments) && is_whole sections) ≡ true) ↔ IsComplete fragments
 unfolding AllCovered
 complete_by_sections sections fragments fill = (
   λ whole.
       let parts = and_parts (is_some (end_of fragments)) (is_whole sections) whole in
       let covered = covered_from_whole sections fragments fill parts.1 in
-      and_from _ _ parts.0 (list_all-range (is_covered fragments) 0 (reach_of fragments) (λ position low high. covered position (omega arith))),
+      and_from _ _ parts.0
+      (list_all-range (is_covered fragments) 0 (reach_of fragments)
+      (λ position low high. covered position (omega arith))),
   λ complete.
       let parts = and_parts (is_some (end_of fragments)) _ complete in
-      and_from _ _ parts.0 (whole_from_covered sections fragments fill (λ position below. each_of_range (is_covered fragments) 0 (reach_of fragments) parts.1 position (omega arith) (omega arith)) (some_section sections fragments fill parts.0)),
+      and_from _ _ parts.0
+      (whole_from_covered sections fragments fill
+      (λ position below. each_of_range (is_covered fragments) 0 (reach_of fragments) parts.1 position (omega arith)
+      (omega arith))
+      (some_section sections fragments fill parts.0)),
 )

@@ -13,7 +13,8 @@ use Rattle.ep_defrag.proofs.Lists.{list_all-range, each_of_range}
 
 module _ (payload : List ℕ) where
   -- the end of cuts, where it is known, is that of the payload
-  end_of_cuts : (cuts : List IpFragment) → AllByRecursion (IsCut payload) cuts → (end_of cuts ≡ None) ⊎ (end_of cuts ≡ Some (length payload))
+  end_of_cuts : (cuts : List IpFragment) → AllByRecursion (IsCut payload) cuts
+      → (end_of cuts ≡ None) ⊎ (end_of cuts ≡ Some (length payload))
   end_of_cuts [] all = inl refl
   end_of_cuts (cut ∷ cuts) all = elim (cases_Bool cut.more) [
     | inl more ↦ rw more (end_of_cuts cuts all.1)
@@ -40,7 +41,8 @@ module _ (payload : List ℕ) where
   reach_of_cuts [] all = omega arith
   reach_of_cuts (cut ∷ cuts) all = omega (arith, all.0.within, reach_of_cuts cuts all.1)
 
-  reach_from_final : (cuts : List IpFragment) → AllByRecursion (IsCut payload) cuts → is_some (end_of cuts) ≡ true → length payload ≤ reach_of cuts
+  reach_from_final : (cuts : List IpFragment) → AllByRecursion (IsCut payload) cuts → is_some (end_of cuts) ≡ true
+      → length payload ≤ reach_of cuts
   reach_from_final [] all known = absurd (false≢true known)
   reach_from_final (cut ∷ cuts) all known = elim (cases_Bool cut.more) [
     | inl more ↦ omega (arith, reach_from_final cuts all.1 (rw more at known))
@@ -50,19 +52,25 @@ module _ (payload : List ℕ) where
   -- a cut that is final or a multiple of 8 long fits after others
   unaligned_not : (cut : IpFragment) → IsTrue (is_final cut) ⊎ (length cut.bytes % 8 ≡ 0) → is_unaligned cut ≡ false
   unaligned_not cut (inl final) = and_left cut.more _ (not-true cut.more final)
-  unaligned_not cut (inr multiple) = and_right cut.more _ (not_from_true (eqb (length cut.bytes % 8) 0) (eq-eqb (length cut.bytes % 8) 0 multiple))
+  unaligned_not cut (inr multiple) =
+      and_right cut.more _ (not_from_true (eqb (length cut.bytes % 8) 0) (eq-eqb (length cut.bytes % 8) 0 multiple))
 
   conflicts_not : (cut : IpFragment) → IsCut payload cut → conflicts_with (length payload) cut ≡ false
   conflicts_not cut is_cut =
       or_from _ _ (le-ltb (length payload) (fragment_end cut) is_cut.within)
       (elim (cases_Bool cut.more) [
         | inl more ↦ and_left _ _ (not_from_true cut.more more)
-        | inr last ↦ and_right (is_final cut) _ (not_from_true (eqb (fragment_end cut) (length payload)) (eq-eqb _ _ (is_cut.last (not_from_false cut.more last))))
+        | inr last ↦ and_right (is_final cut) _
+            (not_from_true (eqb (fragment_end cut) (length payload))
+            (eq-eqb _ _ (is_cut.last (not_from_false cut.more last))))
       ])
 
-  pub cut_fits_after : (cuts : List IpFragment) (cut : IpFragment) → length payload ≤ 65535 → AllByRecursion (IsCut payload) cuts → IsCut payload cut → IsTrue (is_final cut) ⊎ (length cut.bytes % 8 ≡ 0) → Fits cuts cut
+  pub cut_fits_after : (cuts : List IpFragment) (cut : IpFragment) → length payload ≤ 65535
+      → AllByRecursion (IsCut payload) cuts → IsCut payload cut → IsTrue (is_final cut) ⊎ (length cut.bytes % 8 ≡ 0)
+      → Fits cuts cut
   cut_fits_after cuts cut short all is_cut shape =
-      let within : ltb 65535 (fragment_end cut) ≡ false = le-ltb 65535 (fragment_end cut) (omega (arith, is_cut.within)) in
+      let within : ltb 65535 (fragment_end cut) ≡ false =
+      le-ltb 65535 (fragment_end cut) (omega (arith, is_cut.within)) in
       let aligned = unaligned_not cut shape in
       let agrees : end_refusal (end_of cuts) cut ≡ None = elim (end_of_cuts cuts all) [
         | inl unknown ↦ rw unknown refl
@@ -71,31 +79,41 @@ module _ (payload : List ℕ) where
       rw (within, aligned) agrees
 
   -- where a position is covered, the byte is that of the payload
-  byte_of_cuts : (cuts : List IpFragment) → AllByRecursion (IsCut payload) cuts → (position : ℕ) → is_covered cuts position ≡ true → byte_at cuts position ≡ get_or payload position 0
+  byte_of_cuts : (cuts : List IpFragment) → AllByRecursion (IsCut payload) cuts → (position : ℕ)
+      → is_covered cuts position ≡ true → byte_at cuts position ≡ get_or payload position 0
   byte_of_cuts [] all position covered = absurd (false≢true covered)
   byte_of_cuts (cut ∷ cuts) all position covered = elim (cases_Bool (is_covered cuts position)) [
     | inl later ↦ rw later (byte_of_cuts cuts all.1 position later)
     | inr not_later ↦ elim (or_cases (covers position cut) (is_covered cuts position) covered) [
       | inr later ↦ absurd (false≢true (sym not_later ∙ later))
       | inl here ↦
-          let inside : (fragment_start cut ≤ position) × (position < fragment_end cut) = grind (arith, nat_tests, here) in
+          let inside : (fragment_start cut ≤ position) × (position < fragment_end cut) =
+          grind (arith, nat_tests, here) in
           let there : fragment_start cut + (position - fragment_start cut) ≡ position = omega arith in
           rw (not_later, here)
           (ap (λ bytes. get_or bytes (position - fragment_start cut) 0) all.0.same
-          ∙ get_or-between payload (fragment_start cut) (fragment_end cut) (position - fragment_start cut) 0 (omega arith)
+          ∙ get_or-between payload (fragment_start cut) (fragment_end cut) (position - fragment_start cut) 0
+          (omega arith)
           ∙ ap (λ at. get_or payload at 0) there)
     ]
   ]
 
   module _ (cuts : List IpFragment) (all : AllByRecursion (IsCut payload) cuts) where
     -- cuts are complete exactly where a final one is among them and they cover the payload
-    pub complete_cuts : IsComplete cuts ↔ (Any (λ cut. IsTrue (is_final cut)) cuts × ((position : ℕ) → position < length payload → IsCovered cuts position))
+    pub complete_cuts : IsComplete cuts
+        ↔ (Any (λ cut. IsTrue (is_final cut)) cuts
+        × ((position : ℕ) → position < length payload → IsCovered cuts position))
     complete_cuts = (
       λ complete.
-          let parts = and_parts (is_some (end_of cuts)) _ complete in
-          (Any-from_list_any is_final cuts (final_from_known cuts parts.0), λ position below. each_of_range (is_covered cuts) 0 (reach_of cuts) parts.1 position (omega arith) (omega (arith, reach_from_final cuts all parts.0))),
+          let parts = and_parts (is_some (end_of cuts)) _ complete in (
+            Any-from_list_any is_final cuts (final_from_known cuts parts.0),
+            λ position below. each_of_range (is_covered cuts) 0 (reach_of cuts) parts.1 position (omega arith)
+                (omega (arith, reach_from_final cuts all parts.0)),
+          ),
       λ both.
-          and_from _ _ (known_from_final cuts (list_any-from_Any is_final cuts both.0)) (list_all-range (is_covered cuts) 0 (reach_of cuts) (λ position low high. both.1 position (omega (arith, reach_of_cuts cuts all)))),
+          and_from _ _ (known_from_final cuts (list_any-from_Any is_final cuts both.0))
+          (list_all-range (is_covered cuts) 0 (reach_of cuts)
+          (λ position low high. both.1 position (omega (arith, reach_of_cuts cuts all)))),
     )
 
     -- and then put the payload together
@@ -105,5 +123,7 @@ module _ (payload : List ℕ) where
         let covered = (complete_cuts.0 complete).1 in
         elim (end_of_cuts cuts all) [
           | inl unknown ↦ absurd (false≢true (sym (ap is_some unknown) ∙ parts.0))
-          | inr known ↦ rw known (sym (fill_by_all (byte_at cuts) payload (length payload) 0 refl (λ position below. sym (byte_of_cuts cuts all position (covered position below)))))
+          | inr known ↦ rw known
+              (sym (fill_by_all (byte_at cuts) payload (length payload) 0 refl
+              (λ position below. sym (byte_of_cuts cuts all position (covered position below)))))
         ]

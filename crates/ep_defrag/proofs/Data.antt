@@ -20,16 +20,21 @@ or_true true = refl
 or_true false = refl
 
 -- ---- one more fragment at the end of the list
-pub is_covered-push : (fragments : List IpFragment) (fragment : IpFragment) (position : ℕ) → is_covered (fragments ++ fragment ∷ []) position ≡ (is_covered fragments position || covers position fragment)
+pub is_covered-push : (fragments : List IpFragment) (fragment : IpFragment) (position : ℕ)
+    → is_covered (fragments ++ fragment ∷ []) position ≡ (is_covered fragments position || covers position fragment)
 is_covered-push fragments fragment position =
-    list_any-append (covers position) fragments (fragment ∷ []) ∙ ap (λ t. is_covered fragments position || t) (or_false (covers position fragment))
+    list_any-append (covers position) fragments (fragment ∷ [])
+    ∙ ap (λ t. is_covered fragments position || t) (or_false (covers position fragment))
 
-pub is_touched-push : (fragments : List IpFragment) (fragment : IpFragment) (position : ℕ) → is_touched (fragments ++ fragment ∷ []) position ≡ (is_touched fragments position || touches position (range_of fragment))
+pub is_touched-push : (fragments : List IpFragment) (fragment : IpFragment) (position : ℕ)
+    → is_touched (fragments ++ fragment ∷ []) position
+    ≡ (is_touched fragments position || touches position (range_of fragment))
 is_touched-push fragments fragment position =
     list_any-append (λ (other : IpFragment). touches position (range_of other)) fragments (fragment ∷ [])
     ∙ ap (λ t. is_touched fragments position || t) (or_false (touches position (range_of fragment)))
 
-pub reach_of-push : (fragments : List IpFragment) (fragment : IpFragment) → reach_of (fragments ++ fragment ∷ []) ≡ max (reach_of fragments) (fragment_end fragment)
+pub reach_of-push : (fragments : List IpFragment) (fragment : IpFragment)
+    → reach_of (fragments ++ fragment ∷ []) ≡ max (reach_of fragments) (fragment_end fragment)
 reach_of-push [] fragment = omega arith
 reach_of-push (first ∷ fragments) fragment = omega (arith, reach_of-push fragments fragment)
 
@@ -37,7 +42,8 @@ reach_of-push (first ∷ fragments) fragment = omega (arith, reach_of-push fragm
 abbrev pub own_end : IpFragment → Option ℕ
 own_end fragment = cond fragment.more None (Some (fragment_end fragment))
 
-pub end_of-push : (fragments : List IpFragment) (fragment : IpFragment) → end_of (fragments ++ fragment ∷ []) ≡ option_or (end_of fragments) (own_end fragment)
+pub end_of-push : (fragments : List IpFragment) (fragment : IpFragment)
+    → end_of (fragments ++ fragment ∷ []) ≡ option_or (end_of fragments) (own_end fragment)
 end_of-push [] fragment = refl
 end_of-push (first ∷ fragments) fragment = elim (cases_Bool first.more) [
   | inl more ↦ rw more (end_of-push fragments fragment)
@@ -48,7 +54,9 @@ end_of-push (first ∷ fragments) fragment = elim (cases_Bool first.more) [
 abbrev pub own_byte : IpFragment → ℕ → ℕ
 own_byte fragment position = get_or fragment.bytes (position - fragment_start fragment) 0
 
-pub byte_at-push : (fragments : List IpFragment) (fragment : IpFragment) (position : ℕ) → byte_at (fragments ++ fragment ∷ []) position ≡ cond (covers position fragment) (own_byte fragment position) (byte_at fragments position)
+pub byte_at-push : (fragments : List IpFragment) (fragment : IpFragment) (position : ℕ)
+    → byte_at (fragments ++ fragment ∷ []) position
+    ≡ cond (covers position fragment) (own_byte fragment position) (byte_at fragments position)
 byte_at-push [] fragment position = refl
 byte_at-push (first ∷ fragments) fragment position =
     rw (is_covered-push fragments fragment position, byte_at-push fragments fragment position)
@@ -58,30 +66,36 @@ byte_at-push (first ∷ fragments) fragment position =
     ])
 
 -- ---- positions that no fragment covers
-pub byte_at-uncovered : (fragments : List IpFragment) (position : ℕ) → is_covered fragments position ≡ false → byte_at fragments position ≡ 0
+pub byte_at-uncovered : (fragments : List IpFragment) (position : ℕ) → is_covered fragments position ≡ false
+    → byte_at fragments position ≡ 0
 byte_at-uncovered [] position uncovered = refl
 byte_at-uncovered (fragment ∷ fragments) position uncovered = elim (cases_Bool (covers position fragment)) [
   | inl here ↦ absurd (false≢true (sym uncovered ∙ ap (λ t. t || is_covered fragments position) here))
   | inr away ↦
-      let rest : is_covered fragments position ≡ false = sym (ap (λ t. t || is_covered fragments position) away) ∙ uncovered in
+      let rest : is_covered fragments position ≡ false =
+      sym (ap (λ t. t || is_covered fragments position) away) ∙ uncovered in
       rw (away, rest) refl
 ]
 
-pub covered_below_reach : (fragments : List IpFragment) (position : ℕ) → is_covered fragments position ≡ true → position < reach_of fragments
+pub covered_below_reach : (fragments : List IpFragment) (position : ℕ) → is_covered fragments position ≡ true
+    → position < reach_of fragments
 covered_below_reach [] position covered = absurd (false≢true covered)
-covered_below_reach (fragment ∷ fragments) position covered = elim (or_cases (covers position fragment) (is_covered fragments position) covered) [
-  | inl here ↦ grind (arith, nat_tests)
-  | inr later ↦ omega (arith, covered_below_reach fragments position later)
-]
+covered_below_reach (fragment ∷ fragments) position covered =
+    elim (or_cases (covers position fragment) (is_covered fragments position) covered) [
+      | inl here ↦ grind (arith, nat_tests)
+      | inr later ↦ omega (arith, covered_below_reach fragments position later)
+    ]
 
-pub uncovered_from_reach : (fragments : List IpFragment) (position : ℕ) → reach_of fragments ≤ position → is_covered fragments position ≡ false
+pub uncovered_from_reach : (fragments : List IpFragment) (position : ℕ) → reach_of fragments ≤ position
+    → is_covered fragments position ≡ false
 uncovered_from_reach fragments position past = elim (cases_Bool (is_covered fragments position)) [
   | inl covered ↦ absurd (omega (arith, covered_below_reach fragments position covered))
   | inr uncovered ↦ uncovered
 ]
 
 -- ---- what it means that a fragment fits
-not_some : {X : Type 0} (test : Bool) (value : X) (other : Option X) → cond test (Some value) other ≡ None → (test ≡ false) × (other ≡ None)
+not_some : {X : Type 0} (test : Bool) (value : X) (other : Option X) → cond test (Some value) other ≡ None
+    → (test ≡ false) × (other ≡ None)
 not_some true value other none = absurd (cc)
 not_some false value other none = (refl, none)
 
@@ -90,18 +104,21 @@ pub record FitsAt (known_end : Option ℕ) (fragment : IpFragment) : Type 0 wher
   pub aligned : is_unaligned fragment ≡ false
   pub agrees : end_refusal known_end fragment ≡ None
 
-pub fits_at : (known_end : Option ℕ) (fragment : IpFragment) → refusal_at known_end fragment ≡ None → FitsAt known_end fragment
+pub fits_at : (known_end : Option ℕ) (fragment : IpFragment) → refusal_at known_end fragment ≡ None
+    → FitsAt known_end fragment
 fits_at known_end fragment fits =
     let by_length = not_some (ltb 65535 (fragment_end fragment)) _ _ fits in
     let by_multiple = not_some (is_unaligned fragment) _ _ by_length.1 in
     record { short = ltb-false _ _ by_length.0; aligned = by_multiple.0; agrees = by_multiple.1 }
 
-pub agrees_with : (known_end : ℕ) (fragment : IpFragment) → end_refusal (Some known_end) fragment ≡ None → (fragment_end fragment ≤ known_end) × (fragment.more ≡ false → fragment_end fragment ≡ known_end)
+pub agrees_with : (known_end : ℕ) (fragment : IpFragment) → end_refusal (Some known_end) fragment ≡ None
+    → (fragment_end fragment ≤ known_end) × (fragment.more ≡ false → fragment_end fragment ≡ known_end)
 agrees_with known_end fragment agrees =
     let no_conflict = (not_some (conflicts_with known_end fragment) _ _ agrees).0 in
     (grind (arith, nat_tests, no_conflict), λ last. grind (arith, nat_tests, no_conflict, last))
 
-pub FitAfter-push : (earlier later : List IpFragment) (fragment : IpFragment) → FitAfter earlier later → Fits (earlier ++ later) fragment → FitAfter earlier (later ++ fragment ∷ [])
+pub FitAfter-push : (earlier later : List IpFragment) (fragment : IpFragment) → FitAfter earlier later
+    → Fits (earlier ++ later) fragment → FitAfter earlier (later ++ fragment ∷ [])
 FitAfter-push earlier [] fragment fit fits = (rw append-nil at fits, tt)
 FitAfter-push earlier (first ∷ later) fragment fit fits =
     (fit.0, FitAfter-push (earlier ++ first ∷ []) later fragment fit.1 (rw append_assoc fits))
@@ -114,8 +131,10 @@ extent_of fragments = unwrap_or (end_of fragments) (reach_of fragments)
 pub length-assembled : (fragments : List IpFragment) → length (assembled fragments) ≡ extent_of fragments
 length-assembled fragments = length-map-range_with_len (byte_at fragments) 0 (extent_of fragments)
 
-pub get_or-assembled : (fragments : List IpFragment) (position : ℕ) → position < extent_of fragments → get_or (assembled fragments) position 0 ≡ byte_at fragments position
-get_or-assembled fragments position within = get_or-map-range_with_len (byte_at fragments) 0 (extent_of fragments) position position 0 within (omega arith)
+pub get_or-assembled : (fragments : List IpFragment) (position : ℕ) → position < extent_of fragments
+    → get_or (assembled fragments) position 0 ≡ byte_at fragments position
+get_or-assembled fragments position within =
+    get_or-map-range_with_len (byte_at fragments) 0 (extent_of fragments) position position 0 within (omega arith)
 
 -- zeros at the end change nothing, since a position past the end reads as 0
 get_or-zeros : (count position at_end : ℕ) → at_end ≡ 0 → get_or (replicate count at_end) position at_end ≡ at_end
@@ -124,24 +143,42 @@ get_or-zeros count position at_end none = elim (cases_lt position count) [
   | inr past ↦ get_or_past (replicate count at_end) position at_end (omega (arith, length-replicate count at_end))
 ]
 
-pub get_or-append_zeros : (contents : List ℕ) (count position : ℕ) → get_or (contents ++ replicate count 0) position 0 ≡ get_or contents position 0
+pub get_or-append_zeros : (contents : List ℕ) (count position : ℕ)
+    → get_or (contents ++ replicate count 0) position 0 ≡ get_or contents position 0
 get_or-append_zeros [] count position = get_or-zeros count position 0 refl
 get_or-append_zeros (byte ∷ contents) count zero = refl
 get_or-append_zeros (byte ∷ contents) count (suc position) = get_or-append_zeros contents count position
 
 pub length-extended : (contents : List ℕ) (end : ℕ) → length (extended contents end) ≡ max (length contents) end
-length-extended contents end = omega (arith, length-append contents (replicate (end - length contents) 0), length-replicate {A = ℕ} (end - length contents) 0)
+length-extended contents end =
+    omega (
+      arith,
+      length-append contents (replicate (end - length contents) 0),
+      length-replicate {A = ℕ} (end - length contents) 0,
+    )
 
-pub length-overwritten : (contents : List ℕ) (start : ℕ) (bytes : List ℕ) → start + length bytes ≤ length contents → length (overwritten contents start bytes) ≡ length contents
+pub length-overwritten : (contents : List ℕ) (start : ℕ) (bytes : List ℕ) → start + length bytes ≤ length contents
+    → length (overwritten contents start bytes) ≡ length contents
 length-overwritten contents start bytes within =
-    omega (arith, length-append (take start contents ++ bytes) (drop (start + length bytes) contents), length-append (take start contents) bytes, length-take-le start contents (omega arith), length-drop (start + length bytes) contents)
+    omega (
+      arith,
+      length-append (take start contents ++ bytes) (drop (start + length bytes) contents),
+      length-append (take start contents) bytes,
+      length-take-le start contents (omega arith),
+      length-drop (start + length bytes) contents,
+    )
 
-pub get_or-overwritten : (contents : List ℕ) (start : ℕ) (bytes : List ℕ) (position : ℕ) → start + length bytes ≤ length contents → get_or (overwritten contents start bytes) position 0 ≡ cond (leb start position && ltb position (start + length bytes)) (get_or bytes (position - start) 0) (get_or contents position 0)
+pub get_or-overwritten : (contents : List ℕ) (start : ℕ) (bytes : List ℕ) (position : ℕ)
+    → start + length bytes ≤ length contents
+    → get_or (overwritten contents start bytes) position 0
+    ≡ cond (leb start position && ltb position (start + length bytes)) (get_or bytes (position - start) 0)
+    (get_or contents position 0)
 get_or-overwritten contents start bytes position within =
     let front = take start contents in
     let back = drop (start + length bytes) contents in
     let front_len : length front ≡ start = length-take-le start contents (omega arith) in
-    let both_len : length (front ++ bytes) ≡ start + length bytes = omega (arith, length-append front bytes, front_len) in
+    let both_len : length (front ++ bytes) ≡ start + length bytes =
+    omega (arith, length-append front bytes, front_len) in
     elim (cases_lt position start) [
       | inl before ↦
           let test : leb start position ≡ false = lt-leb start position before in
@@ -169,11 +206,18 @@ get_or-overwritten contents start bytes position within =
 
 -- The list's bytes end where the bytes after the fragment do, and what lies behind the old ones was not covered.
 pub record Extends (fragments : List IpFragment) (fragment : IpFragment) (known : Option ℕ) : Type 0 where
-  pub more : fragment.more ≡ true → unwrap_or (option_or known (own_end fragment)) (max (reach_of fragments) (fragment_end fragment)) ≡ max (unwrap_or known (reach_of fragments)) (fragment_end fragment)
-  pub last : fragment.more ≡ false → unwrap_or (option_or known (own_end fragment)) (max (reach_of fragments) (fragment_end fragment)) ≡ fragment_end fragment
-  pub behind : (position : ℕ) → unwrap_or known (reach_of fragments) ≤ position → position < unwrap_or (option_or known (own_end fragment)) (max (reach_of fragments) (fragment_end fragment)) → is_covered fragments position ≡ false
+  pub more : fragment.more ≡ true
+      → unwrap_or (option_or known (own_end fragment)) (max (reach_of fragments) (fragment_end fragment))
+      ≡ max (unwrap_or known (reach_of fragments)) (fragment_end fragment)
+  pub last : fragment.more ≡ false
+      → unwrap_or (option_or known (own_end fragment)) (max (reach_of fragments) (fragment_end fragment))
+      ≡ fragment_end fragment
+  pub behind : (position : ℕ) → unwrap_or known (reach_of fragments) ≤ position
+      → position < unwrap_or (option_or known (own_end fragment)) (max (reach_of fragments) (fragment_end fragment))
+      → is_covered fragments position ≡ false
 
-pub extends : (fragments : List IpFragment) (fragment : IpFragment) (known : Option ℕ) → FitsAt known fragment → Extends fragments fragment known
+pub extends : (fragments : List IpFragment) (fragment : IpFragment) (known : Option ℕ) → FitsAt known fragment
+    → Extends fragments fragment known
 extends fragments fragment None fits = record {
   more = λ more. rw more refl;
   last = λ last. rw last refl;
@@ -187,7 +231,8 @@ extends fragments fragment (Some end) fits =
       behind = λ position past within. absurd (omega arith);
     }
 
-pub assembled-push : (fragments : List IpFragment) (fragment : IpFragment) → Fits fragments fragment → data_after (assembled fragments) fragment ≡ assembled (fragments ++ fragment ∷ [])
+pub assembled-push : (fragments : List IpFragment) (fragment : IpFragment) → Fits fragments fragment
+    → data_after (assembled fragments) fragment ≡ assembled (fragments ++ fragment ∷ [])
 assembled-push fragments fragment fits =
     let contents = assembled fragments in
     let start = fragment_start fragment in
@@ -197,10 +242,13 @@ assembled-push fragments fragment fits =
     let longer = extended contents end in
     let written = overwritten longer start fragment.bytes in
     let by = extends fragments fragment (end_of fragments) (fits_at (end_of fragments) fragment fits) in
-    let longer_len : length longer ≡ max old_len end = length-extended contents end ∙ ap (λ n. max n end) (length-assembled fragments) in
+    let longer_len : length longer ≡ max old_len end =
+    length-extended contents end ∙ ap (λ n. max n end) (length-assembled fragments) in
     let within : start + length fragment.bytes ≤ length longer = omega (arith, longer_len) in
-    let written_len : length written ≡ max old_len end = length-overwritten longer start fragment.bytes within ∙ longer_len in
-    let before : (position : ℕ) → position < new_len → get_or longer position 0 ≡ byte_at fragments position = λ position inside.
+    let written_len : length written ≡ max old_len end =
+    length-overwritten longer start fragment.bytes within ∙ longer_len in
+    let before : (position : ℕ) → position < new_len → get_or longer position 0 ≡ byte_at fragments position =
+    λ position inside.
     get_or-append_zeros contents (end - length contents) position
     ∙ elim (cases_lt position old_len) [
       | inl old ↦ get_or-assembled fragments position old
@@ -208,23 +256,29 @@ assembled-push fragments fragment fits =
           get_or_past contents position 0 (omega (arith, length-assembled fragments, past))
           ∙ sym (byte_at-uncovered fragments position (by.behind position past inside))
     ] in
-    let each : (position : ℕ) → position < new_len → get_or written position 0 ≡ byte_at (fragments ++ fragment ∷ []) position = λ position inside.
+    let each : (position : ℕ) → position < new_len
+    → get_or written position 0 ≡ byte_at (fragments ++ fragment ∷ []) position = λ position inside.
     get_or-overwritten longer start fragment.bytes position within
     ∙ ap (λ byte. cond (covers position fragment) (own_byte fragment position) byte) (before position inside)
     ∙ sym (byte_at-push fragments fragment position) in
     let length_after : length (data_after contents fragment) ≡ new_len = elim (cases_Bool fragment.more) [
-      | inl more ↦ ap length (cond-true fragment.more written (take end written) more) ∙ written_len ∙ sym (by.more more)
+      | inl more ↦ ap length (cond-true fragment.more written (take end written) more) ∙ written_len
+          ∙ sym (by.more more)
       | inr last ↦
           ap length (cond-false fragment.more written (take end written) last)
           ∙ length-take-le end written (omega (arith, written_len))
           ∙ sym (by.last last)
     ] in
-    let each_after : (position : ℕ) → position < new_len → get_or (data_after contents fragment) position 0 ≡ byte_at (fragments ++ fragment ∷ []) position = λ position inside. elim (cases_Bool fragment.more) [
-      | inl more ↦ ap (λ bytes. get_or bytes position 0) (cond-true fragment.more written (take end written) more) ∙ each position inside
+    let each_after : (position : ℕ) → position < new_len
+    → get_or (data_after contents fragment) position 0 ≡ byte_at (fragments ++ fragment ∷ []) position =
+    λ position inside. elim (cases_Bool fragment.more) [
+      | inl more ↦ ap (λ bytes. get_or bytes position 0) (cond-true fragment.more written (take end written) more)
+          ∙ each position inside
       | inr last ↦
           ap (λ bytes. get_or bytes position 0) (cond-false fragment.more written (take end written) last)
           ∙ get_or-take end written position 0 (omega (arith, by.last last, inside))
           ∙ each position inside
     ] in
     rw (end_of-push fragments fragment, reach_of-push fragments fragment)
-    (fill_by_all (byte_at (fragments ++ fragment ∷ [])) (data_after contents fragment) new_len 0 length_after each_after)
+    (fill_by_all (byte_at (fragments ++ fragment ∷ []))
+    (data_after contents fragment) new_len 0 length_after each_after)

@@ -1,23 +1,25 @@
 -- What a buffer holds, before and after a fragment.
-use Rattle.std.proofs.Common.{◌≡◌, ℕ, List, ◌∷◌, [], ◌++◌, Bool, true, false, cond, ◌||◌, ◌&&◌, ◌↔◌, Option, Some, None, is_some, sym, ◌∙◌, subst, ap, refl, arith, inl, inr}
+use Rattle.std.proofs.Common.{◌≡◌, ℕ, ◌≤◌, length, List, ◌∷◌, [], ◌++◌, Bool, true, false, cond, ◌||◌, ◌&&◌, ◌↔◌, Option, Some, None, is_some, sym, ◌∙◌, subst, ap, refl, arith, inl, inr}
 use Rattle.std.specs.List.{All, list_any}
 use Rattle.std.specs.List.Sorted.{IsPermutation}
 use Rattle.std.specs.Option.{option_or}
-use Rattle.std.proofs.lemmas.Bool.{cases_Bool}
+use Rattle.std.proofs.lemmas.Bool.{cases_Bool, false≢true, or_cases, or_left, or_right}
 use Rattle.std.proofs.lemmas.List.Elements.{recursion_from_All}
 use Rattle.std.proofs.lemmas.List.Sorted.{list_any-IsPermutation, All-permutation, sum_by-IsPermutation, IsPermutation-sym}
 use Rattle.ep_defrag.specs.declared.ip_defrag_buf.IpDefragBuf.{IpDefragBuf}
 use Rattle.ep_defrag.specs.declared.ip_frag_range.IpFragRange.{IpFragRange}
-use Rattle.ep_defrag.specs.Ranges.{has_byte, touches}
-use Rattle.ep_defrag.specs.Fragments.{IpFragment, range_of, covers, end_of, IsComplete}
-use Rattle.ep_defrag.specs.Refusals.{Fits}
+use Rattle.ep_defrag.specs.Ranges.{has_byte, touches, merges}
+use Rattle.ep_defrag.specs.Fragments.{IpFragment, fragment_end, range_of, covers, end_of, IsComplete}
+use Rattle.ep_defrag.specs.Refusals.{Fits, IsInPlace}
 use Rattle.ep_defrag.specs.Buffers.{HoldsFragments, data_of, sections_of, known_end_of, data_after, end_after, sections_after, is_whole}
-use Rattle.ep_defrag.proofs.Sections.{IsOrdered, touches-hull, has_byte-hull, test-sections_after, ordered_after, apart_after}
+use Rattle.ep_defrag.proofs.Sections.{IsOrdered, merges-from_point, touches-hull, has_byte-hull, test-sections_after, ordered_after, apart_after}
 use Rattle.ep_defrag.proofs.Data.{FitAfter-push, FitsAt, fits_at, agrees_with, assembled-push, is_covered-push, is_touched-push, end_of-push, own_end}
 use Rattle.ep_defrag.proofs.Complete.{complete_by_sections}
 
 -- a buffer that shows the same holds the same
-pub HoldsFragments-same : (a b : IpDefragBuf) (fragments : List IpFragment) → HoldsFragments a fragments → data_of b ≡ data_of a → sections_of b ≡ sections_of a → known_end_of b ≡ known_end_of a → HoldsFragments b fragments
+pub HoldsFragments-same : (a b : IpDefragBuf) (fragments : List IpFragment) → HoldsFragments a fragments
+    → data_of b ≡ data_of a → sections_of b ≡ sections_of a → known_end_of b ≡ known_end_of a
+    → HoldsFragments b fragments
 HoldsFragments-same a b fragments held same_data same_sections same_end = record {
   in_turn = held.in_turn;
   contents = same_data ∙ held.contents;
@@ -29,7 +31,8 @@ HoldsFragments-same a b fragments held same_data same_sections same_end = record
 }
 
 -- the known end after a fragment that fits
-end_after-fits : (known : Option ℕ) (fragment : IpFragment) → FitsAt known fragment → end_after known fragment ≡ option_or known (own_end fragment)
+end_after-fits : (known : Option ℕ) (fragment : IpFragment) → FitsAt known fragment
+    → end_after known fragment ≡ option_or known (own_end fragment)
 end_after-fits None fragment fits = refl
 end_after-fits (Some end) fragment fits = elim (cases_Bool fragment.more) [
   | inl more ↦ rw more refl
@@ -43,7 +46,10 @@ or_swap false true = refl
 or_swap false false = refl
 
 -- A buffer that took a fragment which fits holds it at the end of its list.
-pub HoldsFragments-push : (old new : IpDefragBuf) (fragments : List IpFragment) (fragment : IpFragment) → HoldsFragments old fragments → Fits fragments fragment → data_of new ≡ data_after (data_of old) fragment → IsPermutation (sections_of new) (sections_after (range_of fragment) (sections_of old)) → known_end_of new ≡ end_after (known_end_of old) fragment → HoldsFragments new (fragments ++ fragment ∷ [])
+pub HoldsFragments-push : (old new : IpDefragBuf) (fragments : List IpFragment) (fragment : IpFragment)
+    → HoldsFragments old fragments → Fits fragments fragment → data_of new ≡ data_after (data_of old) fragment
+    → IsPermutation (sections_of new) (sections_after (range_of fragment) (sections_of old))
+    → known_end_of new ≡ end_after (known_end_of old) fragment → HoldsFragments new (fragments ++ fragment ∷ [])
 HoldsFragments-push old new fragments fragment held fits data_now sections_now end_now =
     let range = range_of fragment in
     let sections = sections_of old in
@@ -52,14 +58,22 @@ HoldsFragments-push old new fragments fragment held fits data_now sections_now e
     let after = sections_after range sections in
     record {
       in_turn = FitAfter-push [] fragments fragment held.in_turn fits;
-      contents = data_now ∙ ap (λ contents. data_after contents fragment) held.contents ∙ assembled-push fragments fragment fits;
+      contents =
+          data_now
+          ∙ ap (λ contents. data_after contents fragment) held.contents
+          ∙ assembled-push fragments fragment fits;
       end =
           end_now
           ∙ ap (λ known. end_after known fragment) held.end
           ∙ end_after-fits (end_of fragments) fragment (fits_at (end_of fragments) fragment fits)
           ∙ sym (end_of-push fragments fragment);
-      ordered = All-permutation IsOrdered after (sections_of new) (IsPermutation-sym (sections_of new) after sections_now) (ordered_after range ordered sections all);
-      apart = λ position. omega (arith, sum_by-IsPermutation (λ section. cond (touches position section) 1 0) (sections_of new) after sections_now, apart_after range ordered sections all position (held.apart position));
+      ordered = All-permutation IsOrdered after (sections_of new)
+          (IsPermutation-sym (sections_of new) after sections_now) (ordered_after range ordered sections all);
+      apart = λ position. omega (
+        arith,
+        sum_by-IsPermutation (λ section. cond (touches position section) 1 0) (sections_of new) after sections_now,
+        apart_after range ordered sections all position (held.apart position),
+      );
       bytes = λ position.
           list_any-IsPermutation (has_byte position) (sections_of new) after sections_now
           ∙ test-sections_after (has_byte position) (has_byte-hull position) range ordered sections all
@@ -75,7 +89,36 @@ HoldsFragments-push old new fragments fragment held fits data_now sections_now e
     }
 
 -- It shows whether they are complete.
-pub complete_when_held : (buffer : IpDefragBuf) (fragments : List IpFragment) → HoldsFragments buffer fragments → ((is_some (known_end_of buffer) && is_whole (sections_of buffer)) ≡ true) ↔ IsComplete fragments
+pub complete_when_held : (buffer : IpDefragBuf) (fragments : List IpFragment) → HoldsFragments buffer fragments
+    → ((is_some (known_end_of buffer) && is_whole (sections_of buffer)) ≡ true) ↔ IsComplete fragments
 complete_when_held buffer fragments held =
     rw held.end
-    (complete_by_sections (sections_of buffer) fragments (record { ordered = recursion_from_All IsOrdered (sections_of buffer) held.ordered; apart = held.apart; bytes = held.bytes; points = held.points }))
+    (complete_by_sections (sections_of buffer) fragments
+    (record {
+      ordered = recursion_from_All IsOrdered (sections_of buffer) held.ordered;
+      apart = held.apart;
+      bytes = held.bytes;
+      points = held.points;
+    }))
+
+-- a section that touches a position of the range merges with it
+merging_from_point : (range : IpFragRange) (sections : List IpFragRange) (position : ℕ) → touches position range ≡ true
+    → list_any (touches position) sections ≡ true → list_any (merges range) sections ≡ true
+merging_from_point range [] position here there = absurd (false≢true there)
+merging_from_point range (section ∷ sections) position here there =
+    elim (or_cases (touches position section) (list_any (touches position) sections) there) [
+      | inl first ↦ or_left _ _ (merges-from_point range section position here first)
+      | inr later ↦ or_right _ _ (merging_from_point range sections position here later)
+    ]
+
+-- A fragment in place ends within its data, and merges with one of its sections.
+pub in_place_when_held : (buffer : IpDefragBuf) (fragments : List IpFragment) (fragment : IpFragment)
+    → HoldsFragments buffer fragments → IsInPlace fragments fragment
+    → (fragment_end fragment ≤ length (data_of buffer))
+    × (list_any (merges (range_of fragment)) (sections_of buffer) ≡ true)
+in_place_when_held buffer fragments fragment held placed =
+    let position = placed.touching.0 in (
+      rw held.contents placed.within,
+      merging_from_point (range_of fragment) (sections_of buffer) position placed.touching.1
+          (held.points position ∙ placed.touching.2),
+    )

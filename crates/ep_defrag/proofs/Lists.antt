@@ -39,7 +39,8 @@ module _ {X : Type 0} (p : X → Bool) where
   ]
 
   -- one that passes is left out
-  pub length-filter_not-lt : (xs : List X) → position_or_len p xs < length xs → length (filter (λ x. not (p x)) xs) < length xs
+  pub length-filter_not-lt : (xs : List X) → position_or_len p xs < length xs
+      → length (filter (λ x. not (p x)) xs) < length xs
   length-filter_not-lt [] within = absurd (omega arith)
   length-filter_not-lt (x ∷ xs) within = elim (cases_Bool (p x)) [
     | inl passes ↦ rw passes (omega (arith, length-filter_not-le xs))
@@ -64,7 +65,8 @@ module _ {X : Type 0} (p : X → Bool) where
     | inr past ↦ none_from_first xs (grind (arith, nat_tests))
   ]
 
-  pub position-within : (xs : List X) (first : ℕ) → position p xs ≡ Some first → (first ≡ position_or_len p xs) × (first < length xs)
+  pub position-within : (xs : List X) (first : ℕ) → position p xs ≡ Some first
+      → (first ≡ position_or_len p xs) × (first < length xs)
   position-within xs first found = elim (cases_Bool (ltb (position_or_len p xs) (length xs))) [
     | inl within ↦
         let e : Some (position_or_len p xs) ≡ Some first = rw within at found in
@@ -74,18 +76,22 @@ module _ {X : Type 0} (p : X → Bool) where
   ]
 
   -- a test of a list is one of the two parts of a filter
-  pub list_any-filter_both : (q : X → Bool) (xs : List X) → (list_any q (filter p xs) || list_any q (filter (λ x. not (p x)) xs)) ≡ list_any q xs
+  pub list_any-filter_both : (q : X → Bool) (xs : List X)
+      → (list_any q (filter p xs) || list_any q (filter (λ x. not (p x)) xs)) ≡ list_any q xs
   list_any-filter_both q xs =
       sym (list_any-append q (filter p xs) (filter (λ x. not (p x)) xs))
       ∙ sym (list_any-IsPermutation q xs _ (IsPermutation-filter_both p (λ x. not (p x)) (λ x. refl) xs))
 
 -- a test of each number of a run
-pub list_all-range : (p : ℕ → Bool) (from n : ℕ) → ((k : ℕ) → from ≤ k → k < from + n → p k ≡ true) → list_all p (range_with_len from n) ≡ true
+pub list_all-range : (p : ℕ → Bool) (from n : ℕ) → ((k : ℕ) → from ≤ k → k < from + n → p k ≡ true)
+    → list_all p (range_with_len from n) ≡ true
 list_all-range p from zero each = refl
 list_all-range p from (suc n) each =
-    and_from _ _ (each from (omega arith) (omega arith)) (list_all-range p (from + 1) n (λ k low high. each k (omega arith) (omega arith)))
+    and_from _ _ (each from (omega arith) (omega arith))
+    (list_all-range p (from + 1) n (λ k low high. each k (omega arith) (omega arith)))
 
-pub each_of_range : (p : ℕ → Bool) (from n : ℕ) → list_all p (range_with_len from n) ≡ true → (k : ℕ) → from ≤ k → k < from + n → p k ≡ true
+pub each_of_range : (p : ℕ → Bool) (from n : ℕ) → list_all p (range_with_len from n) ≡ true → (k : ℕ) → from ≤ k
+    → k < from + n → p k ≡ true
 each_of_range p from zero all k low high = absurd (omega arith)
 each_of_range p from (suc n) all k low high =
     let parts = and_parts _ _ all in
@@ -99,5 +105,6 @@ pub count_by-positive : {X : Type 0} (p : X → Bool) (xs : List X) → list_any
 count_by-positive p [] any = absurd (false≢true any)
 count_by-positive p (x ∷ xs) any = elim (cases_Bool (p x)) [
   | inl passes ↦ rw (sum_by-cons (λ y. cond (p y) 1 0) x xs, passes) (omega arith)
-  | inr fails ↦ rw (sum_by-cons (λ y. cond (p y) 1 0) x xs, fails) (omega (arith, count_by-positive p xs (rw fails at any)))
+  | inr fails ↦ rw (sum_by-cons (λ y. cond (p y) 1 0) x xs, fails)
+      (omega (arith, count_by-positive p xs (rw fails at any)))
 ]

@@ -10,18 +10,21 @@ use Rattle.ep_defrag.specs.Refusals.{is_unaligned, conflicts_with, end_refusal, 
 use Rattle.ep_defrag.specs.Runs.{accepted_with, accepted_after, ok_unless, answers_after}
 
 -- ---- a refusal is not one of memory
-from_cond : (test : Bool) (value error : IpDefragError) (other : Option IpDefragError) → cond test (Some value) other ≡ Some error → (error ≡ value) ⊎ (other ≡ Some error)
+from_cond : (test : Bool) (value error : IpDefragError) (other : Option IpDefragError)
+    → cond test (Some value) other ≡ Some error → (error ≡ value) ⊎ (other ≡ Some error)
 from_cond true value error other same = inl (cc)
 from_cond false value error other same = inr same
 
-no_memory_at : (known : Option ℕ) (fragment : IpFragment) (error : IpDefragError) → end_refusal known fragment ≡ Some error → is_want_of_memory error ≡ false
+no_memory_at : (known : Option ℕ) (fragment : IpFragment) (error : IpDefragError)
+    → end_refusal known fragment ≡ Some error → is_want_of_memory error ≡ false
 no_memory_at None fragment error refused = absurd (cc)
 no_memory_at (Some end) fragment error refused = elim (from_cond (conflicts_with end fragment) _ error None refused) [
   | inl conflict ↦ ap is_want_of_memory conflict
   | inr none ↦ absurd (cc)
 ]
 
-pub no_memory : (known : Option ℕ) (fragment : IpFragment) (error : IpDefragError) → refusal_at known fragment ≡ Some error → is_want_of_memory error ≡ false
+pub no_memory : (known : Option ℕ) (fragment : IpFragment) (error : IpDefragError)
+    → refusal_at known fragment ≡ Some error → is_want_of_memory error ≡ false
 no_memory known fragment error refused = elim (from_cond (ltb 65535 (fragment_end fragment)) _ error _ refused) [
   | inl long ↦ ap is_want_of_memory long
   | inr short ↦ elim (from_cond (is_unaligned fragment) _ error _ short) [
@@ -30,13 +33,16 @@ no_memory known fragment error refused = elim (from_cond (ltb 65535 (fragment_en
   ]
 ]
 
-answer_no_memory : (refusal : Option IpDefragError) → ((error : IpDefragError) → refusal ≡ Some error → is_want_of_memory error ≡ false) → (len : ℕ) → ok_unless refusal ≢ Err (AllocationFailure len)
+answer_no_memory : (refusal : Option IpDefragError)
+    → ((error : IpDefragError) → refusal ≡ Some error → is_want_of_memory error ≡ false) → (len : ℕ)
+    → ok_unless refusal ≢ Err (AllocationFailure len)
 answer_no_memory None none len same = cc
 answer_no_memory (Some error) none len same =
     let is : error ≡ AllocationFailure len = cc in
     false≢true (sym (none error refl) ∙ ap is_want_of_memory is)
 
-pub answers_no_memory : (accepted fragments : List IpFragment) → All (λ answer. (len : ℕ) → answer ≢ Err (AllocationFailure len)) (answers_after accepted fragments)
+pub answers_no_memory : (accepted fragments : List IpFragment)
+    → All (λ answer. (len : ℕ) → answer ≢ Err (AllocationFailure len)) (answers_after accepted fragments)
 answers_no_memory accepted [] = All-nil (λ answer. (len : ℕ) → answer ≢ Err (AllocationFailure len))
 answers_no_memory accepted (fragment ∷ fragments) =
     All-cons (λ answer. (len : ℕ) → answer ≢ Err (AllocationFailure len)) _ _
@@ -44,11 +50,16 @@ answers_no_memory accepted (fragment ∷ fragments) =
     (answers_no_memory (accepted_with accepted fragment) fragments)
 
 -- ---- one more fragment
-pub accepted_after-push : (accepted fragments : List IpFragment) (fragment : IpFragment) → accepted_after accepted (fragments ++ fragment ∷ []) ≡ accepted_with (accepted_after accepted fragments) fragment
+pub accepted_after-push : (accepted fragments : List IpFragment) (fragment : IpFragment)
+    → accepted_after accepted (fragments ++ fragment ∷ []) ≡ accepted_with (accepted_after accepted fragments) fragment
 accepted_after-push accepted [] fragment = refl
-accepted_after-push accepted (first ∷ fragments) fragment = accepted_after-push (accepted_with accepted first) fragments fragment
+accepted_after-push accepted (first ∷ fragments) fragment =
+    accepted_after-push (accepted_with accepted first) fragments fragment
 
-pub answers_after-push : (accepted fragments : List IpFragment) (fragment : IpFragment) → answers_after accepted (fragments ++ fragment ∷ []) ≡ answers_after accepted fragments ++ ok_unless (refusal_of (accepted_after accepted fragments) fragment) ∷ []
+pub answers_after-push : (accepted fragments : List IpFragment) (fragment : IpFragment)
+    → answers_after accepted (fragments ++ fragment ∷ [])
+    ≡ answers_after accepted fragments ++ ok_unless (refusal_of (accepted_after accepted fragments) fragment) ∷ []
 answers_after-push accepted [] fragment = refl
 answers_after-push accepted (first ∷ fragments) fragment =
-    ap (λ answers. ok_unless (refusal_of accepted first) ∷ answers) (answers_after-push (accepted_with accepted first) fragments fragment)
+    ap (λ answers. ok_unless (refusal_of accepted first) ∷ answers)
+    (answers_after-push (accepted_with accepted first) fragments fragment)

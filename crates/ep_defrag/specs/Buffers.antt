@@ -28,7 +28,8 @@ pub record IsUnchanged (old new : IpDefragBuf) : Type 0 where
   pub sections : sections_of new ≡ sections_of old
   pub end : known_end_of new ≡ known_end_of old
 
--- Data after a fragment: extended with zeros up to its end, overwritten on its range, and cut to its end where it is final.
+-- Data after a fragment: extended with zeros up to its end, overwritten on its range, and cut to its end where it is
+-- final.
 abbrev pub extended : List ℕ → ℕ → List ℕ
 extended contents end = contents ++ replicate (end - length contents) 0
 

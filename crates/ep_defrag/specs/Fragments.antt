@@ -4,7 +4,8 @@ use Rattle.std.specs.List.{list_any, list_all, range_with_len}
 use Rattle.ep_defrag.specs.declared.ip_frag_range.IpFragRange.{IpFragRange}
 use Rattle.ep_defrag.specs.Ranges.{has_byte, touches}
 
--- A fragment: its offset in units of 8 bytes, whether more fragments follow it, and its bytes (RFC 791, 3.1 and RFC 8200, 4.5).
+-- A fragment: its offset in units of 8 bytes, whether more fragments follow it, and its bytes (RFC 791, 3.1 and
+-- RFC 8200, 4.5).
 pub record IpFragment : Type 0 where
   pub offset : ℕ
   pub more : Bool
@@ -69,7 +70,8 @@ assembled fragments = map (byte_at fragments) (range_with_len 0 (unwrap_or (end_
 
 -- whether the end is known and each position below the greatest end is covered
 abbrev pub is_complete : List IpFragment → Bool
-is_complete fragments = is_some (end_of fragments) && list_all (is_covered fragments) (range_with_len 0 (reach_of fragments))
+is_complete fragments =
+    is_some (end_of fragments) && list_all (is_covered fragments) (range_with_len 0 (reach_of fragments))
 
 abbrev pub IsComplete : List IpFragment → Type 0
 IsComplete fragments = IsTrue (is_complete fragments)

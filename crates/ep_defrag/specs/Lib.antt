@@ -5,3 +5,4 @@ pub mod Buffers
 pub mod Runs
 pub mod Cuts
 pub mod Texts
+pub mod Comparisons

@@ -1,8 +1,9 @@
--- When a fragment is accepted after others, and with which error it is refused.
-use Rattle.std.specs.Prelude.{◌≡◌, ℕ, ◌%◌, Bool, true, false, not, ◌&&◌, ◌||◌, ◌==◌, nat_lt, if◌then◌else◌, Option, Some, None, List, [], ◌∷◌, ◌++◌, length}
+-- When a fragment is accepted after others, with which error it is refused, and when it needs no memory.
+use Rattle.std.specs.Prelude.{◌≡◌, ℕ, ◌%◌, ◌≤◌, Bool, true, false, not, ◌&&◌, ◌||◌, ◌==◌, nat_lt, if◌then◌else◌, Option, Some, None, List, [], ◌∷◌, ◌++◌, length, IsTrue}
 use Rattle.ep_defrag.specs.declared.ip_defrag_error.IpDefragError.{IpDefragError}
 use Rattle.ep_defrag.specs.declared.ip_defrag_error.IpDefragError.TheVariants.{UnalignedFragmentPayloadLen, SegmentTooBig, ConflictingEnd, AllocationFailure}
-use Rattle.ep_defrag.specs.Fragments.{IpFragment, is_final, fragment_end, end_of}
+use Rattle.ep_defrag.specs.Ranges.{touches}
+use Rattle.ep_defrag.specs.Fragments.{IpFragment, is_final, fragment_end, range_of, is_touched, end_of, assembled}
 
 -- more fragments follow, and the length is no multiple of 8
 abbrev pub is_unaligned : IpFragment → Bool
@@ -19,8 +20,8 @@ end_refusal None fragment = None
 end_refusal (Some known_end) fragment =
     if conflicts_with known_end fragment then Some (ConflictingEnd known_end (fragment_end fragment)) else None
 
--- The refusal of a fragment where the end is known or not: it is too long, it is unaligned, its end conflicts, the first
--- of these that holds. None where it fits.
+-- The refusal of a fragment where the end is known or not: it is too long, it is unaligned, its end conflicts, the
+-- first of these that holds. None where it fits.
 abbrev pub refusal_at : Option ℕ → IpFragment → Option IpDefragError
 refusal_at known_end fragment =
     if nat_lt 65535 (fragment_end fragment) then Some (SegmentTooBig fragment.offset (length fragment.bytes) 65535)
@@ -45,6 +46,15 @@ FitAfter earlier (fragment ∷ later) = Fits earlier fragment × FitAfter (earli
 -- each fragment fits after those before it
 abbrev pub FitInTurn : List IpFragment → Type 0
 FitInTurn fragments = FitAfter [] fragments
+
+-- It ends within what is put together, and some position touches it and an accepted one: nothing has to grow for it.
+pub record IsInPlace (accepted : List IpFragment) (fragment : IpFragment) : Type 0 where
+  pub within : fragment_end fragment ≤ length (assembled accepted)
+  pub touching : (position : ℕ) × IsTrue (touches position (range_of fragment)) × IsTrue (is_touched accepted position)
+
+-- It fits, and is not in place: only then may memory be wanting.
+abbrev pub MayNeedMemory : List IpFragment → IpFragment → Type 0
+MayNeedMemory accepted fragment = Fits accepted fragment × (¬ IsInPlace accepted fragment)
 
 -- whether an error is of memory
 abbrev pub is_want_of_memory : IpDefragError → Bool

@@ -19,5 +19,6 @@ impl<'a> Model for Fragment<'a> {
 
     ghost Value = { IpFragment };
 
-    ghost view = { λ fields. record { offset = fields.offset; more = fields.more_fragments; bytes = fields.payload.now } };
+    ghost view = { λ fields.
+        record { offset = fields.offset; more = fields.more_fragments; bytes = fields.payload.now } };
 }

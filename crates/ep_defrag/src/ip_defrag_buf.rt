@@ -5,7 +5,7 @@ ghost use Rattle.std.specs.List.{list_any, Any, position, filter};
 ghost use Rattle.std.specs.List.Sorted.{IsPermutation};
 ghost use Rattle.ep_defrag.specs.Ranges.{merges, SharePoint};
 ghost use Rattle.ep_defrag.specs.Fragments.{IpFragment, fragment_with, fragment_end, range_of, IsComplete};
-ghost use Rattle.ep_defrag.specs.Refusals.{Fits, RefusesFragment, refusal_at};
+ghost use Rattle.ep_defrag.specs.Refusals.{Fits, RefusesFragment, MayNeedMemory, refusal_at};
 ghost use Rattle.ep_defrag.specs.Buffers.{ip_number_of, data_of, sections_of, known_end_of, IsUnchanged, HoldsFragments, extended, overwritten, data_after, data_with, end_after, union_of, sections_after, is_whole};
 
 use crate::MAX_IP_DEFRAG_LEN_U16;
@@ -83,7 +83,8 @@ impl IpDefragBuf {
 
     /// Whether the payload's end is known and nothing is missing before the greatest end of a fragment.
     pub fn is_complete(&self) -> bool
-        ensures complete { (accepted : List IpFragment) → HoldsFragments self.now accepted → IsTrue result ↔ IsComplete accepted }
+        ensures complete { (accepted : List IpFragment) → HoldsFragments self.now accepted →
+            IsTrue result ↔ IsComplete accepted }
         ensures shown { result ≡ (is_some (known_end_of self.now) && is_whole (sections_of self.now)) }
     {
         is_whole(self.end, &self.sections)
@@ -100,7 +101,8 @@ impl IpDefragBuf {
     /// A buffer that shows the same.
     pub fn clone(&self) -> Result<IpDefragBuf, AllocError>
         ensures same { IfOk result (λ copy. IsUnchanged self.now copy) }
-        ensures holds { IfOk result (λ copy. (accepted : List IpFragment) → HoldsFragments self.now accepted → HoldsFragments copy accepted) }
+        ensures holds { IfOk result (λ copy. (accepted : List IpFragment) →
+            HoldsFragments self.now accepted → HoldsFragments copy accepted) }
     {
         Ok(IpDefragBuf {
             ip_number: self.ip_number,
@@ -110,8 +112,8 @@ impl IpDefragBuf {
         })
     }
 
-    /// Adds a fragment: its offset, whether more fragments follow it, and its bytes. Where fragments overlap, the bytes of
-    /// the last one count. A final fragment, one that no more follow, sets the payload's end.
+    /// Adds a fragment: its offset, whether more fragments follow it, and its bytes. Where fragments overlap, the bytes
+    /// of the last one count. A final fragment, one that no more follow, sets the payload's end.
     ///
     /// The first of these that holds is the error, and it changes nothing:
     ///
@@ -125,16 +127,19 @@ impl IpDefragBuf {
         more_fragments: bool,
         payload: &[u8],
     ) -> Result<(), IpDefragError>
-        // For every list of fragments that the buffer holds: the fragment is accepted exactly where it fits after them.
+        // For every list of fragments that the buffer holds: the fragment is accepted exactly where it fits after them,
+        // and memory may be wanting only where it is not in place.
         ensures fits { OnOk result ((accepted : List IpFragment) → HoldsFragments self.old accepted →
             let fragment = fragment_with offset more_fragments payload.now in Fits accepted fragment) }
         ensures holds { OnOk result ((accepted : List IpFragment) → HoldsFragments self.old accepted →
-            let fragment = fragment_with offset more_fragments payload.now in HoldsFragments self.new (accepted ++ fragment ∷ [])) }
+            let fragment = fragment_with offset more_fragments payload.now in
+            HoldsFragments self.new (accepted ++ fragment ∷ [])) }
         ensures refused { IfErr result (λ error. (accepted : List IpFragment) → HoldsFragments self.old accepted →
             let fragment = fragment_with offset more_fragments payload.now in
             RefusesFragment accepted fragment error
-            ⊎ (Fits accepted fragment × (error ≡ IpDefragError.AllocationFailure (fragment_end fragment)))) }
-        ensures keeps { OnErr result ((accepted : List IpFragment) → HoldsFragments self.old accepted → HoldsFragments self.new accepted) }
+            ⊎ (MayNeedMemory accepted fragment × (error ≡ IpDefragError.AllocationFailure (fragment_end fragment)))) }
+        ensures keeps { OnErr result ((accepted : List IpFragment) →
+            HoldsFragments self.old accepted → HoldsFragments self.new accepted) }
 
         // An error changes nothing, and where nothing has to grow it is none of memory.
         ensures err { OnErr result (IsUnchanged self.old self.new) }
@@ -148,11 +153,15 @@ impl IpDefragBuf {
             MatchResult result
             (λ _. refusal_at (known_end_of self.old) fragment ≡ None)
             (λ error. (refusal_at (known_end_of self.old) fragment ≡ Some error)
-            ⊎ ((refusal_at (known_end_of self.old) fragment ≡ None) × (error ≡ IpDefragError.AllocationFailure (fragment_end fragment)))) }
-        ensures data { OnOk result (data_of self.new ≡ data_after (data_of self.old) (fragment_with offset more_fragments payload.now)) }
+            ⊎ ((refusal_at (known_end_of self.old) fragment ≡ None)
+            × (error ≡ IpDefragError.AllocationFailure (fragment_end fragment)))) }
+        ensures data { let fragment = fragment_with offset more_fragments payload.now in
+            OnOk result (data_of self.new ≡ data_after (data_of self.old) fragment) }
         ensures sections { let fragment = fragment_with offset more_fragments payload.now in
-            OnOk result (IsPermutation (sections_of self.new) (sections_after (range_of fragment) (sections_of self.old))) }
-        ensures end { OnOk result (known_end_of self.new ≡ end_after (known_end_of self.old) (fragment_with offset more_fragments payload.now)) }
+            OnOk result
+            (IsPermutation (sections_of self.new) (sections_after (range_of fragment) (sections_of self.old))) }
+        ensures end { let fragment = fragment_with offset more_fragments payload.now in
+            OnOk result (known_end_of self.new ≡ end_after (known_end_of self.old) fragment) }
         ensures ip_number { ip_number_of self.new ≡ ip_number_of self.old }
     {
         let range = checked_range(self.end, offset, more_fragments, payload)?;
@@ -173,11 +182,14 @@ impl IpDefragBuf {
     ) -> Result<(), AllocError>
         requires { range.end ≡ range.start + length payload.now }
         ensures data { OnOk result (data_of self.new ≡ data_with (data_of self.old) range more_fragments payload.now) }
-        ensures sections { OnOk result (IsPermutation (sections_of self.new) (sections_after range (sections_of self.old))) }
-        ensures end { OnOk result (known_end_of self.new ≡ (if more_fragments then known_end_of self.old else Some range.end)) }
+        ensures sections { OnOk result
+            (IsPermutation (sections_of self.new) (sections_after range (sections_of self.old))) }
+        ensures end { OnOk result
+            (known_end_of self.new ≡ (if more_fragments then known_end_of self.old else Some range.end)) }
         ensures ip_number { ip_number_of self.new ≡ ip_number_of self.old }
         ensures err { OnErr result (IsUnchanged self.old self.new) }
-        ensures in_place { range.end ≤ length (data_of self.old) → IsTrue (list_any (merges range) (sections_of self.old)) → IsOk result }
+        ensures in_place { range.end ≤ length (data_of self.old) →
+            IsTrue (list_any (merges range) (sections_of self.old)) → IsOk result }
     {
         make_room(&mut self.bytes, &mut self.sections, range)?;
         overwrite(&mut self.bytes, range, payload);
@@ -250,10 +262,12 @@ fn make_room(
     range: IpFragRange,
 ) -> Result<(), AllocError>
     ensures extended { OnOk result (bytes.new.items ≡ extended bytes.old.items range.end) }
-    ensures room { OnOk result (IsFalse (list_any (merges range) sections.old.items) → vec_len sections.new < vec_capacity sections.new) }
+    ensures room { OnOk result
+        (IsFalse (list_any (merges range) sections.old.items) → vec_len sections.new < vec_capacity sections.new) }
     ensures sections { sections.new.items ≡ sections.old.items }
     ensures err { OnErr result (bytes.new.items ≡ bytes.old.items) }
-    ensures in_place { range.end ≤ vec_len bytes.old → IsTrue (list_any (merges range) sections.old.items) → IsOk result }
+    ensures in_place { range.end ≤ vec_len bytes.old →
+        IsTrue (list_any (merges range) sections.old.items) → IsOk result }
 {
     if !any_merging(sections.as_slice(), range) {
         sections.reserve(1)?;

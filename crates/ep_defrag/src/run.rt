@@ -4,7 +4,7 @@ ghost use Rattle.std.specs.Prelude.{◌≡◌, ◌≢◌, ◌<◌, ℕ, List, []
 ghost use Rattle.std.specs.List.{All, HoldsAt};
 ghost use Rattle.ep_defrag.specs.declared.ip_defrag_error.IpDefragError.TheVariants as defrag_error;
 ghost use Rattle.ep_defrag.specs.Fragments.{IpFragment};
-ghost use Rattle.ep_defrag.specs.Refusals.{Fits, refusal_of};
+ghost use Rattle.ep_defrag.specs.Refusals.{MayNeedMemory, refusal_of};
 ghost use Rattle.ep_defrag.specs.Buffers.{HoldsFragments, ip_number_of};
 ghost use Rattle.ep_defrag.specs.Runs.{accepted_with, accepted_after, ok_unless, answers_after};
 
@@ -22,8 +22,8 @@ pub struct RunStop {
     pub at: usize,
 }
 
-/// Adds fragments in turn to a new buffer, which uses the memory of both vectors, and answers it with the answer to each
-/// fragment. `RunStop` comes only for want of memory.
+/// Adds fragments in turn to a new buffer, which uses the memory of both vectors, and answers it with the answer to
+/// each fragment. `RunStop` comes only for want of memory.
 pub fn add_all(
     alloc: Global,
     ip_number: IpNumber,
@@ -35,10 +35,13 @@ pub fn add_all(
     ensures answers { IfOk result (λ run. run.1.items ≡ answers_after [] fragments.now) }
     ensures ip_number { IfOk result (λ run. ip_number_of run.0 ≡ ip_number) }
 
-    // No answer is one of memory, and a run that stops past the first fragment stops at one that fits.
-    ensures no_memory { IfOk result (λ run. All (λ answer. (len : ℕ) → answer ≢ Err (defrag_error.AllocationFailure len)) run.1.items) }
+    // No answer is one of memory, and a run that stops past the first fragment stops at one that fits and is not in
+    // place.
+    ensures no_memory { IfOk result (λ run.
+        All (λ answer. (len : ℕ) → answer ≢ Err (defrag_error.AllocationFailure len)) run.1.items) }
     ensures within { IfErr result (λ stop. stop.at < length fragments.now) }
-    ensures stopped { IfErr result (λ stop. 0 < stop.at → HoldsAt (Fits (accepted_after [] (take stop.at fragments.now))) fragments.now stop.at) }
+    ensures stopped { IfErr result (λ stop. 0 < stop.at →
+        HoldsAt (MayNeedMemory (accepted_after [] (take stop.at fragments.now))) fragments.now stop.at) }
 {
     let Ok(mut answers) = Vec::with_capacity(alloc, fragments.len()) else {
         return Err(RunStop { at: 0 });
@@ -58,9 +61,12 @@ fn answer_next(
     buffer: &mut IpDefragBuf,
     fragment: &Fragment,
 ) -> Result<Result<(), IpDefragError>, AllocError>
-    ensures answer { IfOk result (λ answer. (accepted : List IpFragment) → HoldsFragments buffer.old accepted → answer ≡ ok_unless (refusal_of accepted fragment.now)) }
-    ensures holds { OnOk result ((accepted : List IpFragment) → HoldsFragments buffer.old accepted → HoldsFragments buffer.new (accepted_with accepted fragment.now)) }
-    ensures fits { OnErr result ((accepted : List IpFragment) → HoldsFragments buffer.old accepted → Fits accepted fragment.now) }
+    ensures answer { IfOk result (λ answer. (accepted : List IpFragment) → HoldsFragments buffer.old accepted →
+        answer ≡ ok_unless (refusal_of accepted fragment.now)) }
+    ensures holds { OnOk result ((accepted : List IpFragment) → HoldsFragments buffer.old accepted →
+        HoldsFragments buffer.new (accepted_with accepted fragment.now)) }
+    ensures memory { OnErr result ((accepted : List IpFragment) → HoldsFragments buffer.old accepted →
+        MayNeedMemory accepted fragment.now) }
     ensures ip_number { ip_number_of buffer.new ≡ ip_number_of buffer.old }
 {
     match buffer.add(fragment.offset, fragment.more_fragments, fragment.payload) {

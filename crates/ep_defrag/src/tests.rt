@@ -1,10 +1,7 @@
-//! Worked examples of reassembly, and what no clause says: that calls succeed where there is memory, and what they leave
-//! where there is none (`rt try --test --fail-alloc N` refuses the N-th request).
+//! Worked examples of reassembly, and what no clause says: that calls succeed where there is memory, and what they
+//! leave where there is none (`rt try --test --fail-alloc N` refuses the N-th request).
 
-use crate::{
-    Fragment, IpDefragBuf, IpDefragError, IpFragRange, MAX_IP_DEFRAG_LEN, MAX_IP_DEFRAG_LEN_U16,
-    add_all,
-};
+use crate::{Fragment, IpDefragBuf, IpDefragError, IpFragRange, add_all};
 use ep_base::{IpFragOffset, IpNumber};
 use std::alloc::{AllocError, Global};
 use std::process::Abort;
@@ -38,27 +35,27 @@ const fn section(start: u16, end: u16) -> IpFragRange {
     IpFragRange { start, end }
 }
 
-// A fragment at a position in bytes, and whether the buffer is complete after it.
+// A fragment at an offset in units of 8 bytes, and whether the buffer is complete after it.
 #[derive(Clone, Copy)]
 struct Step {
-    at: u16,
+    units: u16,
     more_fragments: bool,
     bytes: Bytes,
     complete: bool,
 }
 
-const fn more(at: u16, bytes: Bytes, complete: bool) -> Step {
+const fn more(units: u16, bytes: Bytes, complete: bool) -> Step {
     Step {
-        at,
+        units,
         more_fragments: true,
         bytes,
         complete,
     }
 }
 
-const fn last(at: u16, bytes: Bytes, complete: bool) -> Step {
+const fn last(units: u16, bytes: Bytes, complete: bool) -> Step {
     Step {
-        at,
+        units,
         more_fragments: false,
         bytes,
         complete,
@@ -81,24 +78,52 @@ fn new_buffer(alloc: Global) -> IpDefragBuf {
     IpDefragBuf::new(IpNumber::UDP, Vec::new(alloc), Vec::new(alloc))
 }
 
-// Fragments that are all accepted, and what the buffer shows in the end, its sections in order.
-fn check(
+// Runs the steps one by one and all in one call, which gives the answers and a buffer that shows the same.
+fn run(
     rt: &(impl AllocGlobal + Abort),
     steps: &[Step],
+) -> Result<(IpDefragBuf, Vec<Result<(), IpDefragError>>), Fail> {
+    let mut payloads = Vec::new(rt.alloc());
+    for step in steps {
+        payloads.push(bytes_of(rt.alloc(), &[step.bytes])?)?;
+    }
+    let mut fragments = Vec::new(rt.alloc());
+    let mut one_by_one = new_buffer(rt.alloc());
+    for (step, payload) in steps.iter().zip(&payloads) {
+        let offset = IpFragOffset::try_new(step.units)?;
+        let fragment = Fragment {
+            offset,
+            more_fragments: step.more_fragments,
+            payload: payload.as_slice(),
+        };
+        let _ = one_by_one.add(offset, step.more_fragments, payload.as_slice());
+        assert_eq!(rt;
+            one_by_one.is_complete(),
+            step.complete,
+            "after {}",
+            step.units
+        );
+        fragments.push(fragment)?;
+    }
+    let (buffer, answers) = add_all(
+        rt.alloc(),
+        IpNumber::UDP,
+        Vec::new(rt.alloc()),
+        Vec::new(rt.alloc()),
+        fragments.as_slice(),
+    )?;
+    assert_eq!(rt; buffer, one_by_one);
+    Ok((buffer, answers))
+}
+
+// What a buffer shows, its sections in order.
+fn check_shown(
+    rt: &(impl AllocGlobal + Abort),
+    buffer: &IpDefragBuf,
     shown: &[Bytes],
     sections: &[IpFragRange],
     end: Option<u16>,
 ) -> Result<(), Fail> {
-    let mut buffer = new_buffer(rt.alloc());
-    for step in steps {
-        let payload = bytes_of(rt.alloc(), &[step.bytes])?;
-        buffer.add(
-            IpFragOffset::try_new(step.at / 8)?,
-            step.more_fragments,
-            payload.as_slice(),
-        )?;
-        assert_eq!(rt; buffer.is_complete(), step.complete, "after {}", step.at);
-    }
     let bytes = bytes_of(rt.alloc(), shown)?;
     assert_eq!(rt; buffer.data().as_slice(), bytes.as_slice());
     let mut in_order = buffer.sections().clone()?;
@@ -108,14 +133,28 @@ fn check(
     Ok(())
 }
 
+// Fragments that are all accepted.
+fn check(
+    rt: &(impl AllocGlobal + Abort),
+    steps: &[Step],
+    shown: &[Bytes],
+    sections: &[IpFragRange],
+    end: Option<u16>,
+) -> Result<(), Fail> {
+    let (buffer, answers) = run(rt, steps)?;
+    assert!(rt; answers.iter().all(|answer| answer.is_ok()));
+    check_shown(rt, &buffer, shown, sections, end)
+}
+
 #[test]
 fn accepted_fragments(rt: HostRuntime) -> Result<(), Fail> {
+    check(&rt, &[], &[], &[], None)?;
     check(
         &rt,
         &[
             more(0, rising(0, 16), false),
-            more(16, rising(16, 32), false),
-            last(48, rising(48, 16), true),
+            more(2, rising(16, 32), false),
+            last(6, rising(48, 16), true),
         ],
         &[rising(0, 64)],
         &[section(0, 64)],
@@ -124,8 +163,8 @@ fn accepted_fragments(rt: HostRuntime) -> Result<(), Fail> {
     check(
         &rt,
         &[
-            last(48, rising(48, 16), false),
-            more(16, rising(16, 32), false),
+            last(6, rising(48, 16), false),
+            more(2, rising(16, 32), false),
             more(0, rising(0, 16), true),
         ],
         &[rising(0, 64)],
@@ -136,9 +175,9 @@ fn accepted_fragments(rt: HostRuntime) -> Result<(), Fail> {
         &rt,
         &[
             more(0, rising(0, 16), false),
-            more(32, rising(0, 16), false),
-            last(32, rising(32, 16), false),
-            more(16, rising(16, 16), true),
+            more(4, rising(0, 16), false),
+            last(4, rising(32, 16), false),
+            more(2, rising(16, 16), true),
         ],
         &[rising(0, 48)],
         &[section(0, 48)],
@@ -146,10 +185,7 @@ fn accepted_fragments(rt: HostRuntime) -> Result<(), Fail> {
     )?;
     check(
         &rt,
-        &[
-            more(0, rising(0, 64), false),
-            last(32, rising(32, 16), true),
-        ],
+        &[more(0, rising(0, 64), false), last(4, rising(32, 16), true)],
         &[rising(0, 48)],
         &[section(0, 64)],
         Some(48),
@@ -157,7 +193,7 @@ fn accepted_fragments(rt: HostRuntime) -> Result<(), Fail> {
     check(
         &rt,
         &[
-            more(64, rising(64, 64), false),
+            more(8, rising(64, 64), false),
             last(0, rising(0, 32), false),
         ],
         &[rising(0, 32)],
@@ -166,21 +202,21 @@ fn accepted_fragments(rt: HostRuntime) -> Result<(), Fail> {
     )?;
     check(
         &rt,
-        &[last(0, rising(0, 0), true)],
+        &[last(0, zeros(0), true)],
         &[],
         &[section(0, 0)],
         Some(0),
     )?;
     check(
         &rt,
-        &[more(16, rising(0, 0), false), last(0, rising(0, 8), false)],
+        &[more(2, zeros(0), false), last(0, rising(0, 8), false)],
         &[rising(0, 8)],
         &[section(0, 8), section(16, 16)],
         Some(8),
     )?;
     check(
         &rt,
-        &[more(8, rising(8, 8), false)],
+        &[more(1, rising(8, 8), false)],
         &[zeros(8), rising(8, 8)],
         &[section(8, 16)],
         None,
@@ -189,28 +225,81 @@ fn accepted_fragments(rt: HostRuntime) -> Result<(), Fail> {
         &rt,
         &[
             more(0, rising(0, 8), false),
-            more(16, rising(16, 8), false),
-            more(8, rising(8, 8), false),
+            more(2, rising(16, 8), false),
+            more(1, rising(8, 8), false),
         ],
         &[rising(0, 24)],
         &[section(0, 24)],
         None,
     )?;
-    check(&rt, &[], &[], &[], None)?;
-    let empty = IpDefragBuf::new(IpNumber::UDP, Vec::new(rt.alloc()), Vec::new(rt.alloc()));
-    assert!(rt; !empty.is_complete());
     check(
         &rt,
         &[
             more(0, rising(0, 16), false),
-            more(8, rising(100, 16), false),
-            last(24, rising(24, 8), true),
+            more(1, rising(100, 16), false),
+            last(3, rising(24, 8), true),
         ],
         &[rising(0, 8), rising(100, 16), rising(24, 8)],
         &[section(0, 32)],
         Some(32),
     )?;
     Ok(())
+}
+
+#[test]
+fn refused_fragments(rt: HostRuntime) -> Result<(), Fail> {
+    let (buffer, answers) = run(
+        &rt,
+        &[
+            more(0, rising(0, 16), false),
+            more(2, rising(16, 7), false),
+            last(2, rising(16, 7), true),
+            more(3, rising(24, 8), true),
+        ],
+    )?;
+    let unaligned = IpDefragError::UnalignedFragmentPayloadLen {
+        offset: IpFragOffset::try_new(2)?,
+        payload_len: 7,
+    };
+    let conflict = IpDefragError::ConflictingEnd {
+        previous_end: 23,
+        conflicting_end: 32,
+    };
+    assert_eq!(rt;
+        answers.as_slice(),
+        [Ok(()), Err(unaligned), Ok(()), Err(conflict)].as_slice()
+    );
+    check_shown(&rt, &buffer, &[rising(0, 23)], &[section(0, 23)], Some(23))?;
+
+    let (buffer, answers) = run(
+        &rt,
+        &[
+            more(0, zeros(65536), false),
+            more(6, zeros(65488), false),
+            last(2, zeros(65519), false),
+        ],
+    )?;
+    let at_start = IpDefragError::SegmentTooBig {
+        offset: IpFragOffset::ZERO,
+        payload_len: 65536,
+        max: 65535,
+    };
+    let behind = IpDefragError::SegmentTooBig {
+        offset: IpFragOffset::try_new(6)?,
+        payload_len: 65488,
+        max: 65535,
+    };
+    assert_eq!(rt;
+        answers.as_slice(),
+        [Err(at_start), Err(behind), Ok(())].as_slice()
+    );
+    check_shown(
+        &rt,
+        &buffer,
+        &[zeros(65535)],
+        &[section(16, 65535)],
+        Some(65535),
+    )
 }
 
 #[test]
@@ -230,105 +319,21 @@ fn merges(rt: HostRuntime) {
     }
 }
 
-fn check_too_big(
-    rt: &impl Abort,
-    buffer: &mut IpDefragBuf,
-    units: u16,
-    payload: &[u8],
-) -> Result<(), Fail> {
-    let offset = IpFragOffset::try_new(units)?;
-    let error = IpDefragError::SegmentTooBig {
-        offset,
-        payload_len: payload.len(),
-        max: 65535,
-    };
-    assert_eq!(rt; buffer.add(offset, true, payload), Err(error));
-    Ok(())
-}
-
+// A clone is equal, and a buffer that uses another's memory shows none of its bytes.
 #[test]
-fn too_big(rt: HostRuntime) -> Result<(), Fail> {
-    let mut buffer = new_buffer(rt.alloc());
-    let longest = bytes_of(rt.alloc(), &[zeros(65536)])?;
-    check_too_big(&rt, &mut buffer, 0, longest.as_slice())?;
-    let long = bytes_of(rt.alloc(), &[zeros(65488)])?;
-    check_too_big(&rt, &mut buffer, 6, long.as_slice())?;
-    let fitting = bytes_of(rt.alloc(), &[zeros(65519)])?;
-    buffer.add(IpFragOffset::try_new(2)?, false, fitting.as_slice())?;
-    assert_eq!(rt; buffer.data().len(), 65535);
-    assert_eq!(rt; MAX_IP_DEFRAG_LEN, 65535);
-    assert_eq!(rt; MAX_IP_DEFRAG_LEN_U16, 65535);
-    Ok(())
-}
-
-#[test]
-fn in_turn(rt: HostRuntime) -> Result<(), Fail> {
-    let bytes = bytes_of(rt.alloc(), &[rising(0, 32)])?;
-    let payload = bytes.as_slice();
-    assert_eq!(rt; payload.len(), 32);
-    let second = IpFragOffset::try_new(2)?;
-    let fragments = [
-        Fragment {
-            offset: IpFragOffset::ZERO,
-            more_fragments: true,
-            payload: &payload[..16],
-        },
-        Fragment {
-            offset: second,
-            more_fragments: true,
-            payload: &payload[16..23],
-        },
-        Fragment {
-            offset: second,
-            more_fragments: false,
-            payload: &payload[16..23],
-        },
-        Fragment {
-            offset: IpFragOffset::try_new(3)?,
-            more_fragments: true,
-            payload: &payload[24..32],
-        },
-    ];
-    let answers = [
-        Ok(()),
-        Err(IpDefragError::UnalignedFragmentPayloadLen {
-            offset: second,
-            payload_len: 7,
-        }),
-        Ok(()),
-        Err(IpDefragError::ConflictingEnd {
-            previous_end: 23,
-            conflicting_end: 32,
-        }),
-    ];
-    let (buffer, answered) = add_all(
-        rt.alloc(),
-        IpNumber::UDP,
-        Vec::new(rt.alloc()),
-        Vec::new(rt.alloc()),
-        &fragments,
-    )?;
-    assert_eq!(rt; answered.as_slice(), answers.as_slice());
-    assert!(rt; buffer.is_complete());
-    let shown = bytes_of(rt.alloc(), &[rising(0, 23)])?;
-    assert_eq!(rt; buffer.data().as_slice(), shown.as_slice());
-    assert_eq!(rt; buffer.sections().as_slice(), [section(0, 23)].as_slice());
-    assert_eq!(rt; buffer.clone()?, buffer);
-    check_used_again(&rt, buffer)
-}
-
-// A buffer that uses another's memory shows none of its bytes.
-fn check_used_again(rt: &(impl AllocGlobal + Abort), used: IpDefragBuf) -> Result<(), Fail> {
+fn used_again(rt: HostRuntime) -> Result<(), Fail> {
+    let payload = bytes_of(rt.alloc(), &[rising(8, 8)])?;
+    let mut used = new_buffer(rt.alloc());
+    used.add(IpFragOffset::ZERO, false, payload.as_slice())?;
+    assert_eq!(rt; used.clone()?, used);
     let (bytes, sections) = used.take_bufs();
     let mut buffer = IpDefragBuf::new(IpNumber::TCP, bytes, sections);
     assert_eq!(rt; buffer.ip_number(), IpNumber::TCP);
-    let payload = bytes_of(rt.alloc(), &[rising(8, 8)])?;
     buffer.add(IpFragOffset::try_new(1)?, true, payload.as_slice())?;
     let shown = bytes_of(rt.alloc(), &[zeros(8), rising(8, 8)])?;
     assert_eq!(rt; buffer.data().as_slice(), shown.as_slice());
     Ok(())
 }
-
 // Adds a fragment, a second time where there was no memory at first: then nothing may have changed.
 fn add_again(
     rt: &impl Abort,

@@ -1,9 +1,13 @@
 -- IPv4 (RFC 791, section 3.1).
-use Rattle.std.specs.Prelude.{◌≡◌, ℕ, ◌+◌, ◌-◌, ◌*◌, ◌/◌, ◌%◌, ◌^◌, ◌<◌, ◌≤◌, ◌⊎◌, ◌==◌, Bool, true, false, nat_lt, ◌||◌, List, [], ◌∷◌, ◌++◌, length, take, drop, slice_index}
+use Rattle.std.specs.Prelude.{◌≡◌, ℕ, ◌+◌, ◌-◌, ◌*◌, ◌/◌, ◌%◌, ◌^◌, ◌<◌, ◌≤◌}
+use Rattle.std.specs.Prelude.{Bool, true, false, ◌==◌, nat_lt, not, ◌||◌}
+use Rattle.std.specs.Prelude.{List, [], ◌∷◌, ◌++◌, length, take, drop, slice_index}
 use Rattle.std.specs.Int.{w16, to_be_bytes}
 use Rattle.ep_base.specs.Bytes.{AreBytes, word_at, bit}
 use Rattle.ep_base.specs.Checksum.{checksum_of}
+use Rattle.ep_base.specs.IpPayload.{IpPayload}
 use Rattle.ep_base.specs.Layer.{len_error}
+use Rattle.ep_base.specs.Tables.{Parts, Refuses, rows_as}
 use Rattle.ep_base.specs.declared.err.layer.Layer.TheVariants as layer
 use Rattle.ep_base.specs.declared.len_source.LenSource.TheVariants as source
 use Rattle.ep_base.specs.declared.err.ipv4.HeaderError.TheVariants as content
@@ -13,6 +17,7 @@ use Rattle.ep_base.specs.declared.err.ipv4.SliceError.{SliceError}
 use Rattle.ep_base.specs.declared.err.ipv4.SliceError.TheVariants as slice_error
 use Rattle.ep_base.specs.declared.ip_number.IpNumber.{IpNumber}
 use Rattle.ep_ip.specs.declared.ipv4_header.Ipv4Header.{Ipv4Header}
+use Rattle.ep_ip.specs.Ip.{version_of}
 
 -- each field fits its place
 pub record FitsIpv4 (header : Ipv4Header) : Type 0 where
@@ -36,13 +41,18 @@ pub record FitsIpv4 (header : Ipv4Header) : Type 0 where
 abbrev pub ipv4_header_len : Ipv4Header → ℕ
 ipv4_header_len header = 20 + length header.options
 
--- The bytes of a header, with the reserved flag, the highest bit of byte 6. The first byte is the version and the
--- header's length in words of 4 bytes, bytes 6 and 7 are the three flags and the fragment offset.
+-- the three flags, of which the first is reserved, and the fragment offset in 16 bits
+abbrev pub ipv4_flags_with : ℕ → Ipv4Header → ℕ
+ipv4_flags_with reserved header =
+    2 ^ 15 * reserved + 2 ^ 14 * bit header.dont_fragment + 2 ^ 13 * bit header.more_fragments + header.fragment_offset
+
+-- The bytes of a header, with the reserved flag. The first byte is the version and the header's length in words of 4
+-- bytes.
 abbrev pub ipv4_bytes_with : ℕ → Ipv4Header → List ℕ
 ipv4_bytes_with reserved header =
     (2 ^ 4 * 4 + ipv4_header_len header / 4) ∷ (2 ^ 2 * header.dscp + header.ecn) ∷ []
     ++ to_be_bytes w16 header.total_len ++ to_be_bytes w16 header.identification
-    ++ to_be_bytes w16 (2 ^ 15 * reserved + 2 ^ 14 * bit header.dont_fragment + 2 ^ 13 * bit header.more_fragments + header.fragment_offset)
+    ++ to_be_bytes w16 (ipv4_flags_with reserved header)
     ++ header.time_to_live ∷ header.protocol.0 ∷ [] ++ to_be_bytes w16 header.header_checksum
     ++ header.source ++ header.destination ++ header.options
 
@@ -61,53 +71,32 @@ pub record EncodesIpv4 (bytes : List ℕ) (header : Ipv4Header) : Type 0 where
   pub flag : reserved < 2
   pub same : bytes ≡ ipv4_bytes_with reserved header
 
--- the bytes are a header, and then the rest
-pub record IsIpv4Header (bytes : List ℕ) (header : Ipv4Header) (rest : List ℕ) : Type 0 where
-  pub encoded : List ℕ
-  pub encodes : EncodesIpv4 encoded header
-  pub parts : bytes ≡ encoded ++ rest
-
--- The bytes are a packet and what its total length leaves behind it, as padding.
-pub record IsIpv4 (bytes : List ℕ) (header : Ipv4Header) (payload left : List ℕ) : Type 0 where
-  pub encoded : List ℕ
-  pub encodes : EncodesIpv4 encoded header
-  pub parts : bytes ≡ (encoded ++ payload) ++ left
-  pub cut : header.total_len ≡ length encoded + length payload
-
--- the version, the upper 4 bits of the first byte
-abbrev pub version_of : List ℕ → ℕ
-version_of bytes = slice_index bytes 0 / 16
-
 -- the number of 4 byte words of the header (IHL), the lower 4 bits of the first byte
 abbrev pub ihl_of : List ℕ → ℕ
 ihl_of bytes = slice_index bytes 0 % 16
 
--- the bytes begin with a whole header
-pub record BeginsIpv4 (bytes : List ℕ) : Type 0 where
-  pub fixed : 20 ≤ length bytes
-  pub version : version_of bytes ≡ 4
-  pub words : 5 ≤ ihl_of bytes
-  pub whole : 4 * ihl_of bytes ≤ length bytes
+-- ---- the header alone
+
+-- the bytes are a header, and then the rest
+pub record IsIpv4Header (bytes : List ℕ) (read : Ipv4Header × List ℕ) : Type 0 where
+  pub encoded : List ℕ
+  pub encodes : EncodesIpv4 encoded read.0
+  pub parts : bytes ≡ encoded ++ read.1
 
 -- why bytes begin with no header
+abbrev pub ipv4_header_rows : List ℕ → List (Bool × HeaderSliceError)
+ipv4_header_rows bytes =
+    let len = length bytes in
+    let version = version_of bytes in
+    let ihl = ihl_of bytes in
+    (nat_lt len 20, header_error.Len (len_error 20 len source.Slice layer.Ipv4Header))
+    ∷ (not (version == 4), header_error.Content (content.UnexpectedVersion version))
+    ∷ (nat_lt ihl 5, header_error.Content (content.HeaderLengthSmallerThanHeader ihl))
+    ∷ (nat_lt len (4 * ihl), header_error.Len (len_error (4 * ihl) len source.Slice layer.Ipv4Header))
+    ∷ []
+
 abbrev pub RefusesIpv4Header : List ℕ → HeaderSliceError → Type 0
-RefusesIpv4Header bytes error =
-    ((length bytes < 20) × (error ≡ header_error.Len (len_error 20 (length bytes) source.Slice layer.Ipv4Header)))
-    ⊎ ((20 ≤ length bytes) × (¬ (version_of bytes ≡ 4)) × (error ≡ header_error.Content (content.UnexpectedVersion (version_of bytes))))
-    ⊎ ((20 ≤ length bytes) × (version_of bytes ≡ 4) × (ihl_of bytes < 5) × (error ≡ header_error.Content (content.HeaderLengthSmallerThanHeader (ihl_of bytes))))
-    ⊎ ((20 ≤ length bytes) × (version_of bytes ≡ 4) × (5 ≤ ihl_of bytes) × (length bytes < 4 * ihl_of bytes) × (error ≡ header_error.Len (len_error (4 * ihl_of bytes) (length bytes) source.Slice layer.Ipv4Header)))
-
--- a refusal of the header as one of the packet
-abbrev pub of_header_error : HeaderSliceError → SliceError
-of_header_error (header_error.Len error) = slice_error.Len error
-of_header_error (header_error.Content error) = slice_error.Header error
-
--- why bytes begin with no packet
-abbrev pub RefusesIpv4 : List ℕ → SliceError → Type 0
-RefusesIpv4 bytes error =
-    ((refusal : HeaderSliceError) × RefusesIpv4Header bytes refusal × (error ≡ of_header_error refusal))
-    ⊎ (BeginsIpv4 bytes × (word_at bytes 2 < 4 * ihl_of bytes) × (error ≡ slice_error.Len (len_error (4 * ihl_of bytes) (word_at bytes 2) source.Ipv4HeaderTotalLen layer.Ipv4Packet)))
-    ⊎ (BeginsIpv4 bytes × (4 * ihl_of bytes ≤ word_at bytes 2) × (length bytes < word_at bytes 2) × (error ≡ slice_error.Len (len_error (word_at bytes 2) (length bytes) source.Slice layer.Ipv4Packet)))
+RefusesIpv4Header bytes = Refuses (ipv4_header_rows bytes)
 
 -- the 4 bytes from i on
 abbrev pub four_at : List ℕ → ℕ → List ℕ
@@ -132,9 +121,49 @@ ipv4_header_of bytes = record {
   options = take (4 * ihl_of bytes - 20) (drop 20 bytes);
 }
 
+-- ---- packets
+
+-- The bytes are a packet and what its total length leaves behind it, as padding.
+pub record IsIpv4 (bytes : List ℕ) (packet : Parts Ipv4Header) : Type 0 where
+  pub encoded : List ℕ
+  pub encodes : EncodesIpv4 encoded packet.header
+  pub parts : bytes ≡ (encoded ++ packet.payload) ++ packet.left
+  pub cut : packet.header.total_len ≡ length encoded + length packet.payload
+
+-- a refusal of the header as one of the packet
+abbrev pub of_header_error : HeaderSliceError → SliceError
+of_header_error (header_error.Len error) = slice_error.Len error
+of_header_error (header_error.Content error) = slice_error.Header error
+
+-- why bytes begin with no packet
+abbrev pub ipv4_rows : List ℕ → List (Bool × SliceError)
+ipv4_rows bytes =
+    let len = length bytes in
+    let header_len = 4 * ihl_of bytes in
+    let total_len = word_at bytes 2 in
+    let short = len_error header_len total_len source.Ipv4HeaderTotalLen layer.Ipv4Packet in
+    rows_as of_header_error (ipv4_header_rows bytes)
+    ++ (nat_lt total_len header_len, slice_error.Len short)
+    ∷ (nat_lt len total_len, slice_error.Len (len_error total_len len source.Slice layer.Ipv4Packet))
+    ∷ []
+
+abbrev pub RefusesIpv4 : List ℕ → SliceError → Type 0
+RefusesIpv4 bytes = Refuses (ipv4_rows bytes)
+
 -- whether a packet carries one fragment of a longer payload
 abbrev pub is_ipv4_fragment : Ipv4Header → Bool
 is_ipv4_fragment header = header.more_fragments || nat_lt 0 header.fragment_offset
+
+-- the payload of a packet with this header and these bytes behind it
+abbrev pub ipv4_payload : Ipv4Header → List ℕ → IpPayload
+ipv4_payload header bytes = record {
+  number = header.protocol.0;
+  fragmented = is_ipv4_fragment header;
+  source = source.Ipv4HeaderTotalLen;
+  bytes = bytes;
+}
+
+-- ---- headers that are made
 
 -- the default header: all zero, except that it isn't to be cut into fragments and that its protocol is reserved (255)
 abbrev pub default_ipv4_header : Ipv4Header

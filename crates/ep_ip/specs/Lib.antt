@@ -1,3 +1,5 @@
+pub mod Ip
 pub mod Ipv4
-pub mod IpPayload
 pub mod Ipv4Slices
+pub mod Ipv6
+pub mod Ipv6Slices

@@ -1,8 +1,10 @@
 //! The header of IPv4 (RFC 791, 3.1).
 
-ghost use Rattle.std.specs.Prelude.{◌≡◌, ◌+◌, ◌-◌, ◌%◌, ◌<◌, ◌≤◌, ◌++◌, List, ℕ, length, IfOk, IfErr, OnOk, OnErr, IsOkAnd, MatchResult};
+ghost use Rattle.std.specs.Prelude.{◌≡◌, ◌+◌, ◌-◌, ◌%◌, ◌<◌, ◌≤◌, ◌++◌, List, ℕ, length};
+ghost use Rattle.std.specs.Prelude.{IfOk, IfErr, OnOk, OnErr, IsOkAnd, MatchResult};
 ghost use Rattle.ep_base.specs.declared.err.value_type.ValueType.TheVariants as value_type;
-ghost use Rattle.ep_ip.specs.Ipv4.{IsIpv4Header, RefusesIpv4Header, ipv4_bytes, ipv4_checksum, ipv4_header_len, is_ipv4_fragment, default_ipv4_header, new_ipv4_header};
+ghost use Rattle.ep_ip.specs.Ipv4.{IsIpv4Header, RefusesIpv4Header, ipv4_bytes, ipv4_checksum, ipv4_header_len};
+ghost use Rattle.ep_ip.specs.Ipv4.{is_ipv4_fragment, default_ipv4_header, new_ipv4_header};
 
 use crate::ipv4_header_slice::Ipv4HeaderSlice;
 use crate::ipv4_options::Ipv4Options;
@@ -111,8 +113,8 @@ impl Ipv4Header {
 
     /// The header at the front of the slice, and the bytes behind it, whatever its total length says.
     pub fn from_slice(slice: &[u8]) -> Result<(Ipv4Header, &[u8]), HeaderSliceError>
-        ensures ok { IfOk result (λ read. IsIpv4Header slice.now read.0 read.1.now) }
-        ensures only { (header : Ipv4Header) (rest : List ℕ) → IsIpv4Header slice.now header rest
+        ensures ok { IfOk result (λ read. IsIpv4Header slice.now (read.0, read.1.now)) }
+        ensures only { (header : Ipv4Header) (rest : List ℕ) → IsIpv4Header slice.now (header, rest)
             → IsOkAnd result (λ read. (read.0 ≡ header) × (read.1.now ≡ rest)) }
         ensures err { IfErr result (RefusesIpv4Header slice.now) }
     {
@@ -206,7 +208,8 @@ impl Ipv4Header {
 
     /// The first 20 bytes of the header on the wire, with this checksum.
     fn fixed_bytes(&self, header_checksum: u16) -> [u8; 20]
-        ensures bytes { result ++ self.now.options ≡ ipv4_bytes (record self.now { header_checksum = header_checksum }) }
+        ensures bytes { result ++ self.now.options
+            ≡ ipv4_bytes (record self.now { header_checksum = header_checksum }) }
         ensures len { length result ≡ 20 }
     {
         let words = (self.header_len() / 4) as u8;

@@ -1,7 +1,8 @@
 //! The header of IPv4 in a slice (RFC 791, 3.1).
 
 ghost use Rattle.std.specs.Prelude.{◌≡◌, ◌*◌, ◌≤◌, length};
-ghost use Rattle.ep_ip.specs.Ipv4.{version_of, ihl_of};
+ghost use Rattle.ep_ip.specs.Ip.{version_of};
+ghost use Rattle.ep_ip.specs.Ipv4.{ihl_of};
 
 use crate::ipv4_header::Ipv4Header;
 use crate::ipv4_options::Ipv4Options;
@@ -9,25 +10,19 @@ use ep_base::err::ipv4::{HeaderError, HeaderSliceError};
 use ep_base::err::{Layer, LenError};
 use ep_base::{IpFragOffset, IpNumber, Ipv4Dscp, Ipv4Ecn, LenSource};
 
-/// The header of an IPv4 packet (RFC 791, 3.1) that lies in a slice: 20 to 60 bytes.
-#[derive(Debug, PartialEq, Eq, Drop)]
-pub struct Ipv4HeaderSlice<'a> {
+/// The bytes of a header: as many as its first byte says.
+#[derive(Clone, Copy, Debug, PartialEq, Eq)]
+struct HeaderBytes<'a> {
     slice: &'a [u8],
     ghost version: { version_of slice.now ≡ 4 },
     ghost words: { 5 ≤ ihl_of slice.now },
     ghost whole: { length slice.now ≡ 4 * ihl_of slice.now },
 }
 
-impl Clone for Ipv4HeaderSlice<'_> {
-    ghost use Rattle.std.specs.Prelude.{◌≡◌, ⊤};
-
-    ghost is_clone = { λ source copy. copy ≡ source };
-
-    ghost is_infallible = { λ _. ⊤ };
-
-    fn clone(&self) -> Result<Self, std::alloc::AllocError> {
-        Ok(self.copied())
-    }
+/// The header of an IPv4 packet (RFC 791, 3.1) that lies in a slice: 20 to 60 bytes.
+#[derive(Clone, Debug, PartialEq, Eq, Drop)]
+pub struct Ipv4HeaderSlice<'a> {
+    bytes: HeaderBytes<'a>,
 }
 
 impl<'a> Ipv4HeaderSlice<'a> {
@@ -40,19 +35,18 @@ impl<'a> Ipv4HeaderSlice<'a> {
     /// The header at the front of the slice, whatever its total length says.
     pub fn from_slice(slice: &'a [u8]) -> Result<Ipv4HeaderSlice<'a>, HeaderSliceError>
         ensures ok { IfOk result (λ header. (rest : List ℕ) × (slice.now ≡ ipv4_header_slice_bytes header ++ rest)
-            × IsIpv4Header slice.now (ipv4_header_slice_header header) rest) }
-        ensures only { (header : Ipv4Header) (rest : List ℕ) → IsIpv4Header slice.now header rest
+            × IsIpv4Header slice.now (ipv4_header_slice_header header, rest)) }
+        ensures only { (header : Ipv4Header) (rest : List ℕ) → IsIpv4Header slice.now (header, rest)
             → IsOkAnd result (λ shown. ipv4_header_slice_header shown ≡ header) }
         ensures err { IfErr result (RefusesIpv4Header slice.now) }
     {
         if slice.len() < Ipv4Header::MIN_LEN {
-            return Err(HeaderSliceError::Len(LenError {
-                required_len: Ipv4Header::MIN_LEN,
-                len: slice.len(),
-                len_source: LenSource::Slice,
-                layer: Layer::Ipv4Header,
-                layer_start_offset: 0,
-            }));
+            return Err(HeaderSliceError::Len(LenError::at_start(
+                Ipv4Header::MIN_LEN,
+                slice.len(),
+                LenSource::Slice,
+                Layer::Ipv4Header,
+            )));
         }
         let version_number = slice[0] >> 4;
         if version_number != 4 {
@@ -68,16 +62,17 @@ impl<'a> Ipv4HeaderSlice<'a> {
         }
         let header_len = ihl as usize * 4;
         if slice.len() < header_len {
-            return Err(HeaderSliceError::Len(LenError {
-                required_len: header_len,
-                len: slice.len(),
-                len_source: LenSource::Slice,
-                layer: Layer::Ipv4Header,
-                layer_start_offset: 0,
-            }));
+            return Err(HeaderSliceError::Len(LenError::at_start(
+                header_len,
+                slice.len(),
+                LenSource::Slice,
+                Layer::Ipv4Header,
+            )));
         }
         Ok(Ipv4HeaderSlice {
-            slice: &slice[..header_len],
+            bytes: HeaderBytes {
+                slice: &slice[..header_len],
+            },
         })
     }
 
@@ -86,7 +81,7 @@ impl<'a> Ipv4HeaderSlice<'a> {
     pub(crate) fn copied(&self) -> Ipv4HeaderSlice<'a>
         ensures { result ≡ self.now }
     {
-        Ipv4HeaderSlice { slice: self.slice }
+        Ipv4HeaderSlice { bytes: self.bytes }
     }
 
     /// The bytes of the header.
@@ -94,7 +89,7 @@ impl<'a> Ipv4HeaderSlice<'a> {
     pub fn slice(&self) -> &'a [u8]
         ensures { result.now ≡ ipv4_header_slice_bytes self.now }
     {
-        self.slice
+        self.bytes.slice
     }
 
     /// The version, the upper 4 bits of byte 0: 4.
@@ -102,7 +97,7 @@ impl<'a> Ipv4HeaderSlice<'a> {
     pub fn version(&self) -> u8
         ensures { result ≡ 4 }
     {
-        self.slice[0] >> 4
+        self.bytes.slice[0] >> 4
     }
 
     /// The number of 4 byte words of the header (IHL), the lower 4 bits of byte 0.
@@ -110,7 +105,7 @@ impl<'a> Ipv4HeaderSlice<'a> {
     pub fn ihl(&self) -> u8
         ensures { result ≡ ihl_of (ipv4_header_slice_bytes self.now) }
     {
-        self.slice[0] & 0xf
+        self.bytes.slice[0] & 0xf
     }
 
     /// The number of bytes of the header, with its options.
@@ -119,7 +114,7 @@ impl<'a> Ipv4HeaderSlice<'a> {
         ensures bytes { result ≡ length (ipv4_header_slice_bytes self.now) }
         ensures value { result ≡ ipv4_header_len (ipv4_header_slice_header self.now) }
     {
-        self.slice.len()
+        self.bytes.slice.len()
     }
 
     /// The differentiated services code point, the upper 6 bits of byte 1.
@@ -127,7 +122,7 @@ impl<'a> Ipv4HeaderSlice<'a> {
     pub fn dscp(&self) -> Ipv4Dscp
         ensures { result ≡ (ipv4_header_slice_header self.now).dscp }
     {
-        Ipv4Dscp::try_new(self.slice[1] >> 2).unwrap()
+        Ipv4Dscp::try_new(self.bytes.slice[1] >> 2).unwrap()
     }
 
     /// The explicit congestion notification, the lower 2 bits of byte 1.
@@ -135,7 +130,7 @@ impl<'a> Ipv4HeaderSlice<'a> {
     pub fn ecn(&self) -> Ipv4Ecn
         ensures { result ≡ (ipv4_header_slice_header self.now).ecn }
     {
-        Ipv4Ecn::try_new(self.slice[1] & 3).unwrap()
+        Ipv4Ecn::try_new(self.bytes.slice[1] & 3).unwrap()
     }
 
     /// The length in bytes of header and payload, bytes 2 and 3.
@@ -143,7 +138,7 @@ impl<'a> Ipv4HeaderSlice<'a> {
     pub fn total_len(&self) -> u16
         ensures { result ≡ (ipv4_header_slice_header self.now).total_len }
     {
-        u16::from_be_bytes([self.slice[2], self.slice[3]])
+        u16::from_be_bytes([self.bytes.slice[2], self.bytes.slice[3]])
     }
 
     /// What the fragments of one packet have in common, bytes 4 and 5.
@@ -151,7 +146,7 @@ impl<'a> Ipv4HeaderSlice<'a> {
     pub fn identification(&self) -> u16
         ensures { result ≡ (ipv4_header_slice_header self.now).identification }
     {
-        u16::from_be_bytes([self.slice[4], self.slice[5]])
+        u16::from_be_bytes([self.bytes.slice[4], self.bytes.slice[5]])
     }
 
     /// Whether the packet must not be cut into fragments, a flag of byte 6.
@@ -159,7 +154,7 @@ impl<'a> Ipv4HeaderSlice<'a> {
     pub fn dont_fragment(&self) -> bool
         ensures { result ≡ (ipv4_header_slice_header self.now).dont_fragment }
     {
-        (self.slice[6] >> 6) & 1 == 1
+        (self.bytes.slice[6] >> 6) & 1 == 1
     }
 
     /// Whether further fragments follow this one, a flag of byte 6.
@@ -167,7 +162,7 @@ impl<'a> Ipv4HeaderSlice<'a> {
     pub fn more_fragments(&self) -> bool
         ensures { result ≡ (ipv4_header_slice_header self.now).more_fragments }
     {
-        (self.slice[6] >> 5) & 1 == 1
+        (self.bytes.slice[6] >> 5) & 1 == 1
     }
 
     /// The place of the fragment in the whole payload in units of 8 bytes, the lower 13 bits of bytes 6 and 7.
@@ -175,7 +170,7 @@ impl<'a> Ipv4HeaderSlice<'a> {
     pub fn fragment_offset(&self) -> IpFragOffset
         ensures { result ≡ (ipv4_header_slice_header self.now).fragment_offset }
     {
-        let flags_and_offset = u16::from_be_bytes([self.slice[6], self.slice[7]]);
+        let flags_and_offset = u16::from_be_bytes([self.bytes.slice[6], self.bytes.slice[7]]);
         IpFragOffset::try_new(flags_and_offset & 0x1fff).unwrap()
     }
 
@@ -192,7 +187,7 @@ impl<'a> Ipv4HeaderSlice<'a> {
     pub fn time_to_live(&self) -> u8
         ensures { result ≡ (ipv4_header_slice_header self.now).time_to_live }
     {
-        self.slice[8]
+        self.bytes.slice[8]
     }
 
     /// What the payload is, byte 9.
@@ -200,7 +195,7 @@ impl<'a> Ipv4HeaderSlice<'a> {
     pub fn protocol(&self) -> IpNumber
         ensures { result ≡ (ipv4_header_slice_header self.now).protocol }
     {
-        IpNumber(self.slice[9])
+        IpNumber(self.bytes.slice[9])
     }
 
     /// The checksum of the header, bytes 10 and 11.
@@ -208,7 +203,7 @@ impl<'a> Ipv4HeaderSlice<'a> {
     pub fn header_checksum(&self) -> u16
         ensures { result ≡ (ipv4_header_slice_header self.now).header_checksum }
     {
-        u16::from_be_bytes([self.slice[10], self.slice[11]])
+        u16::from_be_bytes([self.bytes.slice[10], self.bytes.slice[11]])
     }
 
     /// The sender's address, bytes 12 to 15.
@@ -217,10 +212,10 @@ impl<'a> Ipv4HeaderSlice<'a> {
         ensures { result ≡ (ipv4_header_slice_header self.now).source }
     {
         [
-            self.slice[12],
-            self.slice[13],
-            self.slice[14],
-            self.slice[15],
+            self.bytes.slice[12],
+            self.bytes.slice[13],
+            self.bytes.slice[14],
+            self.bytes.slice[15],
         ]
     }
 
@@ -230,10 +225,10 @@ impl<'a> Ipv4HeaderSlice<'a> {
         ensures { result ≡ (ipv4_header_slice_header self.now).destination }
     {
         [
-            self.slice[16],
-            self.slice[17],
-            self.slice[18],
-            self.slice[19],
+            self.bytes.slice[16],
+            self.bytes.slice[17],
+            self.bytes.slice[18],
+            self.bytes.slice[19],
         ]
     }
 
@@ -242,7 +237,7 @@ impl<'a> Ipv4HeaderSlice<'a> {
     pub fn options(&self) -> &'a [u8]
         ensures { result.now ≡ (ipv4_header_slice_header self.now).options }
     {
-        &self.slice[Ipv4Header::MIN_LEN..]
+        &self.bytes.slice[Ipv4Header::MIN_LEN..]
     }
 
     /// Whether the packet carries one fragment of a longer payload: more follow, or it isn't the first.

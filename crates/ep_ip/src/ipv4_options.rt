@@ -24,7 +24,8 @@ impl Model for Ipv4Options {
 
     ghost view = { λ o. take o.len o.bytes };
 
-    ghost invariant = { λ o. (length o.bytes ≡ 40) × (o.len ≤ 40) × (o.len % 4 ≡ 0) × (drop o.len o.bytes ≡ replicate (40 - o.len) 0) };
+    ghost invariant = { λ o. (length o.bytes ≡ 40) × (o.len ≤ 40) × (o.len % 4 ≡ 0)
+        × (drop o.len o.bytes ≡ replicate (40 - o.len) 0) };
 
     ghost inverse = { λ options. record { bytes = padded 40 options; len = length options } };
 

@@ -1,8 +1,8 @@
 //! An IPv4 packet in a slice (RFC 791).
 
 ghost use Rattle.std.specs.Prelude.{◌≡◌};
-ghost use Rattle.ep_ip.specs.Ipv4.{ipv4_header_of};
-ghost use Rattle.ep_ip.specs.IpPayload.{ip_payload_of, ipv4_payload};
+ghost use Rattle.ep_base.specs.IpPayload.{ip_payload_of};
+ghost use Rattle.ep_ip.specs.Ipv4.{ipv4_header_of, ipv4_payload};
 
 use crate::ipv4_header_slice::Ipv4HeaderSlice;
 use ep_base::err::ipv4::{HeaderSliceError, SliceError};
@@ -14,7 +14,7 @@ use ep_base::{IpPayloadSlice, LenSource};
 pub struct Ipv4Slice<'a> {
     header: Ipv4HeaderSlice<'a>,
     payload: IpPayloadSlice<'a>,
-    ghost carries: { ip_payload_of payload ≡ ipv4_payload (ipv4_header_of header.slice.now) payload.payload.now },
+    ghost carries: { ip_payload_of payload ≡ ipv4_payload (ipv4_header_of header.bytes.slice.now) payload.payload.now },
 }
 
 impl Clone for Ipv4Slice<'_> {
@@ -35,16 +35,18 @@ impl Clone for Ipv4Slice<'_> {
 impl<'a> Ipv4Slice<'a> {
     ghost use Rattle.std.specs.Prelude.{◌≡◌, ◌++◌, IfOk, IfErr, IsOkAnd, List, ℕ};
     ghost use Rattle.ep_ip.specs.declared.ipv4_header.Ipv4Header.{Ipv4Header};
-    ghost use Rattle.ep_ip.specs.Ipv4.{IsIpv4, RefusesIpv4, is_ipv4_fragment};
-    ghost use Rattle.ep_ip.specs.IpPayload.{ip_payload_of, ipv4_payload};
-    ghost use Rattle.ep_ip.specs.Ipv4Slices.{ipv4_header_slice_header, ipv4_header_slice_bytes, ipv4_slice_bytes, ipv4_slice_header, ipv4_slice_payload};
+    ghost use Rattle.ep_ip.specs.Ipv4.{IsIpv4, RefusesIpv4, is_ipv4_fragment, ipv4_payload};
+    ghost use Rattle.ep_ip.specs.Ipv4Slices.{ipv4_header_slice_header, ipv4_header_slice_bytes};
+    ghost use Rattle.ep_ip.specs.Ipv4Slices.{ipv4_slice_bytes, ipv4_slice_header, ipv4_slice_payload, ipv4_slice_parts};
+    ghost use Rattle.ep_base.specs.IpPayload.{ip_payload_of};
+    ghost use Rattle.ep_base.specs.Tables.{Parts};
 
     /// The packet at the front of the slice. Its total length cuts it.
     pub fn from_slice(slice: &'a [u8]) -> Result<Ipv4Slice<'a>, SliceError>
-        ensures ok { IfOk result (λ ipv4. (left : List ℕ) × (slice.now ≡ ipv4_slice_bytes ipv4 ++ left)
-            × IsIpv4 slice.now (ipv4_slice_header ipv4) (ipv4_slice_payload ipv4) left) }
-        ensures only { (header : Ipv4Header) (payload left : List ℕ) → IsIpv4 slice.now header payload left
-            → IsOkAnd result (λ ipv4. (ipv4_slice_header ipv4 ≡ header) × (ipv4_slice_payload ipv4 ≡ payload)) }
+        ensures ok { IfOk result (λ shown. (left : List ℕ) × (slice.now ≡ ipv4_slice_bytes shown ++ left)
+            × IsIpv4 slice.now (ipv4_slice_parts shown left)) }
+        ensures only { (packet : Parts Ipv4Header) → IsIpv4 slice.now packet
+            → IsOkAnd result (λ shown. ipv4_slice_parts shown packet.left ≡ packet) }
         ensures err { IfErr result (RefusesIpv4 slice.now) }
     {
         let header = match Ipv4HeaderSlice::from_slice(slice) {
@@ -55,22 +57,20 @@ impl<'a> Ipv4Slice<'a> {
         let header_len = header.header_len();
         let total_len = header.total_len() as usize;
         if total_len < header_len {
-            return Err(SliceError::Len(LenError {
-                required_len: header_len,
-                len: total_len,
-                len_source: LenSource::Ipv4HeaderTotalLen,
-                layer: Layer::Ipv4Packet,
-                layer_start_offset: 0,
-            }));
+            return Err(SliceError::Len(LenError::at_start(
+                header_len,
+                total_len,
+                LenSource::Ipv4HeaderTotalLen,
+                Layer::Ipv4Packet,
+            )));
         }
         if slice.len() < total_len {
-            return Err(SliceError::Len(LenError {
-                required_len: total_len,
-                len: slice.len(),
-                len_source: LenSource::Slice,
-                layer: Layer::Ipv4Packet,
-                layer_start_offset: 0,
-            }));
+            return Err(SliceError::Len(LenError::at_start(
+                total_len,
+                slice.len(),
+                LenSource::Slice,
+                Layer::Ipv4Packet,
+            )));
         }
         let payload = IpPayloadSlice {
             ip_number: header.protocol(),

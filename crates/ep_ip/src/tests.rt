@@ -2,7 +2,7 @@
 
 use crate::{
     IpFragOffset, IpNumber, Ipv4Dscp, Ipv4Ecn, Ipv4Header, Ipv4HeaderSlice, Ipv4Options, Ipv4Slice,
-    LenSource, ValueTooBigError, ValueType,
+    Ipv6FlowLabel, Ipv6Header, Ipv6HeaderSlice, Layer, LenError, LenSource, ipv6,
 };
 use std::test::Fail;
 
@@ -10,28 +10,28 @@ use std::test::Fail;
 const PLAIN: &[u8] =
     b"\x45\x00\x00\x24\x00\x00\x40\x00\x14\x11\xe3\x75\xc0\xa8\x01\x01\xc0\xa8\x01\x02";
 
+/// A header with 40 bytes of options, router alert (RFC 2113) and a record of the route (RFC 791, 3.1).
+const LONGEST: &[u8] =
+    b"\x4f\xb9\xff\xff\x12\x34\x3f\xff\x40\x33\x5d\xa3\x01\x02\x03\x04\x05\x06\x07\x08\x94\x04\x00\x00\x07\x23\x04\x01\x02\x03\x04\x05\x06\x07\x08\x09\x0a\x0b\x0c\x0d\x0e\x0f\x10\x11\x12\x13\x14\x15\x16\x17\x18\x19\x1a\x1b\x1c\x1d\x1e\x1f\x20\x00";
+
 /// A packet with the reserved flag, the greatest fragment offset, the option router alert (RFC 2113), 4 bytes of
 /// payload, and 2 bytes behind it.
 const FRAGMENT: &[u8] =
     b"\x46\xb9\x00\x1c\x12\x34\xbf\xff\x40\x33\xab\xcd\x01\x02\x03\x04\x05\x06\x07\x08\x94\x04\x00\x00\x0a\x0b\x0c\x0d\x00\x00";
 
-fn plain_header() -> Result<Ipv4Header, ValueTooBigError<u16>> {
-    Ipv4Header::new(16, 20, IpNumber::UDP, [192, 168, 1, 1], [192, 168, 1, 2])
-}
-
 #[test]
 fn writes_with_checksum(rt: HostRuntime) -> Result<(), Fail> {
-    let header = plain_header()?;
-    assert_eq!(rt; header.calc_header_checksum(), 0xe375);
-    let mut written = vec![in rt.alloc(); 1, 2]?;
-    header.write(&mut written)?;
-    assert_eq!(rt; written.len(), 22);
-    assert_eq!(rt; written[2..], *PLAIN);
-    let (read, rest) = Ipv4Header::from_slice(PLAIN)?;
-    assert_eq!(rt; rest.len(), 0);
-    assert_eq!(rt; read.header_checksum, 0xe375);
-    assert_eq!(rt; read.clone()?, read);
-    assert_eq!(rt; read.to_bytes().as_slice(), PLAIN);
+    for bytes in [PLAIN, LONGEST] {
+        let (read, _) = Ipv4Header::from_slice(bytes)?;
+        let header = Ipv4Header {
+            header_checksum: 0,
+            ..read.clone()?
+        };
+        let mut written = vec![in rt.alloc(); 1, 2]?;
+        header.write(&mut written)?;
+        assert_eq!(rt; &written[..2], [1, 2].as_slice());
+        assert_eq!(rt; written[2..], *bytes);
+    }
     Ok(())
 }
 
@@ -52,43 +52,64 @@ fn reads_each_field(rt: HostRuntime) -> Result<(), Fail> {
         destination: [5, 6, 7, 8],
         options: Ipv4Options::try_new(b"\x94\x04\x00\x00")?,
     };
-    let (read, _) = Ipv4Header::from_slice(FRAGMENT)?;
-    assert_eq!(rt; read, header);
     let shown = Ipv4HeaderSlice::from_slice(FRAGMENT)?;
     assert_eq!(rt; shown.clone()?.to_header(), header);
     let packet = Ipv4Slice::from_slice(FRAGMENT)?.clone()?;
     assert_eq!(rt; packet.header().to_header(), header);
-    let payload = packet.payload();
-    assert_eq!(rt; payload.ip_number, IpNumber::AUTHENTICATION_HEADER);
-    assert!(rt; payload.fragmented);
-    assert_eq!(rt; payload.len_source, LenSource::Ipv4HeaderTotalLen);
-    assert_eq!(rt; payload.payload, b"\x0a\x0b\x0c\x0d".as_slice());
+    assert_eq!(rt; packet.payload().payload, b"\x0a\x0b\x0c\x0d".as_slice());
+    Ok(())
+}
+
+/// An IPv6 header: traffic class 0xb9, flow label 0x12345, 24 bytes behind it, a fragment header (44), hop limit 64.
+const IPV6: &[u8] =
+    b"\x6b\x91\x23\x45\x00\x18\x2c\x40\x20\x01\x0d\xb8\x00\x00\x00\x00\x00\x00\x00\x00\x00\x00\x00\x01\xfe\x80\x00\x00\x00\x00\x00\x00\x02\x03\x04\x05\x06\x07\x08\x09";
+
+#[test]
+fn ipv6_header(rt: HostRuntime) -> Result<(), Fail> {
+    let header = Ipv6Header {
+        traffic_class: 0xb9,
+        flow_label: Ipv6FlowLabel::try_new(0x12345)?,
+        payload_length: 24,
+        next_header: IpNumber::IPV6_FRAGMENTATION_HEADER,
+        hop_limit: 64,
+        source: [0x20, 1, 0x0d, 0xb8, 0, 0, 0, 0, 0, 0, 0, 0, 0, 0, 0, 1],
+        destination: [0xfe, 0x80, 0, 0, 0, 0, 0, 0, 2, 3, 4, 5, 6, 7, 8, 9],
+    };
+    let shown = Ipv6HeaderSlice::from_slice(IPV6)?;
+    assert_eq!(rt; shown.clone()?.to_header(), header.clone()?);
+    let mut written = vec![in rt.alloc(); 1, 2]?;
+    header.write(&mut written)?;
+    assert_eq!(rt; &written[..2], [1, 2].as_slice());
+    assert_eq!(rt; written[2..], *IPV6);
     Ok(())
 }
 
 #[test]
-fn payload_lengths(rt: HostRuntime) -> Result<(), Fail> {
-    let mut header = plain_header()?;
-    header.set_payload_len(65515)?;
-    assert_eq!(rt; header.total_len, 65535);
+fn ipv6_refusals(rt: HostRuntime) -> Result<(), Fail> {
+    for len in [0, 1, 39] {
+        let expected = LenError {
+            required_len: 40,
+            len,
+            len_source: LenSource::Slice,
+            layer: Layer::Ipv6Header,
+            layer_start_offset: 0,
+        };
+        assert_eq!(rt;
+            Ipv6Header::from_slice(&IPV6[..len]),
+            Err(ipv6::HeaderSliceError::Len(expected))
+        );
+    }
+    let expected = ipv6::HeaderError::UnexpectedVersion { version_number: 4 };
     assert_eq!(rt;
-        header.set_payload_len(65516),
-        Err(ValueTooBigError {
-            actual: 65516,
-            max_allowed: 65515,
-            value_type: ValueType::Ipv4PayloadLength,
-        })
+        Ipv6Header::from_slice(&[0x45; 40]),
+        Err(ipv6::HeaderSliceError::Content(expected))
     );
     Ok(())
 }
 
 #[test]
-fn option_lengths(rt: HostRuntime) -> Result<(), Fail> {
+fn refusals(rt: HostRuntime) -> Result<(), Fail> {
     let bytes = [7u8; 44];
-    for len in [0, 4, 40] {
-        let options = Ipv4Options::try_new(&bytes[..len])?;
-        assert_eq!(rt; options.clone()?.as_slice(), &bytes[..len]);
-    }
     for (len, text) in [
         (3, "BadOptionsLen 3"),
         (41, "BadOptionsLen 41"),

@@ -1,17 +1,18 @@
 -- The bytes of an Ethernet II frame, and what is read from them.
-use Rattle.std.proofs.Common.{◌≡◌, ◌⊎◌, ℕ, ◌≤◌, List, [], ◌∷◌, ◌++◌, length, get_or, drop, sym, ap, ◌∙◌, arith, inl, inr, refl}
+use Rattle.std.proofs.Common.{◌≡◌, ℕ, ◌≤◌, List, [], ◌∷◌, ◌++◌, None, length, get_or, drop, sym, ap, subst, ◌∙◌, arith, refl}
 use Rattle.std.proofs.lemmas.Grind.{common_steps}
-use Rattle.std.proofs.lemmas.Bool.{cases_lt}
-use Rattle.std.proofs.lemmas.List.{append-nil, append_cancel_right, length-append}
-use Rattle.std.specs.Int.{w16, to_be_bytes}
-use Rattle.ep_base.specs.Bytes.{AreBytes}
-use Rattle.ep_base.proofs.BytesLemmas.{cells_6, same_parts, same_word, AreBytes-take, AreBytes-drop}
-use Rattle.ep_base.specs.declared.err.len_error.LenError.{LenError}
-use Rattle.ep_link.specs.declared.ethernet2_header.Ethernet2Header.{Ethernet2Header}
-use Rattle.ep_link.specs.Ethernet2.{FitsEthernet2, IsEthernet2, RefusesEthernet2, ethernet2_bytes, ethernet2_header_of}
+use Rattle.std.proofs.lemmas.List.{append-nil}
+use Rattle.ep_base.specs.Bytes.{AreBytes, word_at}
+use Rattle.ep_base.specs.Tables.{Parts, first_row}
+use Rattle.ep_base.proofs.BytesLemmas.{cells_6, AreBytes-take, AreBytes-drop}
+use Rattle.ep_base.proofs.TableLemmas.{IsReadBy}
+use Rattle.ep_link.specs.declared.link.ethernet2_header.Ethernet2Header.{Ethernet2Header}
+use Rattle.ep_link.specs.Ethernet2.{FitsEthernet2, IsEthernet2, ethernet2_bytes, ethernet2_header_of, ethernet2_parts, ethernet2_rows}
+
+-- ---- bytes are those of the header that is read from them
 
 -- the header that is read fits
-pub ethernet2_fits : (bytes : List ℕ) → AreBytes bytes → 14 ≤ length bytes → FitsEthernet2 (ethernet2_header_of bytes)
+ethernet2_fits : (bytes : List ℕ) → AreBytes bytes → 14 ≤ length bytes → FitsEthernet2 (ethernet2_header_of bytes)
 ethernet2_fits bytes fits long = record {
   source_length = grind (arith, common_steps);
   source_bytes = AreBytes-take 6 (drop 6 bytes) (AreBytes-drop 6 bytes fits);
@@ -21,57 +22,92 @@ ethernet2_fits bytes fits long = record {
 }
 
 -- its bytes are those at the front
-pub ethernet2_front : (bytes : List ℕ) → AreBytes bytes → 14 ≤ length bytes → bytes ≡ ethernet2_bytes (ethernet2_header_of bytes) ++ drop 14 bytes
+ethernet2_front : (bytes : List ℕ) → AreBytes bytes → 14 ≤ length bytes
+    → bytes ≡ ethernet2_bytes (ethernet2_header_of bytes) ++ drop 14 bytes
 ethernet2_front bytes fits long = grind (arith, common_steps)
 
-pub ethernet2_whole : (bytes : List ℕ) → AreBytes bytes → 14 ≤ length bytes → IsEthernet2 bytes (ethernet2_header_of bytes) (drop 14 bytes) []
-ethernet2_whole bytes fits long = record {
-  fits = ethernet2_fits bytes fits long;
-  parts = ethernet2_front bytes fits long ∙ sym (append-nil (ethernet2_bytes (ethernet2_header_of bytes) ++ drop 14 bytes));
-  cut = refl;
-}
+-- ---- the bytes of a header are read as this header
 
-length_header : (h : Ethernet2Header) → FitsEthernet2 h → length (ethernet2_bytes h) ≡ 14
-length_header h fits = simp length-append (omega (arith, fits.source_length, fits.destination_length))
+-- the cells of a list of 6 bytes
+abbrev six_at : List ℕ → List ℕ
+six_at xs = get_or xs 0 0 ∷ get_or xs 1 0 ∷ get_or xs 2 0 ∷ get_or xs 3 0 ∷ get_or xs 4 0 ∷ get_or xs 5 0 ∷ []
 
-abbrev header_with : List ℕ → List ℕ → ℕ → Ethernet2Header
-header_with source destination ether_type = record { source = source; destination = destination; ether_type = record { 0 = ether_type } }
+-- the header with its addresses as lists of six
+abbrev pub with_cells : Ethernet2Header → Ethernet2Header
+with_cells h = record h { source = six_at h.source; destination = six_at h.destination }
 
--- a header is known by its fields
-same_header : (h k : Ethernet2Header) → h.source ≡ k.source → h.destination ≡ k.destination → h.ether_type.0 ≡ k.ether_type.0 → h ≡ k
-same_header h k source destination ether_type =
-    ap (λ (x : List ℕ). header_with x h.destination h.ether_type.0) source
-    ∙ ap (λ (x : List ℕ). header_with k.source x h.ether_type.0) destination
-    ∙ ap (λ (x : ℕ). header_with k.source k.destination x) ether_type
+with_cells-same : (h : Ethernet2Header) → length h.source ≡ 6 → length h.destination ≡ 6 → with_cells h ≡ h
+with_cells-same h source destination i =
+    record h { source = sym (cells_6 h.source source) i; destination = sym (cells_6 h.destination destination) i }
 
--- bytes are one frame
-pub ethernet2_one_value : (bytes : List ℕ) (h k : Ethernet2Header) (payload left others rest : List ℕ) → IsEthernet2 bytes h payload left → IsEthernet2 bytes k others rest → (h ≡ k) × (payload ≡ others) × (left ≡ rest)
-ethernet2_one_value bytes h k payload left others rest a b =
-    let same : (ethernet2_bytes h ++ payload) ++ left ≡ (ethernet2_bytes k ++ others) ++ rest = sym a.parts ∙ b.parts in
-    let whole : ethernet2_bytes h ++ payload ≡ ethernet2_bytes k ++ others = append_cancel_right (ethernet2_bytes h ++ payload) (ethernet2_bytes k ++ others) left (same ∙ ap (λ (l : List ℕ). (ethernet2_bytes k ++ others) ++ l) (b.cut ∙ sym a.cut)) in
-    let parts = same_parts (ethernet2_bytes h) (ethernet2_bytes k) payload others (length_header h a.fits ∙ sym (length_header k b.fits)) whole in
-    let addresses = same_parts (h.destination ++ h.source) (k.destination ++ k.source) (to_be_bytes w16 h.ether_type.0) (to_be_bytes w16 k.ether_type.0) (simp length-append (omega (arith, a.fits.source_length, a.fits.destination_length, b.fits.source_length, b.fits.destination_length))) parts.0 in
-    let each = same_parts h.destination k.destination h.source k.source (a.fits.destination_length ∙ sym b.fits.destination_length) addresses.0 in
-    let ether_type : h.ether_type.0 ≡ k.ether_type.0 = same_word h.ether_type.0 k.ether_type.0 a.fits.ether_type b.fits.ether_type addresses.1 in
-    (same_header h k each.1 each.0 ether_type, parts.1, a.cut ∙ sym b.cut)
+-- the bytes with the addresses as their cells
+pub cells_are_bytes : (h : Ethernet2Header) → length h.source ≡ 6 → length h.destination ≡ 6
+    → ethernet2_bytes (with_cells h) ≡ ethernet2_bytes h
+cells_are_bytes h source destination = ap ethernet2_bytes (with_cells-same h source destination)
 
-pub ethernet2_not_both : (bytes : List ℕ) (h : Ethernet2Header) (payload left : List ℕ) (e : LenError) → IsEthernet2 bytes h payload left → RefusesEthernet2 bytes e → ⊥
-ethernet2_not_both bytes h payload left e a b = grind (arith, common_steps)
+-- what holds of bytes that are a header and its payload
+record IsRead (bytes : List ℕ) (h : Ethernet2Header) (payload : List ℕ) : Type 0 where
+  long : 14 ≤ length bytes
+  header : h ≡ ethernet2_header_of bytes
+  behind : payload ≡ drop 14 bytes
 
--- bytes are a frame or are refused
-pub ethernet2_some : (bytes : List ℕ) → AreBytes bytes → ((h : Ethernet2Header) × (payload left : List ℕ) × IsEthernet2 bytes h payload left) ⊎ ((e : LenError) × RefusesEthernet2 bytes e)
-ethernet2_some bytes fits =
-    elim (cases_lt (length bytes) 14) [
-      | inl short ↦ inr (_, (short, refl))
-      | inr long ↦ inl (_, _, _, ethernet2_whole bytes fits long)
-    ]
+with_cells-read : (h : Ethernet2Header) (payload : List ℕ) → FitsEthernet2 h
+    → IsRead (ethernet2_bytes (with_cells h) ++ payload) (with_cells h) payload
+with_cells-read h payload fits =
+    let bytes = ethernet2_bytes (with_cells h) ++ payload in
+    let ether_type : h.ether_type.0 ≡ word_at bytes 12 = omega (arith, fits.ether_type) in
+    record {
+      long = omega arith;
+      header = λ i. record {
+        source = six_at h.source;
+        destination = six_at h.destination;
+        ether_type = record { 0 = ether_type i };
+      };
+      behind = refl;
+    }
 
--- the cells of the two addresses and of the ether type, one after the other
-pub cells_are_bytes : (h : Ethernet2Header) → length h.destination ≡ 6 → length h.source ≡ 6 →
-    get_or h.destination 0 0 ∷ get_or h.destination 1 0 ∷ get_or h.destination 2 0 ∷ get_or h.destination 3 0 ∷ get_or h.destination 4 0 ∷ get_or h.destination 5 0
-    ∷ get_or h.source 0 0 ∷ get_or h.source 1 0 ∷ get_or h.source 2 0 ∷ get_or h.source 3 0 ∷ get_or h.source 4 0 ∷ get_or h.source 5 0
-    ∷ to_be_bytes w16 h.ether_type.0 ≡ ethernet2_bytes h
-cells_are_bytes h destination source =
-    let ether_type = to_be_bytes w16 h.ether_type.0 in
-    ap (λ (x : List ℕ). x ++ (get_or h.source 0 0 ∷ get_or h.source 1 0 ∷ get_or h.source 2 0 ∷ get_or h.source 3 0 ∷ get_or h.source 4 0 ∷ get_or h.source 5 0 ∷ []) ++ ether_type) (sym (cells_6 h.destination destination))
-    ∙ ap (λ (x : List ℕ). h.destination ++ x ++ ether_type) (sym (cells_6 h.source source))
+-- what a frame's bytes are read as
+frame_read : (bytes : List ℕ) (frame : Parts Ethernet2Header) → IsEthernet2 bytes frame
+    → IsRead bytes frame.header frame.payload
+frame_read bytes frame is =
+    let h = frame.header in
+    let payload = frame.payload in
+    let front = ethernet2_bytes h ++ payload in
+    let parts : bytes ≡ front = is.parts ∙ ap (λ (l : List ℕ). front ++ l) is.cut ∙ append-nil front in
+    let OfHeader : Ethernet2Header → Type 0 = λ k. IsRead (ethernet2_bytes k ++ payload) k payload in
+    let OfBytes : List ℕ → Type 0 = λ s. IsRead s h payload in
+    let same = with_cells-same h is.fits.source_length is.fits.destination_length in
+    subst OfBytes (sym parts) (subst OfHeader same (with_cells-read h payload is.fits))
+
+-- ---- frames
+
+abbrev pub ethernet2_read : List ℕ → Parts Ethernet2Header
+ethernet2_read bytes = ethernet2_parts bytes []
+
+reads : (bytes : List ℕ) → AreBytes bytes → first_row (ethernet2_rows bytes) ≡ None
+    → IsEthernet2 bytes (ethernet2_read bytes)
+reads bytes fits none =
+    let long : 14 ≤ length bytes = grind (arith, common_steps) in
+    record {
+      fits = ethernet2_fits bytes fits long;
+      parts = ethernet2_front bytes fits long
+          ∙ sym (append-nil (ethernet2_bytes (ethernet2_header_of bytes) ++ drop 14 bytes));
+      cut = refl;
+    }
+
+none_refuses : (bytes : List ℕ) → 14 ≤ length bytes → first_row (ethernet2_rows bytes) ≡ None
+none_refuses bytes long = grind (arith, common_steps)
+
+is_read : (bytes : List ℕ) (frame : Parts Ethernet2Header) → IsEthernet2 bytes frame
+    → (first_row (ethernet2_rows bytes) ≡ None) × (frame ≡ ethernet2_read bytes)
+is_read bytes frame is =
+    let read = frame_read bytes frame is in
+    let same : frame ≡ ethernet2_read bytes = λ i. record {
+      header = read.header i;
+      payload = read.behind i;
+      left = is.cut i;
+    } in
+    (none_refuses bytes read.long, same)
+
+pub ethernet2_is_read : IsReadBy IsEthernet2 ethernet2_rows ethernet2_read
+ethernet2_is_read = record { reads = reads; is_read = is_read }

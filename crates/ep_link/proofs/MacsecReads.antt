@@ -1,14 +1,14 @@
 -- The fields of a MACsec tag, read from its bytes.
-use Rattle.std.proofs.Common.{◌≡◌, ℕ, zero, suc, ◌+◌, ◌*◌, ◌/◌, ◌%◌, ◌^◌, ◌<◌, ◌≤◌, ◌==◌, Bool, true, false, Option, Some, None, List, [], ◌∷◌, ◌++◌, length, drop, get_or, refl, sym, ap, add-zero, subst, ◌∙◌, arith, slice_index, slice_range}
+use Rattle.std.proofs.Common.{◌≡◌, ℕ, zero, suc, ◌+◌, ◌*◌, ◌/◌, ◌%◌, ◌^◌, ◌<◌, ◌≤◌, Option, Some, None, List, [], ◌∷◌, ◌++◌, length, drop, get_or, refl, sym, ap, add-zero, subst, ◌∙◌, arith, slice_index, slice_range}
 use Rattle.std.proofs.lemmas.Grind.{common_steps}
 use Rattle.std.proofs.lemmas.Nat.{from_be_bytes-to_be_bytes_4, from_be_bytes-to_be_bytes_8, be_bytes_4, be_bytes_8}
 use Rattle.std.proofs.lemmas.List.{length-take, length-drop, take-append-drop, drop-drop, drop_all, get_or-drop}
 use Rattle.std.specs.Int.{w16, w32, w64, to_be_bytes, from_be_bytes}
 use Rattle.ep_base.specs.Bytes.{AreBytes, word_at, bit}
 use Rattle.ep_base.proofs.BytesLemmas.{AreBytes-take, AreBytes-drop, bit_le, bit_read, bit_of_read}
-use Rattle.ep_link.specs.declared.macsec_ptype.MacsecPType.{MacsecPType}
-use Rattle.ep_link.specs.declared.macsec_ptype.MacsecPType.TheVariants as ptype
-use Rattle.ep_link.specs.declared.macsec_header.MacsecHeader.{MacsecHeader}
+use Rattle.ep_link.specs.declared.link_ext.macsec_ptype.MacsecPType.{MacsecPType}
+use Rattle.ep_link.specs.declared.link_ext.macsec_ptype.MacsecPType.TheVariants as ptype
+use Rattle.ep_link.specs.declared.link_ext.macsec_header.MacsecHeader.{MacsecHeader}
 use Rattle.ep_link.specs.Macsec.{encryption_bit, changed_text_bit, ptype_bytes, sci_bit, sci_bytes, macsec_bytes_with, ptype_len, sci_len, macsec_header_len, FitsPType, FitsSci, FitsMacsec, EncodesMacsec, short_len_of, modification_of, sci_bit_of, type_len_by, tag_len_of, HasNoRoomForType, ptype_by, sci_by, macsec_header_of}
 
 -- the bytes are a whole tag: as long as their flags say
@@ -38,7 +38,13 @@ sci_bit_le (Some sci) = omega arith
 
 -- the first byte, made of its flags and the association number
 abbrev first_of : ℕ → ℕ → ℕ → ℕ → ℕ → ℕ → ℕ
-first_of station sci single encrypted changed an = 2 ^ 6 * station + 2 ^ 5 * sci + 2 ^ 4 * single + 2 ^ 3 * encrypted + 2 ^ 2 * changed + an
+first_of station sci single encrypted changed an =
+    2 ^ 6 * station + 2 ^ 5 * sci + 2 ^ 4 * single + 2 ^ 3 * encrypted + 2 ^ 2 * changed + an
+
+-- the first byte of a tag
+abbrev first_byte : MacsecHeader → ℕ
+first_byte h =
+    first_of (bit h.endstation_id) (sci_bit h.sci) (bit h.scb) (encryption_bit h.ptype) (changed_text_bit h.ptype) h.an
 
 -- each flag is one bit
 record AreFlags (t s b e c a : ℕ) : Type 0 where
@@ -49,7 +55,9 @@ record AreFlags (t s b e c a : ℕ) : Type 0 where
   changed : c ≤ 1
   an : a < 2 ^ 2
 
-flags_of : (h : MacsecHeader) → FitsMacsec h → AreFlags (bit h.endstation_id) (sci_bit h.sci) (bit h.scb) (encryption_bit h.ptype) (changed_text_bit h.ptype) h.an
+flags_of : (h : MacsecHeader) → FitsMacsec h
+    → AreFlags (bit h.endstation_id) (sci_bit h.sci) (bit h.scb)
+    (encryption_bit h.ptype) (changed_text_bit h.ptype) h.an
 flags_of h fits = record {
   station = bit_le h.endstation_id;
   sci = sci_bit_le h.sci;
@@ -78,7 +86,8 @@ first_an : (t s b e c a : ℕ) → AreFlags t s b e c a → first_of t s b e c a
 first_an t s b e c a f = omega arith
 
 -- the flags of the first byte, put together again
-first_again : (n t s b e c a : ℕ) → n < 128 → t ≡ n / 64 % 2 → s ≡ n / 32 % 2 → b ≡ n / 16 % 2 → 2 * e + c ≡ n / 4 % 4 → a ≡ n % 4 → n ≡ first_of t s b e c a
+first_again : (n t s b e c a : ℕ) → n < 128 → t ≡ n / 64 % 2 → s ≡ n / 32 % 2 → b ≡ n / 16 % 2
+    → 2 * e + c ≡ n / 4 % 4 → a ≡ n % 4 → n ≡ first_of t s b e c a
 first_again n t s b e c a below station sci single modification an = omega arith
 
 -- ---- the bytes of a tag are read as this tag
@@ -90,7 +99,8 @@ four_below _ len fits = absurd (omega arith)
 
 -- the number of 8 bytes has 64 bits
 eight_below : (xs : List ℕ) → length xs ≡ 8 → AreBytes xs → from_be_bytes w64 xs < 2 ^ 64
-eight_below (a ∷ b ∷ c ∷ d ∷ e ∷ f ∷ g ∷ h ∷ []) len fits = omega (arith, fits 0, fits 1, fits 2, fits 3, fits 4, fits 5, fits 6, fits 7)
+eight_below (a ∷ b ∷ c ∷ d ∷ e ∷ f ∷ g ∷ h ∷ []) len fits =
+    omega (arith, fits 0, fits 1, fits 2, fits 3, fits 4, fits 5, fits 6, fits 7)
 eight_below _ len fits = absurd (omega arith)
 
 -- the two bytes of a type are its number
@@ -98,10 +108,13 @@ type_read : (type : ℕ) → type < 2 ^ 16 → word_at (to_be_bytes w16 type) 0 
 type_read type below = omega arith
 
 -- a tag's type, read where its flags say
-ptype_read : (a b c d e f : ℕ) (sci : Option ℕ) (p : MacsecPType) (short_len : ℕ) → FitsPType p short_len →
-    ptype_by (2 * encryption_bit p + changed_text_bit p) (word_at (a ∷ b ∷ c ∷ d ∷ e ∷ f ∷ (sci_bytes sci ++ ptype_bytes p)) (6 + 8 * sci_bit sci)) ≡ p
-ptype_read a b c d e f None (ptype.Unmodified type) short_len fits = ap (λ (n : ℕ). ptype.Unmodified (record { 0 = n })) (type_read type.0 fits.0)
-ptype_read a b c d e f (Some sci) (ptype.Unmodified type) short_len fits = ap (λ (n : ℕ). ptype.Unmodified (record { 0 = n })) (type_read type.0 fits.0)
+ptype_read : (a b c d e f : ℕ) (sci : Option ℕ) (p : MacsecPType) (short_len : ℕ) → FitsPType p short_len
+    → ptype_by (2 * encryption_bit p + changed_text_bit p)
+    (word_at (a ∷ b ∷ c ∷ d ∷ e ∷ f ∷ (sci_bytes sci ++ ptype_bytes p)) (6 + 8 * sci_bit sci)) ≡ p
+ptype_read a b c d e f None (ptype.Unmodified type) short_len fits =
+    ap (λ (n : ℕ). ptype.Unmodified (record { 0 = n })) (type_read type.0 fits.0)
+ptype_read a b c d e f (Some sci) (ptype.Unmodified type) short_len fits =
+    ap (λ (n : ℕ). ptype.Unmodified (record { 0 = n })) (type_read type.0 fits.0)
 ptype_read a b c d e f sci ptype.Modified short_len fits = refl
 ptype_read a b c d e f sci ptype.Encrypted short_len fits = refl
 ptype_read a b c d e f sci ptype.EncryptedUnmodified short_len fits = refl
@@ -115,20 +128,23 @@ sci_read a b c d e f (Some sci) rest fits = ap Some (from_be_bytes-to_be_bytes_8
 with_read : (r : ℕ) (h : MacsecHeader) → r < 4 → FitsMacsec h → h ≡ macsec_header_of (macsec_bytes_with r h)
 with_read r h bits fits =
     let bytes = macsec_bytes_with r h in
+    let at : ℕ → ℕ = slice_index bytes in
     let flags = flags_of h fits in
-    let modification : modification_of bytes ≡ 2 * encryption_bit h.ptype + changed_text_bit h.ptype = first_modification _ _ _ _ _ _ flags in
+    let modification : modification_of bytes ≡ 2 * encryption_bit h.ptype + changed_text_bit h.ptype =
+    first_modification _ _ _ _ _ _ flags in
     let sci_flag : sci_bit_of bytes ≡ sci_bit h.sci = first_sci _ _ _ _ _ _ flags in
     let station : slice_index bytes 0 / 64 % 2 ≡ bit h.endstation_id = first_station _ _ _ _ _ _ flags in
     let single : slice_index bytes 0 / 16 % 2 ≡ bit h.scb = first_single _ _ _ _ _ _ flags in
     let an : slice_index bytes 0 % 4 ≡ h.an = first_an _ _ _ _ _ _ flags in
     let short_len : short_len_of bytes ≡ h.short_len = omega (arith, fits.short_len) in
-    let packet_nr : from_be_bytes w32 (slice_range bytes 2 6) ≡ h.packet_nr = from_be_bytes-to_be_bytes_4 h.packet_nr fits.packet_nr in
+    let packet_nr : from_be_bytes w32 (slice_range bytes 2 6) ≡ h.packet_nr =
+    from_be_bytes-to_be_bytes_4 h.packet_nr fits.packet_nr in
     let type : ptype_by (modification_of bytes) (word_at bytes (6 + 8 * sci_bit_of bytes)) ≡ h.ptype =
     (λ i. ptype_by (modification i) (word_at bytes (6 + 8 * sci_flag i)))
-    ∙ ptype_read (slice_index bytes 0) (slice_index bytes 1) (slice_index bytes 2) (slice_index bytes 3) (slice_index bytes 4) (slice_index bytes 5) h.sci h.ptype h.short_len fits.ptype in
+    ∙ ptype_read (at 0) (at 1) (at 2) (at 3) (at 4) (at 5) h.sci h.ptype h.short_len fits.ptype in
     let sci : sci_by (sci_bit_of bytes) (from_be_bytes w64 (slice_range bytes 6 14)) ≡ h.sci =
     ap (λ (n : ℕ). sci_by n (from_be_bytes w64 (slice_range bytes 6 14))) sci_flag
-    ∙ sci_read (slice_index bytes 0) (slice_index bytes 1) (slice_index bytes 2) (slice_index bytes 3) (slice_index bytes 4) (slice_index bytes 5) h.sci (ptype_bytes h.ptype) fits.sci in
+    ∙ sci_read (at 0) (at 1) (at 2) (at 3) (at 4) (at 5) h.sci (ptype_bytes h.ptype) fits.sci in
     sym (λ i. record {
       ptype = type i;
       endstation_id = bit_read _ h.endstation_id station i;
@@ -164,7 +180,8 @@ tail_len (Some sci) ptype.Encrypted = refl
 tail_len (Some sci) ptype.EncryptedUnmodified = refl
 
 -- a type that fits a short length has room
-room_of : (p : MacsecPType) (short_len : ℕ) → FitsPType p short_len → 2 * encryption_bit p + changed_text_bit p ≡ 0 → short_len ≡ 1 → ⊥
+room_of : (p : MacsecPType) (short_len : ℕ) → FitsPType p short_len
+    → 2 * encryption_bit p + changed_text_bit p ≡ 0 → short_len ≡ 1 → ⊥
 room_of (ptype.Unmodified type) short_len fits none one = fits.1 one
 room_of ptype.Modified short_len fits none one = omega (arith, none)
 room_of ptype.Encrypted short_len fits none one = omega (arith, none)
@@ -178,11 +195,13 @@ with_whole : (r : ℕ) (h : MacsecHeader) → r < 4 → FitsMacsec h → IsWhole
 with_whole r h bits fits =
     let bytes = macsec_bytes_with r h in
     let flags = flags_of h fits in
-    let modification : modification_of bytes ≡ 2 * encryption_bit h.ptype + changed_text_bit h.ptype = first_modification _ _ _ _ _ _ flags in
+    let modification : modification_of bytes ≡ 2 * encryption_bit h.ptype + changed_text_bit h.ptype =
+    first_modification _ _ _ _ _ _ flags in
     let sci_flag : sci_bit_of bytes ≡ sci_bit h.sci = first_sci _ _ _ _ _ _ flags in
     let short_len : short_len_of bytes ≡ h.short_len = omega (arith, fits.short_len) in
     let len : length bytes ≡ 6 + sci_len h.sci + ptype_len h.ptype = with_len r h in
-    let type_len : type_len_by (modification_of bytes) ≡ ptype_len h.ptype = ap type_len_by modification ∙ type_len_same h.ptype in
+    let type_len : type_len_by (modification_of bytes) ≡ ptype_len h.ptype =
+    ap type_len_by modification ∙ type_len_same h.ptype in
     let id_len = sci_len_same h.sci in
     record {
       fixed = omega (arith, len);
@@ -212,7 +231,8 @@ sci_bit_by zero sci below = refl
 sci_bit_by (suc zero) sci below = refl
 sci_bit_by (suc (suc s)) sci below = absurd (omega arith)
 
-FitsPType_by : (m type short_len : ℕ) → type < 2 ^ 16 → ¬ ((m ≡ 0) × (short_len ≡ 1)) → FitsPType (ptype_by m type) short_len
+FitsPType_by : (m type short_len : ℕ) → type < 2 ^ 16 → ¬ ((m ≡ 0) × (short_len ≡ 1))
+    → FitsPType (ptype_by m type) short_len
 FitsPType_by zero type short_len below room = (below, λ one. room (refl, one))
 FitsPType_by (suc zero) type short_len below room = tt
 FitsPType_by (suc (suc zero)) type short_len below room = tt
@@ -230,9 +250,11 @@ none_left : (k : ℕ) (e : List ℕ) → length e ≡ k → [] ≡ drop k e
 none_left k e len = sym (drop_all k e (omega arith))
 
 -- what stands at the end of a tag is its type, where its flags say so
-type_again : (e : List ℕ) (k m : ℕ) → AreBytes e → length e ≡ k + type_len_by m → ptype_bytes (ptype_by m (word_at e k)) ≡ drop k e
+type_again : (e : List ℕ) (k m : ℕ) → AreBytes e → length e ≡ k + type_len_by m
+    → ptype_bytes (ptype_by m (word_at e k)) ≡ drop k e
 type_again e k zero fits len =
-    let upper : get_or (drop k e) 0 0 ≡ get_or e k 0 = get_or-drop k e 0 0 ∙ ap (λ (i : ℕ). get_or e i 0) (add-zero k) in
+    let upper : get_or (drop k e) 0 0 ≡ get_or e k 0 =
+    get_or-drop k e 0 0 ∙ ap (λ (i : ℕ). get_or e i 0) (add-zero k) in
     let word : word_at e k ≡ word_at (drop k e) 0 = omega (arith, upper, get_or-drop k e 1 0) in
     ap (to_be_bytes w16) word ∙ two_again (drop k e) (omega (arith, length-drop k e)) (AreBytes-drop k e fits)
 type_again e k (suc zero) fits len = none_left k e (omega arith)
@@ -240,17 +262,20 @@ type_again e k (suc (suc zero)) fits len = none_left k e (omega arith)
 type_again e k (suc (suc (suc m))) fits len = none_left k e (omega arith)
 
 -- the bytes of the identifier are those of its number
-sci_again : (e : List ℕ) → AreBytes e → 14 ≤ length e → to_be_bytes w64 (from_be_bytes w64 (slice_range e 6 14)) ≡ slice_range e 6 14
+sci_again : (e : List ℕ) → AreBytes e → 14 ≤ length e
+    → to_be_bytes w64 (from_be_bytes w64 (slice_range e 6 14)) ≡ slice_range e 6 14
 sci_again e fits long =
-    be_bytes_8 (slice_range e 6 14) _ (omega (arith, length-take 8 (drop 6 e), length-drop 6 e)) (AreBytes-take 8 (drop 6 e) (AreBytes-drop 6 e fits)) refl
+    let eight : length (slice_range e 6 14) ≡ 8 = omega (arith, length-take 8 (drop 6 e), length-drop 6 e) in
+    be_bytes_8 (slice_range e 6 14) _ eight (AreBytes-take 8 (drop 6 e) (AreBytes-drop 6 e fits)) refl
 
 FitsSci_by : (s sci : ℕ) → (0 < s → sci < 2 ^ 64) → FitsSci (sci_by s sci)
 FitsSci_by zero sci below = tt
 FitsSci_by (suc s) sci below = below (omega arith)
 
 -- the identifier and the type stand behind the first 6 bytes
-tail_again : (e : List ℕ) (s m : ℕ) → AreBytes e → s < 2 → length e ≡ 6 + 8 * s + type_len_by m →
-    sci_bytes (sci_by s (from_be_bytes w64 (slice_range e 6 14))) ++ ptype_bytes (ptype_by m (word_at e (6 + 8 * s))) ≡ drop 6 e
+tail_again : (e : List ℕ) (s m : ℕ) → AreBytes e → s < 2 → length e ≡ 6 + 8 * s + type_len_by m
+    → sci_bytes (sci_by s (from_be_bytes w64 (slice_range e 6 14))) ++ ptype_bytes (ptype_by m (word_at e (6 + 8 * s)))
+    ≡ drop 6 e
 tail_again e zero m fits below len = type_again e 6 m fits len
 tail_again e (suc zero) m fits below len =
     ap (λ (x : List ℕ). x ++ ptype_bytes (ptype_by m (word_at e 14))) (sci_again e fits (omega arith))
@@ -262,22 +287,47 @@ tail_again e (suc (suc s)) m fits below len = absurd (omega arith)
 six : (e : List ℕ) → 6 ≤ length e → e ≡ get_or e 0 0 ∷ get_or e 1 0 ∷ (slice_range e 2 6 ++ drop 6 e)
 six e long = grind (arith, common_steps)
 
+-- the bytes of the packet number
+four_long : (e : List ℕ) → 6 ≤ length e → length (slice_range e 2 6) ≡ 4
+four_long e fixed = omega (arith, length-take 4 (drop 2 e), length-drop 2 e)
+
+four_bytes : (e : List ℕ) → AreBytes e → AreBytes (slice_range e 2 6)
+four_bytes e fits = AreBytes-take 4 (drop 2 e) (AreBytes-drop 2 e fits)
+
+sci_below : (e : List ℕ) → AreBytes e → 14 ≤ length e → from_be_bytes w64 (slice_range e 6 14) < 2 ^ 64
+sci_below e fits long =
+    let eight : length (slice_range e 6 14) ≡ 8 = omega (arith, length-take 8 (drop 6 e), length-drop 6 e) in
+    eight_below (slice_range e 6 14) eight (AreBytes-take 8 (drop 6 e) (AreBytes-drop 6 e fits))
+
 pub whole_fits : (e : List ℕ) → AreBytes e → IsWhole e → FitsMacsec (macsec_header_of e)
-whole_fits e fits a = record {
-  ptype = FitsPType_by (modification_of e) (word_at e (6 + 8 * sci_bit_of e)) (short_len_of e) (omega (arith, fits (6 + 8 * sci_bit_of e), fits (6 + 8 * sci_bit_of e + 1))) a.room;
-  an = omega arith;
-  short_len = omega arith;
-  packet_nr = four_below (slice_range e 2 6) (omega (arith, length-take 4 (drop 2 e), length-drop 2 e, a.fixed)) (AreBytes-take 4 (drop 2 e) (AreBytes-drop 2 e fits));
-  sci = FitsSci_by (sci_bit_of e) (from_be_bytes w64 (slice_range e 6 14)) (λ there. eight_below (slice_range e 6 14) (omega (arith, length-take 8 (drop 6 e), length-drop 6 e, a.whole, there)) (AreBytes-take 8 (drop 6 e) (AreBytes-drop 6 e fits)));
-}
+whole_fits e fits a =
+    let at = 6 + 8 * sci_bit_of e in
+    let type : word_at e at < 2 ^ 16 = omega (arith, fits at, fits (at + 1)) in
+    record {
+      ptype = FitsPType_by (modification_of e) (word_at e at) (short_len_of e) type a.room;
+      an = omega arith;
+      short_len = omega arith;
+      packet_nr = four_below (slice_range e 2 6) (four_long e a.fixed) (four_bytes e fits);
+      sci = FitsSci_by (sci_bit_of e) _ (λ there. sci_below e fits (omega (arith, a.whole, there)));
+    }
+
+-- the flags of a first byte of a tag are read from it
+first_byte_again : (e : List ℕ) → IsWhole e → get_or e 0 0 ≡ first_byte (macsec_header_of e)
+first_byte_again e a =
+    let station = bit_of_read (get_or e 0 0 / 64 % 2) (omega arith) in
+    let sci = sci_bit_by (sci_bit_of e) (from_be_bytes w64 (slice_range e 6 14)) (omega arith) in
+    let single = bit_of_read (get_or e 0 0 / 16 % 2) (omega arith) in
+    let modification = bits_by (modification_of e) (word_at e (6 + 8 * sci_bit_of e)) (omega arith) in
+    first_again (get_or e 0 0) _ _ _ _ _ _ a.version station sci single modification refl
 
 pub whole_encodes : (e : List ℕ) → AreBytes e → IsWhole e → EncodesMacsec e (macsec_header_of e)
 whole_encodes e fits a =
     let h = macsec_header_of e in
-    let packet_nr : slice_range e 2 6 ≡ to_be_bytes w32 (from_be_bytes w32 (slice_range e 2 6)) = sym (be_bytes_4 (slice_range e 2 6) _ (omega (arith, length-take 4 (drop 2 e), length-drop 2 e, a.fixed)) (AreBytes-take 4 (drop 2 e) (AreBytes-drop 2 e fits)) refl) in
-    let tail : drop 6 e ≡ sci_bytes h.sci ++ ptype_bytes h.ptype = sym (tail_again e (sci_bit_of e) (modification_of e) fits (omega arith) a.whole) in
-    let first : get_or e 0 0 ≡ first_of (bit h.endstation_id) (sci_bit h.sci) (bit h.scb) (encryption_bit h.ptype) (changed_text_bit h.ptype) h.an =
-    first_again (get_or e 0 0) _ _ _ _ _ _ a.version (bit_of_read _ (omega arith)) (sci_bit_by (sci_bit_of e) _ (omega arith)) (bit_of_read _ (omega arith)) (bits_by (modification_of e) _ (omega arith)) refl in
+    let packet_nr : slice_range e 2 6 ≡ to_be_bytes w32 h.packet_nr =
+    sym (be_bytes_4 (slice_range e 2 6) _ (four_long e a.fixed) (four_bytes e fits) refl) in
+    let tail : drop 6 e ≡ sci_bytes h.sci ++ ptype_bytes h.ptype =
+    sym (tail_again e (sci_bit_of e) (modification_of e) fits (omega arith) a.whole) in
+    let first = first_byte_again e a in
     let second : get_or e 1 0 ≡ 2 ^ 6 * (get_or e 1 0 / 64) + h.short_len = omega arith in
     record {
       fits = whole_fits e fits a;

@@ -1,14 +1,15 @@
 -- ARP (RFC 826).
-use Rattle.std.specs.Prelude.{◌≡◌, ℕ, ◌+◌, ◌*◌, ◌^◌, ◌<◌, ◌≤◌, ◌⊎◌, List, [], ◌∷◌, ◌++◌, length, slice_index, slice_range}
+use Rattle.std.specs.Prelude.{◌≡◌, ℕ, ◌+◌, ◌*◌, ◌^◌, ◌<◌, ◌≤◌, ◌==◌, Bool, not, nat_lt, List, [], ◌∷◌, ◌++◌, length, slice_index, slice_range}
 use Rattle.std.specs.Int.{w16, to_be_bytes}
 use Rattle.ep_base.specs.Bytes.{AreBytes, word_at}
 use Rattle.ep_base.specs.Layer.{len_error}
+use Rattle.ep_base.specs.Tables.{Refuses}
 use Rattle.ep_base.specs.declared.ether_type.EtherType.{EtherType}
 use Rattle.ep_base.specs.declared.err.len_error.LenError.{LenError}
 use Rattle.ep_base.specs.declared.err.layer.Layer.TheVariants as layer
 use Rattle.ep_base.specs.declared.len_source.LenSource.TheVariants as source
-use Rattle.ep_link.specs.declared.arp_hardware_id.ArpHardwareId.{ArpHardwareId}
-use Rattle.ep_link.specs.declared.arp_operation.ArpOperation.{ArpOperation}
+use Rattle.ep_link.specs.declared.arp.arp_hardware_id.ArpHardwareId.{ArpHardwareId}
+use Rattle.ep_link.specs.declared.arp.arp_operation.ArpOperation.{ArpOperation}
 use Rattle.ep_link.specs.declared.err.arp.arp_hw_addr_error.ArpHwAddrError.TheVariants as hw_error
 use Rattle.ep_link.specs.declared.err.arp.arp_proto_addr_error.ArpProtoAddrError.TheVariants as proto_error
 use Rattle.ep_link.specs.declared.err.arp.arp_new_error.ArpNewError.{ArpNewError}
@@ -51,19 +52,24 @@ arp_bytes packet =
     ++ packet.sender_hw_addr ++ packet.sender_protocol_addr ++ packet.target_hw_addr ++ packet.target_protocol_addr
 
 -- the bytes are a packet, and what is left behind it
-pub record IsArp (bytes : List ℕ) (packet : Arp) (left : List ℕ) : Type 0 where
-  pub fits : FitsArp packet
-  pub parts : bytes ≡ arp_bytes packet ++ left
+pub record IsArp (bytes : List ℕ) (read : Arp × List ℕ) : Type 0 where
+  pub fits : FitsArp read.0
+  pub parts : bytes ≡ arp_bytes read.0 ++ read.1
 
 -- the number of bytes of the packet that the two address lengths, bytes 4 and 5, demand
 abbrev pub arp_len_of : List ℕ → ℕ
 arp_len_of bytes = 8 + 2 * slice_index bytes 4 + 2 * slice_index bytes 5
 
 -- why bytes begin with no packet
+abbrev pub arp_rows : List ℕ → List (Bool × LenError)
+arp_rows bytes =
+    let whole = arp_len_of bytes in
+    (nat_lt (length bytes) 8, len_error 8 (length bytes) source.Slice layer.Arp)
+    ∷ (nat_lt (length bytes) whole, len_error whole (length bytes) source.ArpAddrLengths layer.Arp)
+    ∷ []
+
 abbrev pub RefusesArp : List ℕ → LenError → Type 0
-RefusesArp bytes error =
-    ((length bytes < 8) × (error ≡ len_error 8 (length bytes) source.Slice layer.Arp))
-    ⊎ ((8 ≤ length bytes) × (length bytes < arp_len_of bytes) × (error ≡ len_error (arp_len_of bytes) (length bytes) source.ArpAddrLengths layer.Arp))
+RefusesArp bytes = Refuses (arp_rows bytes)
 
 -- the packet that stands at the front of bytes
 abbrev pub arp_packet_of : List ℕ → Arp
@@ -80,16 +86,23 @@ arp_packet_of bytes =
       target_protocol_addr = slice_range bytes (8 + 2 * hw + protocol) (8 + 2 * hw + 2 * protocol);
     }
 
+-- the packet that bytes are, and what stands behind them
+abbrev pub arp_parts : List ℕ → List ℕ → Arp × List ℕ
+arp_parts bytes left = (arp_packet_of bytes, left)
+
 -- why no packet is made of these addresses
+abbrev pub arp_address_rows : List ℕ → List ℕ → List ℕ → List ℕ → List (Bool × ArpNewError)
+arp_address_rows sender_hw sender_protocol target_hw target_protocol =
+    let hw = length sender_hw in
+    let other_hw = length target_hw in
+    let protocol = length sender_protocol in
+    let other_protocol = length target_protocol in
+    (not (hw == other_hw), new_error.HwAddr (hw_error.LenNonMatching hw other_hw))
+    ∷ (nat_lt 255 hw, new_error.HwAddr (hw_error.LenTooBig hw))
+    ∷ (not (protocol == other_protocol), new_error.ProtoAddr (proto_error.LenNonMatching protocol other_protocol))
+    ∷ (nat_lt 255 protocol, new_error.ProtoAddr (proto_error.LenTooBig protocol))
+    ∷ []
+
 abbrev pub RefusesArpAddresses : List ℕ → List ℕ → List ℕ → List ℕ → ArpNewError → Type 0
-RefusesArpAddresses sender_hw sender_protocol target_hw target_protocol error =
-    ((¬ (length sender_hw ≡ length target_hw))
-    × (error ≡ new_error.HwAddr (hw_error.LenNonMatching (length sender_hw) (length target_hw))))
-    ⊎ ((length sender_hw ≡ length target_hw) × (255 < length sender_hw)
-    × (error ≡ new_error.HwAddr (hw_error.LenTooBig (length sender_hw))))
-    ⊎ ((length sender_hw ≡ length target_hw) × (length sender_hw ≤ 255)
-    × (¬ (length sender_protocol ≡ length target_protocol))
-    × (error ≡ new_error.ProtoAddr (proto_error.LenNonMatching (length sender_protocol) (length target_protocol))))
-    ⊎ ((length sender_hw ≡ length target_hw) × (length sender_hw ≤ 255)
-    × (length sender_protocol ≡ length target_protocol) × (255 < length sender_protocol)
-    × (error ≡ new_error.ProtoAddr (proto_error.LenTooBig (length sender_protocol))))
+RefusesArpAddresses sender_hw sender_protocol target_hw target_protocol =
+    Refuses (arp_address_rows sender_hw sender_protocol target_hw target_protocol)

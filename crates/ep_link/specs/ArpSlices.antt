@@ -1,8 +1,8 @@
 -- What a packet and a slice of ARP show.
 use Rattle.std.specs.Prelude.{ℕ, List}
-use Rattle.ep_link.specs.declared.arp_packet.ArpPacket.{ArpPacket}
-use Rattle.ep_link.specs.declared.arp_packet_slice.ArpPacketSlice.{ArpPacketSlice}
-use Rattle.ep_link.specs.Arp.{Arp, arp_packet_of}
+use Rattle.ep_link.specs.declared.arp.arp_packet.ArpPacket.{ArpPacket}
+use Rattle.ep_link.specs.declared.arp.arp_packet_slice.ArpPacketSlice.{ArpPacketSlice}
+use Rattle.ep_link.specs.Arp.{Arp, arp_packet_of, arp_parts}
 
 -- a packet
 abbrev pub arp_of : ArpPacket → Arp
@@ -18,8 +18,12 @@ arp_of packet = record {
 
 -- the bytes of a packet in a slice
 abbrev pub arp_slice_bytes : ArpPacketSlice → List ℕ
-arp_slice_bytes slice = slice.slice.now
+arp_slice_bytes slice = slice.bytes.slice.now
 
 -- the packet in a slice
 abbrev pub arp_slice_packet : ArpPacketSlice → Arp
 arp_slice_packet slice = arp_packet_of (arp_slice_bytes slice)
+
+-- both, and what stands behind the packet
+abbrev pub arp_slice_parts : ArpPacketSlice → List ℕ → Arp × List ℕ
+arp_slice_parts slice left = arp_parts (arp_slice_bytes slice) left

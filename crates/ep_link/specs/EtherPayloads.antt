@@ -21,5 +21,6 @@ ether_payload_of slice = record {
 
 -- the payload of a MACsec tag, where its type can be read
 abbrev pub macsec_ether_payload : MacsecPayload → Option EtherPayload
-macsec_ether_payload (unmodified type source bytes) = Some (record { ether_type = type; len_source = source; bytes = bytes })
+macsec_ether_payload (unmodified type source bytes) =
+    Some (record { ether_type = type; len_source = source; bytes = bytes })
 macsec_ether_payload (modified bytes) = None

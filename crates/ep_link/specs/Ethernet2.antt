@@ -1,12 +1,13 @@
 -- Ethernet II (IEEE 802.3, clause 3).
-use Rattle.std.specs.Prelude.{◌≡◌, ℕ, ◌<◌, ◌^◌, List, [], ◌++◌, length, slice_range}
+use Rattle.std.specs.Prelude.{◌≡◌, ℕ, ◌<◌, ◌^◌, Bool, nat_lt, List, [], ◌∷◌, ◌++◌, length, drop, slice_range}
 use Rattle.std.specs.Int.{w16, to_be_bytes}
 use Rattle.ep_base.specs.Bytes.{AreBytes, word_at}
 use Rattle.ep_base.specs.Layer.{len_error}
+use Rattle.ep_base.specs.Tables.{Parts, Refuses, parts_of}
 use Rattle.ep_base.specs.declared.err.len_error.LenError.{LenError}
 use Rattle.ep_base.specs.declared.err.layer.Layer.TheVariants as layer
 use Rattle.ep_base.specs.declared.len_source.LenSource.TheVariants as source
-use Rattle.ep_link.specs.declared.ethernet2_header.Ethernet2Header.{Ethernet2Header}
+use Rattle.ep_link.specs.declared.link.ethernet2_header.Ethernet2Header.{Ethernet2Header}
 
 -- the addresses are 6 bytes each, and the ether type has 16 bits
 pub record FitsEthernet2 (header : Ethernet2Header) : Type 0 where
@@ -25,15 +26,18 @@ abbrev pub ethernet2_bytes : Ethernet2Header → List ℕ
 ethernet2_bytes header = header.destination ++ header.source ++ to_be_bytes w16 header.ether_type.0
 
 -- the bytes are a header and its payload, and nothing is left behind them
-pub record IsEthernet2 (bytes : List ℕ) (header : Ethernet2Header) (payload left : List ℕ) : Type 0 where
-  pub fits : FitsEthernet2 header
-  pub parts : bytes ≡ (ethernet2_bytes header ++ payload) ++ left
-  pub cut : left ≡ []
+pub record IsEthernet2 (bytes : List ℕ) (frame : Parts Ethernet2Header) : Type 0 where
+  pub fits : FitsEthernet2 frame.header
+  pub parts : bytes ≡ (ethernet2_bytes frame.header ++ frame.payload) ++ frame.left
+  pub cut : frame.left ≡ []
 
 -- why bytes begin with no header
+abbrev pub ethernet2_rows : List ℕ → List (Bool × LenError)
+ethernet2_rows bytes =
+    (nat_lt (length bytes) 14, len_error 14 (length bytes) source.Slice layer.Ethernet2Header) ∷ []
+
 abbrev pub RefusesEthernet2 : List ℕ → LenError → Type 0
-RefusesEthernet2 bytes error =
-    (length bytes < 14) × (error ≡ len_error 14 (length bytes) source.Slice layer.Ethernet2Header)
+RefusesEthernet2 bytes = Refuses (ethernet2_rows bytes)
 
 -- the header that stands at the front of 14 bytes and more
 abbrev pub ethernet2_header_of : List ℕ → Ethernet2Header
@@ -42,3 +46,7 @@ ethernet2_header_of bytes = record {
   destination = slice_range bytes 0 6;
   ether_type = record { 0 = word_at bytes 12 };
 }
+
+-- the frame that bytes are, and what stands behind them
+abbrev pub ethernet2_parts : List ℕ → List ℕ → Parts Ethernet2Header
+ethernet2_parts bytes left = parts_of (ethernet2_header_of bytes) (drop 14 bytes) left

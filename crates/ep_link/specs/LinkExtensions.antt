@@ -1,18 +1,22 @@
 -- Link extensions: the tags between the link header and the net layer.
-use Rattle.std.specs.Prelude.{◌≡◌, ℕ, ◌⊎◌, List, Option, Some, None}
+use Rattle.std.specs.Prelude.{◌≡◌, ℕ, ◌⊎◌, List, Option, Some}
+use Rattle.ep_base.specs.EtherTypes.{vlan_type, provider_bridging_type, double_vlan_type, macsec_type}
+use Rattle.ep_base.specs.Tables.{Refuses, parts_of, rows_as}
 use Rattle.ep_base.specs.declared.ether_type.EtherType.{EtherType}
+use Rattle.ep_base.specs.declared.err.macsec.HeaderSliceError.{HeaderSliceError}
+use Rattle.ep_base.specs.declared.err.macsec.HeaderSliceError.TheVariants as refusal
 use Rattle.ep_base.specs.declared.len_source.LenSource.TheVariants as source
-use Rattle.ep_link.specs.declared.single_vlan_header.SingleVlanHeader.{SingleVlanHeader}
-use Rattle.ep_link.specs.declared.macsec_header.MacsecHeader.{MacsecHeader}
-use Rattle.ep_link.specs.declared.link_ext_header.LinkExtHeader.{LinkExtHeader}
-use Rattle.ep_link.specs.declared.link_ext_header.LinkExtHeader.TheVariants as header
-use Rattle.ep_link.specs.declared.link_ext_slice.LinkExtSlice.{LinkExtSlice}
-use Rattle.ep_link.specs.declared.link_ext_slice.LinkExtSlice.TheVariants as slice
-use Rattle.ep_link.specs.Vlan.{vlan_bytes, vlan_header_len, IsVlan}
-use Rattle.ep_link.specs.VlanSlices.{vlan_slice_header, vlan_slice_payload}
-use Rattle.ep_link.specs.Macsec.{macsec_bytes, macsec_header_len, IsMacsec, MacsecPayload, macsec_payload, macsec_payload_bytes, macsec_payload_type, ptype_type}
+use Rattle.ep_link.specs.declared.link_ext.single_vlan_header.SingleVlanHeader.{SingleVlanHeader}
+use Rattle.ep_link.specs.declared.link_ext.macsec_header.MacsecHeader.{MacsecHeader}
+use Rattle.ep_link.specs.declared.link_ext.link_ext_header.LinkExtHeader.{LinkExtHeader}
+use Rattle.ep_link.specs.declared.link_ext.link_ext_header.LinkExtHeader.TheVariants as header
+use Rattle.ep_link.specs.declared.link_ext.link_ext_slice.LinkExtSlice.{LinkExtSlice}
+use Rattle.ep_link.specs.declared.link_ext.link_ext_slice.LinkExtSlice.TheVariants as slice
+use Rattle.ep_link.specs.Vlan.{vlan_bytes, vlan_header_len, FitsVlan, IsVlan, vlan_rows}
+use Rattle.ep_link.specs.VlanSlices.{vlan_slice_bytes, vlan_slice_header, vlan_slice_payload}
+use Rattle.ep_link.specs.Macsec.{macsec_bytes, macsec_header_len, EncodesMacsec, IsMacsec, RefusesMacsec, MacsecPayload, macsec_payload, macsec_payload_bytes, macsec_payload_type, ptype_type}
 use Rattle.ep_link.specs.EtherPayloads.{EtherPayload, macsec_ether_payload}
-use Rattle.ep_link.specs.MacsecSlices.{macsec_slice_header, macsec_slice_payload}
+use Rattle.ep_link.specs.MacsecSlices.{macsec_slice_bytes, macsec_slice_header, macsec_slice_payload}
 
 -- an extension as plain data: its tag and its payload
 pub data LinkExtension : Type 0 where
@@ -24,32 +28,52 @@ abbrev pub link_extension_of : LinkExtSlice → LinkExtension
 link_extension_of (slice.Vlan tag) = vlan (vlan_slice_header tag) (vlan_slice_payload tag)
 link_extension_of (slice.Macsec packet) = macsec (macsec_slice_header packet) (macsec_slice_payload packet)
 
--- the ether types of VLAN tags: those of customer and service tags (IEEE 802.1Q, 9.5), and the number that double tagged
--- frames used before the standard
+-- the bytes that a slice shows: those of tag and payload, of a modified one too
+abbrev pub link_ext_slice_bytes : LinkExtSlice → List ℕ
+link_ext_slice_bytes (slice.Vlan tag) = vlan_slice_bytes tag
+link_ext_slice_bytes (slice.Macsec packet) = macsec_slice_bytes packet
+
+-- ---- which bytes are an extension, and why others are none
+
+-- the ether types of VLAN tags: those of customer and service tags (IEEE 802.1Q, 9.5), and the number that double
+-- tagged frames used before the standard
 abbrev pub IsVlanType : EtherType → Type 0
-IsVlanType type = (type.0 ≡ 0x8100) ⊎ (type.0 ≡ 0x88a8) ⊎ (type.0 ≡ 0x9100)
+IsVlanType type = (type.0 ≡ vlan_type) ⊎ (type.0 ≡ provider_bridging_type) ⊎ (type.0 ≡ double_vlan_type)
 
 -- the ether type of MACsec
 abbrev pub IsMacsecType : EtherType → Type 0
-IsMacsecType type = type.0 ≡ 0x88e5
+IsMacsecType type = type.0 ≡ macsec_type
 
 -- the type begins an extension
 abbrev pub BeginsLinkExtension : EtherType → Type 0
 BeginsLinkExtension type = IsVlanType type ⊎ IsMacsecType type
 
 -- bytes of a type are an extension, and what its cut leaves behind its payload
-abbrev pub IsLinkExtension : EtherType → List ℕ → LinkExtension → List ℕ → Type 0
-IsLinkExtension type bytes (vlan header payload) left = IsVlanType type × IsVlan bytes header payload left
-IsLinkExtension type bytes (macsec header payload) left =
-    IsMacsecType type × IsMacsec bytes header (macsec_payload_bytes payload) left
+abbrev pub IsLinkExtension : EtherType → List ℕ → LinkExtension × List ℕ → Type 0
+IsLinkExtension type bytes (vlan header payload, left) = IsVlanType type × IsVlan bytes (parts_of header payload left)
+IsLinkExtension type bytes (macsec header payload, left) =
+    IsMacsecType type × IsMacsec bytes (parts_of header (macsec_payload_bytes payload) left)
     × (payload ≡ macsec_payload header (macsec_payload_bytes payload))
+
+-- why bytes of a type are no extension where they must be one
+abbrev pub RefusesLinkExtension : EtherType → List ℕ → HeaderSliceError → Type 0
+RefusesLinkExtension type bytes error =
+    (IsVlanType type × Refuses (rows_as refusal.Len (vlan_rows bytes)) error)
+    ⊎ (IsMacsecType type × RefusesMacsec bytes error)
+
+-- ---- tag and payload
 
 -- the tag of an extension
 abbrev pub extension_header : LinkExtension → LinkExtHeader
 extension_header (vlan tag payload) = header.Vlan tag
 extension_header (macsec tag payload) = header.Macsec tag
 
--- the bytes of a tag
+-- the bytes are a tag's, up to its reserved bits
+abbrev pub EncodesTag : LinkExtension → List ℕ → Type 0
+EncodesTag (vlan tag payload) bytes = FitsVlan tag × (bytes ≡ vlan_bytes tag)
+EncodesTag (macsec tag payload) bytes = EncodesMacsec bytes tag
+
+-- the bytes of a tag as it is written
 abbrev pub link_ext_bytes : LinkExtHeader → List ℕ
 link_ext_bytes (header.Vlan tag) = vlan_bytes tag
 link_ext_bytes (header.Macsec tag) = macsec_bytes tag
@@ -76,5 +100,6 @@ link_ext_next_type (header.Macsec tag) = ptype_type tag.ptype
 
 -- the payload, where its type can be read
 abbrev pub extension_ether_payload : LinkExtension → Option EtherPayload
-extension_ether_payload (vlan tag payload) = Some (record { ether_type = tag.ether_type; len_source = source.Slice; bytes = payload })
+extension_ether_payload (vlan tag payload) =
+    Some (record { ether_type = tag.ether_type; len_source = source.Slice; bytes = payload })
 extension_ether_payload (macsec tag payload) = macsec_ether_payload payload

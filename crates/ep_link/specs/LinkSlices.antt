@@ -3,17 +3,17 @@ use Rattle.std.specs.Prelude.{ℕ, List, Option, Some, None, option_map}
 use Rattle.ep_base.specs.declared.ether_type.EtherType.{EtherType}
 use Rattle.ep_base.specs.declared.len_source.LenSource.{LenSource}
 use Rattle.ep_base.specs.declared.len_source.LenSource.TheVariants as source
-use Rattle.ep_link.specs.declared.ethernet2_header.Ethernet2Header.{Ethernet2Header}
-use Rattle.ep_link.specs.declared.linux_sll_header.LinuxSllHeader.{LinuxSllHeader}
-use Rattle.ep_link.specs.declared.linux_sll_protocol_type.LinuxSllProtocolType.{LinuxSllProtocolType}
-use Rattle.ep_link.specs.declared.link_header.LinkHeader.{LinkHeader}
-use Rattle.ep_link.specs.declared.link_header.LinkHeader.TheVariants as header
-use Rattle.ep_link.specs.declared.link_slice.LinkSlice.{LinkSlice}
-use Rattle.ep_link.specs.declared.link_slice.LinkSlice.TheVariants as slice
-use Rattle.ep_link.specs.Ethernet2.{ethernet2_bytes}
+use Rattle.ep_link.specs.declared.link.ethernet2_header.Ethernet2Header.{Ethernet2Header}
+use Rattle.ep_link.specs.declared.link.linux_sll_header.LinuxSllHeader.{LinuxSllHeader}
+use Rattle.ep_link.specs.declared.link.linux_sll_protocol_type.LinuxSllProtocolType.{LinuxSllProtocolType}
+use Rattle.ep_link.specs.declared.link.link_header.LinkHeader.{LinkHeader}
+use Rattle.ep_link.specs.declared.link.link_header.LinkHeader.TheVariants as header
+use Rattle.ep_link.specs.declared.link.link_slice.LinkSlice.{LinkSlice}
+use Rattle.ep_link.specs.declared.link.link_slice.LinkSlice.TheVariants as slice
+use Rattle.ep_link.specs.Ethernet2.{ethernet2_bytes, ethernet2_header_len}
 use Rattle.ep_link.specs.Ethernet2Slices.{ethernet2_slice_header, ethernet2_slice_payload}
 use Rattle.ep_link.specs.EtherPayloads.{EtherPayload}
-use Rattle.ep_link.specs.LinuxSll.{linux_sll_bytes, protocol_ether_type}
+use Rattle.ep_link.specs.LinuxSll.{linux_sll_bytes, linux_sll_header_len, protocol_ether_type}
 use Rattle.ep_link.specs.LinuxSllSlices.{linux_sll_slice_header, linux_sll_slice_payload}
 
 -- a link layer: its header, where it has one, and its payload
@@ -51,8 +51,8 @@ link_bytes (header.LinuxSll sll) = linux_sll_bytes sll
 
 -- the number of bytes of a link header
 abbrev pub link_header_len : LinkHeader → ℕ
-link_header_len (header.Ethernet2 ethernet) = 14
-link_header_len (header.LinuxSll sll) = 16
+link_header_len (header.Ethernet2 ethernet) = ethernet2_header_len
+link_header_len (header.LinuxSll sll) = linux_sll_header_len
 
 -- a payload of this type, whose end nothing but the end of the bytes sets
 abbrev pub whole_ether_payload : List ℕ → EtherType → EtherPayload
@@ -66,12 +66,13 @@ protocol_payload protocol payload = option_map (whole_ether_payload payload) (pr
 abbrev pub link_ether_payload : LinkLayer → Option EtherPayload
 link_ether_payload (ethernet2 ethernet payload) = Some (whole_ether_payload payload ethernet.ether_type)
 link_ether_payload (linux_sll sll payload) = protocol_payload sll.protocol_type payload
-link_ether_payload (ether_payload type source payload) = Some (record { ether_type = type; len_source = source; bytes = payload })
+link_ether_payload (ether_payload type source payload) =
+    Some (record { ether_type = type; len_source = source; bytes = payload })
 link_ether_payload (linux_sll_payload protocol payload) = protocol_payload protocol payload
 
 -- the number of bytes of a link layer's header, where it has one
 abbrev pub link_layer_header_len : LinkLayer → ℕ
-link_layer_header_len (ethernet2 ethernet payload) = 14
-link_layer_header_len (linux_sll sll payload) = 16
+link_layer_header_len (ethernet2 ethernet payload) = ethernet2_header_len
+link_layer_header_len (linux_sll sll payload) = linux_sll_header_len
 link_layer_header_len (ether_payload type source payload) = 0
 link_layer_header_len (linux_sll_payload protocol payload) = 0

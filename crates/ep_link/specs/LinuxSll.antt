@@ -1,34 +1,73 @@
 -- Linux cooked captures (SLL v1).
-use Rattle.std.specs.Prelude.{◌≡◌, ℕ, ◌^◌, ◌<◌, ◌≤◌, ◌⊎◌, ◌==◌, ◌||◌, nat_lt, if◌then◌else◌, Option, Some, None, List, [], ◌++◌, length, slice_range}
+use Rattle.std.specs.Prelude.{◌≡◌, ℕ, ◌^◌, ◌<◌, ◌≤◌, ◌⊎◌, ◌==◌, ◌||◌, Bool, not, nat_lt, if◌then◌else◌, Option, Some, None, List, [], ◌∷◌, ◌++◌, length, drop, slice_range}
 use Rattle.std.specs.Int.{w16, to_be_bytes}
 use Rattle.ep_base.specs.Bytes.{AreBytes, word_at}
 use Rattle.ep_base.specs.Layer.{len_error}
+use Rattle.ep_base.specs.Tables.{Parts, Refuses, parts_of}
 use Rattle.ep_base.specs.declared.ether_type.EtherType.{EtherType}
 use Rattle.ep_base.specs.declared.err.layer.Layer.TheVariants as layer
 use Rattle.ep_base.specs.declared.len_source.LenSource.TheVariants as source
 use Rattle.ep_base.specs.declared.err.linux_sll.HeaderError.TheVariants as content
 use Rattle.ep_base.specs.declared.err.linux_sll.HeaderSliceError.{HeaderSliceError}
 use Rattle.ep_base.specs.declared.err.linux_sll.HeaderSliceError.TheVariants as header_error
-use Rattle.ep_link.specs.declared.linux_sll_protocol_type.LinuxSllProtocolType.{LinuxSllProtocolType}
-use Rattle.ep_link.specs.declared.linux_sll_protocol_type.LinuxSllProtocolType.TheVariants as protocol
-use Rattle.ep_link.specs.declared.linux_sll_header.LinuxSllHeader.{LinuxSllHeader}
+use Rattle.ep_link.specs.declared.link.linux_sll_protocol_type.LinuxSllProtocolType.{LinuxSllProtocolType}
+use Rattle.ep_link.specs.declared.link.linux_sll_protocol_type.LinuxSllProtocolType.TheVariants as protocol
+use Rattle.ep_link.specs.declared.link.linux_sll_header.LinuxSllHeader.{LinuxSllHeader}
 
--- the hardware types whose protocol field is an ether type: Ethernet and loopback
+-- ---- hardware types (ARPHRD)
+
+-- Ethernet
+abbrev pub ethernet_hardware : ℕ
+ethernet_hardware = 1
+
+-- a Frame Relay access device
+abbrev pub frame_relay_hardware : ℕ
+frame_relay_hardware = 770
+
+-- the loopback device
+abbrev pub loopback_hardware : ℕ
+loopback_hardware = 772
+
+-- a GRE tunnel over IP
+abbrev pub gre_hardware : ℕ
+gre_hardware = 778
+
+-- IEEE 802.11 with a radiotap header
+abbrev pub radiotap_hardware : ℕ
+radiotap_hardware = 803
+
+-- netlink
+abbrev pub netlink_hardware : ℕ
+netlink_hardware = 824
+
+-- the hardware types whose protocol field is an ether type
 abbrev pub HasEtherTypes : ℕ → Type 0
-HasEtherTypes hardware = (hardware ≡ 1) ⊎ (hardware ≡ 772)
+HasEtherTypes hardware = (hardware ≡ ethernet_hardware) ⊎ (hardware ≡ loopback_hardware)
 
--- the hardware types whose protocol field says nothing: Frame Relay access devices and IEEE 802.11 with a radiotap header
+-- the hardware types whose protocol field says nothing
 abbrev pub HasNoProtocol : ℕ → Type 0
-HasNoProtocol hardware = (hardware ≡ 770) ⊎ (hardware ≡ 803)
+HasNoProtocol hardware = (hardware ≡ frame_relay_hardware) ⊎ (hardware ≡ radiotap_hardware)
 
--- What the protocol field says, by the hardware type: an ether type from 0x0600 on, one of Linux's own numbers below
--- that, nothing, a netlink protocol or a GRE protocol.
+-- whether the protocol field of a hardware type can be read
+abbrev pub knows_hardware : ℕ → Bool
+knows_hardware hardware =
+    (hardware == ethernet_hardware) || (hardware == loopback_hardware) || (hardware == frame_relay_hardware)
+    || (hardware == radiotap_hardware) || (hardware == gre_hardware) || (hardware == netlink_hardware)
+
+-- ---- the protocol field
+
+-- the least number that is an ether type (IEEE 802.3, 3.2.6)
+abbrev pub least_ether_type : ℕ
+least_ether_type = 0x0600
+
+-- What the protocol field says, by the hardware type: an ether type, or below the least of them one of Linux's own
+-- numbers, nothing, a netlink protocol or a GRE protocol.
 abbrev pub IsProtocolOf : ℕ → LinuxSllProtocolType → Type 0
-IsProtocolOf hardware (protocol.EtherType type) = HasEtherTypes hardware × (0x0600 ≤ type.0)
-IsProtocolOf hardware (protocol.LinuxNonstandardEtherType number) = HasEtherTypes hardware × (number < 0x0600)
+IsProtocolOf hardware (protocol.EtherType type) = HasEtherTypes hardware × (least_ether_type ≤ type.0)
+IsProtocolOf hardware (protocol.LinuxNonstandardEtherType number) = HasEtherTypes hardware × (number < least_ether_type)
 IsProtocolOf hardware (protocol.Ignored number) = HasNoProtocol hardware
-IsProtocolOf hardware (protocol.NetlinkProtocolType number) = hardware ≡ 824
-IsProtocolOf hardware (protocol.GenericRoutingEncapsulationProtocolType number) = hardware ≡ 778
+IsProtocolOf hardware (protocol.NetlinkProtocolType number) = hardware ≡ netlink_hardware
+IsProtocolOf hardware (protocol.GenericRoutingEncapsulationProtocolType number) = hardware ≡ gre_hardware
 
 -- the number in the protocol field
 abbrev pub protocol_number : LinuxSllProtocolType → ℕ
@@ -38,9 +77,7 @@ protocol_number (protocol.Ignored number) = number
 protocol_number (protocol.NetlinkProtocolType number) = number
 protocol_number (protocol.GenericRoutingEncapsulationProtocolType number) = number
 
--- the hardware types whose protocol field can be read
-abbrev pub IsKnownHardware : ℕ → Type 0
-IsKnownHardware hardware = HasEtherTypes hardware ⊎ HasNoProtocol hardware ⊎ (hardware ≡ 778) ⊎ (hardware ≡ 824)
+-- ---- packets
 
 -- each field fits its place, and the protocol is of the kind that the hardware type gives
 pub record FitsLinuxSll (header : LinuxSllHeader) : Type 0 where
@@ -64,25 +101,32 @@ linux_sll_bytes header =
     ++ to_be_bytes w16 (protocol_number header.protocol_type)
 
 -- the bytes are a header and its payload, and nothing is left behind them
-pub record IsLinuxSll (bytes : List ℕ) (header : LinuxSllHeader) (payload left : List ℕ) : Type 0 where
-  pub fits : FitsLinuxSll header
-  pub parts : bytes ≡ (linux_sll_bytes header ++ payload) ++ left
-  pub cut : left ≡ []
+pub record IsLinuxSll (bytes : List ℕ) (packet : Parts LinuxSllHeader) : Type 0 where
+  pub fits : FitsLinuxSll packet.header
+  pub parts : bytes ≡ (linux_sll_bytes packet.header ++ packet.payload) ++ packet.left
+  pub cut : packet.left ≡ []
 
 -- why bytes begin with no header
+abbrev pub linux_sll_rows : List ℕ → List (Bool × HeaderSliceError)
+linux_sll_rows bytes =
+    let packet_type = word_at bytes 0 in
+    let hardware = word_at bytes 2 in
+    (nat_lt (length bytes) 16, header_error.Len (len_error 16 (length bytes) source.Slice layer.LinuxSllHeader))
+    ∷ (nat_lt 7 packet_type, header_error.Content (content.UnsupportedPacketTypeField packet_type))
+    ∷ (not (knows_hardware hardware), header_error.Content (content.UnsupportedArpHardwareId hardware))
+    ∷ []
+
 abbrev pub RefusesLinuxSll : List ℕ → HeaderSliceError → Type 0
-RefusesLinuxSll bytes error =
-    ((length bytes < 16) × (error ≡ header_error.Len (len_error 16 (length bytes) source.Slice layer.LinuxSllHeader)))
-    ⊎ ((16 ≤ length bytes) × (7 < word_at bytes 0) × (error ≡ header_error.Content (content.UnsupportedPacketTypeField (word_at bytes 0))))
-    ⊎ ((16 ≤ length bytes) × (word_at bytes 0 ≤ 7) × (¬ IsKnownHardware (word_at bytes 2)) × (error ≡ header_error.Content (content.UnsupportedArpHardwareId (word_at bytes 2))))
+RefusesLinuxSll bytes = Refuses (linux_sll_rows bytes)
 
 -- the protocol field's meaning, for a hardware type that is known
 abbrev pub protocol_of : ℕ → ℕ → LinuxSllProtocolType
 protocol_of hardware number =
-    if hardware == 824 then protocol.NetlinkProtocolType number else
-    (if hardware == 778 then protocol.GenericRoutingEncapsulationProtocolType number else
-    (if (hardware == 770) || (hardware == 803) then protocol.Ignored number else
-    (if nat_lt number 0x0600 then protocol.LinuxNonstandardEtherType number else protocol.EtherType (record { 0 = number }))))
+    if hardware == netlink_hardware then protocol.NetlinkProtocolType number else
+    (if hardware == gre_hardware then protocol.GenericRoutingEncapsulationProtocolType number else
+    (if (hardware == frame_relay_hardware) || (hardware == radiotap_hardware) then protocol.Ignored number else
+    (if nat_lt number least_ether_type then protocol.LinuxNonstandardEtherType number else
+    protocol.EtherType (record { 0 = number }))))
 
 -- the header that stands at the front of 16 bytes and more
 abbrev pub linux_sll_header_of : List ℕ → LinuxSllHeader
@@ -93,6 +137,10 @@ linux_sll_header_of bytes = record {
   sender_address = slice_range bytes 6 14;
   protocol_type = protocol_of (word_at bytes 2) (word_at bytes 14);
 }
+
+-- the packet that bytes are, and what stands behind them
+abbrev pub linux_sll_parts : List ℕ → List ℕ → Parts LinuxSllHeader
+linux_sll_parts bytes left = parts_of (linux_sll_header_of bytes) (drop 16 bytes) left
 
 -- the ether type of the payload, where the protocol is one
 abbrev pub protocol_ether_type : LinuxSllProtocolType → Option EtherType

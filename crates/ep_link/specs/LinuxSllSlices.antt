@@ -1,12 +1,13 @@
 -- What a slice of a Linux cooked capture shows.
 use Rattle.std.specs.Prelude.{ℕ, List, drop}
-use Rattle.ep_link.specs.declared.linux_sll_header.LinuxSllHeader.{LinuxSllHeader}
-use Rattle.ep_link.specs.declared.linux_sll_slice.LinuxSllSlice.{LinuxSllSlice}
-use Rattle.ep_link.specs.LinuxSll.{linux_sll_header_of}
+use Rattle.ep_base.specs.Tables.{Parts}
+use Rattle.ep_link.specs.declared.link.linux_sll_header.LinuxSllHeader.{LinuxSllHeader}
+use Rattle.ep_link.specs.declared.link.linux_sll_slice.LinuxSllSlice.{LinuxSllSlice}
+use Rattle.ep_link.specs.LinuxSll.{linux_sll_header_of, linux_sll_parts}
 
 -- the bytes of header and payload
 abbrev pub linux_sll_slice_bytes : LinuxSllSlice → List ℕ
-linux_sll_slice_bytes slice = slice.slice.now
+linux_sll_slice_bytes slice = slice.bytes.slice.now
 
 -- its header
 abbrev pub linux_sll_slice_header : LinuxSllSlice → LinuxSllHeader
@@ -15,3 +16,7 @@ linux_sll_slice_header slice = linux_sll_header_of (linux_sll_slice_bytes slice)
 -- the bytes after its header
 abbrev pub linux_sll_slice_payload : LinuxSllSlice → List ℕ
 linux_sll_slice_payload slice = drop 16 (linux_sll_slice_bytes slice)
+
+-- both, and what stands behind the packet
+abbrev pub linux_sll_slice_parts : LinuxSllSlice → List ℕ → Parts LinuxSllHeader
+linux_sll_slice_parts slice left = linux_sll_parts (linux_sll_slice_bytes slice) left

@@ -1,8 +1,9 @@
 -- MACsec (IEEE 802.1AE, 9).
-use Rattle.std.specs.Prelude.{◌≡◌, ℕ, zero, suc, ◌+◌, ◌-◌, ◌*◌, ◌/◌, ◌%◌, ◌^◌, ◌<◌, ◌≤◌, ◌⊎◌, ◌==◌, ⊤, List, [], ◌∷◌, ◌++◌, length, Option, Some, None, slice_index, slice_range}
+use Rattle.std.specs.Prelude.{◌≡◌, ℕ, zero, suc, ◌+◌, ◌-◌, ◌*◌, ◌/◌, ◌%◌, ◌^◌, ◌<◌, ◌⊎◌, ◌==◌, ◌&&◌, nat_lt, nat_le, if◌then◌else◌, Bool, ⊤, List, [], ◌∷◌, ◌++◌, length, Option, Some, None, slice_index, slice_range}
 use Rattle.std.specs.Int.{w16, w32, w64, to_be_bytes, from_be_bytes}
 use Rattle.ep_base.specs.Bytes.{word_at, bit}
 use Rattle.ep_base.specs.Layer.{len_error}
+use Rattle.ep_base.specs.Tables.{Parts, Refuses}
 use Rattle.ep_base.specs.declared.ether_type.EtherType.{EtherType}
 use Rattle.ep_base.specs.declared.len_source.LenSource.{LenSource}
 use Rattle.ep_base.specs.declared.len_source.LenSource.TheVariants as source
@@ -10,9 +11,9 @@ use Rattle.ep_base.specs.declared.err.layer.Layer.TheVariants as layer
 use Rattle.ep_base.specs.declared.err.macsec.HeaderError.TheVariants as content
 use Rattle.ep_base.specs.declared.err.macsec.HeaderSliceError.{HeaderSliceError}
 use Rattle.ep_base.specs.declared.err.macsec.HeaderSliceError.TheVariants as header_error
-use Rattle.ep_link.specs.declared.macsec_ptype.MacsecPType.{MacsecPType}
-use Rattle.ep_link.specs.declared.macsec_ptype.MacsecPType.TheVariants as ptype
-use Rattle.ep_link.specs.declared.macsec_header.MacsecHeader.{MacsecHeader}
+use Rattle.ep_link.specs.declared.link_ext.macsec_ptype.MacsecPType.{MacsecPType}
+use Rattle.ep_link.specs.declared.link_ext.macsec_ptype.MacsecPType.TheVariants as ptype
+use Rattle.ep_link.specs.declared.link_ext.macsec_header.MacsecHeader.{MacsecHeader}
 
 -- ---- the bytes of a tag
 
@@ -106,19 +107,25 @@ pub record EncodesMacsec (bytes : List ℕ) (header : MacsecHeader) : Type 0 whe
   pub same : bytes ≡ macsec_bytes_with reserved header
 
 -- the bytes are a tag, and then the rest
-pub record IsMacsecHeader (bytes : List ℕ) (header : MacsecHeader) (rest : List ℕ) : Type 0 where
+pub record IsMacsecHeader (bytes : List ℕ) (read : MacsecHeader × List ℕ) : Type 0 where
   pub encoded : List ℕ
-  pub encodes : EncodesMacsec encoded header
-  pub parts : bytes ≡ encoded ++ rest
+  pub encodes : EncodesMacsec encoded read.0
+  pub parts : bytes ≡ encoded ++ read.1
 
--- The bytes are a tag, its payload, and what its short length leaves behind it. The short length counts what follows the
--- tag proper: the type, where it can be read, and the payload. The number 0 leaves nothing.
-pub record IsMacsec (bytes : List ℕ) (header : MacsecHeader) (payload left : List ℕ) : Type 0 where
+-- How the short length of a tag cuts what is behind the tag: it counts what follows the tag proper, that is the type,
+-- where it can be read, and the payload. The number 0 leaves nothing.
+abbrev pub IsMacsecCut : Parts MacsecHeader → Type 0
+IsMacsecCut packet =
+    let short_len = packet.header.short_len in
+    ((0 < short_len) × (short_len ≡ ptype_len packet.header.ptype + length packet.payload))
+    ⊎ ((short_len ≡ 0) × (packet.left ≡ []))
+
+-- the bytes are a tag, its payload, and what its short length leaves behind it
+pub record IsMacsec (bytes : List ℕ) (packet : Parts MacsecHeader) : Type 0 where
   pub encoded : List ℕ
-  pub encodes : EncodesMacsec encoded header
-  pub parts : bytes ≡ (encoded ++ payload) ++ left
-  pub cut : ((0 < header.short_len) × (header.short_len ≡ ptype_len header.ptype + length payload))
-      ⊎ ((header.short_len ≡ 0) × (left ≡ []))
+  pub encodes : EncodesMacsec encoded packet.header
+  pub parts : bytes ≡ (encoded ++ packet.payload) ++ packet.left
+  pub cut : IsMacsecCut packet
 
 -- ---- what is read from bytes
 
@@ -151,27 +158,36 @@ payload_len_of bytes = short_len_of bytes - type_len_by (modification_of bytes)
 abbrev pub HasNoRoomForType : List ℕ → Type 0
 HasNoRoomForType bytes = (modification_of bytes ≡ 0) × (short_len_of bytes ≡ 1)
 
--- the bytes begin with a whole tag
-pub record BeginsMacsec (bytes : List ℕ) : Type 0 where
-  pub fixed : 6 ≤ length bytes
-  pub version : slice_index bytes 0 < 128
-  pub room : ¬ HasNoRoomForType bytes
-  pub whole : tag_len_of bytes ≤ length bytes
+-- the number of bytes of the packet, which is that of all bytes where the short length is 0
+abbrev pub macsec_len_of : List ℕ → ℕ
+macsec_len_of bytes = if short_len_of bytes == 0 then length bytes else tag_len_of bytes + payload_len_of bytes
+
+-- when bytes begin with no tag
+abbrev pub macsec_header_rows : List ℕ → List (Bool × HeaderSliceError)
+macsec_header_rows bytes =
+    let len = length bytes in
+    let tag_len = tag_len_of bytes in
+    (nat_lt len 6, header_error.Len (len_error 6 len source.Slice layer.MacsecHeader))
+    ∷ (nat_le 128 (slice_index bytes 0), header_error.Content content.UnexpectedVersion)
+    ∷ (modification_of bytes == 0 && short_len_of bytes == 1, header_error.Content content.InvalidUnmodifiedShortLen)
+    ∷ (nat_lt len tag_len, header_error.Len (len_error tag_len len source.Slice layer.MacsecHeader))
+    ∷ []
 
 -- why bytes begin with no tag
 abbrev pub RefusesMacsecHeader : List ℕ → HeaderSliceError → Type 0
-RefusesMacsecHeader bytes error =
-    ((length bytes < 6) × (error ≡ header_error.Len (len_error 6 (length bytes) source.Slice layer.MacsecHeader)))
-    ⊎ ((6 ≤ length bytes) × (128 ≤ slice_index bytes 0) × (error ≡ header_error.Content content.UnexpectedVersion))
-    ⊎ ((6 ≤ length bytes) × (slice_index bytes 0 < 128) × HasNoRoomForType bytes × (error ≡ header_error.Content content.InvalidUnmodifiedShortLen))
-    ⊎ ((6 ≤ length bytes) × (slice_index bytes 0 < 128) × (¬ HasNoRoomForType bytes) × (length bytes < tag_len_of bytes) × (error ≡ header_error.Len (len_error (tag_len_of bytes) (length bytes) source.Slice layer.MacsecHeader)))
+RefusesMacsecHeader bytes = Refuses (macsec_header_rows bytes)
 
--- why bytes begin with no tag and the payload that its short length demands
+-- when bytes begin with no packet: with no tag, or without the payload that its short length demands
+abbrev pub macsec_rows : List ℕ → List (Bool × HeaderSliceError)
+macsec_rows bytes =
+    let len = length bytes in
+    let packet_len = macsec_len_of bytes in
+    macsec_header_rows bytes
+    ++ (nat_lt len packet_len, header_error.Len (len_error packet_len len source.Slice layer.MacsecPacket)) ∷ []
+
+-- why bytes begin with no packet
 abbrev pub RefusesMacsec : List ℕ → HeaderSliceError → Type 0
-RefusesMacsec bytes error =
-    RefusesMacsecHeader bytes error
-    ⊎ (BeginsMacsec bytes × (0 < short_len_of bytes) × (length bytes < tag_len_of bytes + payload_len_of bytes)
-    × (error ≡ header_error.Len (len_error (tag_len_of bytes + payload_len_of bytes) (length bytes) source.Slice layer.MacsecPacket)))
+RefusesMacsec bytes = Refuses (macsec_rows bytes)
 
 -- what such flags say of the payload, whose type is this where it can be read
 abbrev pub ptype_by : ℕ → ℕ → MacsecPType
@@ -199,8 +215,8 @@ macsec_header_of bytes = record {
 
 -- ---- the payload
 
--- The payload of a tag, as plain data: as it was sent, with its type and what set its end; or modified, so that its type
--- can't be read.
+-- The payload of a tag, as plain data: as it was sent, with its type and what set its end; or modified, so that its
+-- type can't be read.
 pub data MacsecPayload : Type 0 where
   unmodified : EtherType → LenSource → List ℕ → MacsecPayload
   modified : List ℕ → MacsecPayload

@@ -1,15 +1,16 @@
 -- What slices of MACsec show.
-use Rattle.std.specs.Prelude.{ℕ, List}
-use Rattle.ep_link.specs.declared.macsec_header.MacsecHeader.{MacsecHeader}
-use Rattle.ep_link.specs.declared.macsec_header_slice.MacsecHeaderSlice.{MacsecHeaderSlice}
-use Rattle.ep_link.specs.declared.macsec_payload_slice.MacsecPayloadSlice.{MacsecPayloadSlice}
-use Rattle.ep_link.specs.declared.macsec_payload_slice.MacsecPayloadSlice.TheVariants as slice
-use Rattle.ep_link.specs.declared.macsec_slice.MacsecSlice.{MacsecSlice}
-use Rattle.ep_link.specs.Macsec.{macsec_header_of, MacsecPayload, unmodified, modified, macsec_payload_bytes}
+use Rattle.std.specs.Prelude.{ℕ, List, ◌++◌}
+use Rattle.ep_base.specs.Tables.{Parts, parts_of}
+use Rattle.ep_link.specs.declared.link_ext.macsec_header.MacsecHeader.{MacsecHeader}
+use Rattle.ep_link.specs.declared.link_ext.macsec_header_slice.MacsecHeaderSlice.{MacsecHeaderSlice}
+use Rattle.ep_link.specs.declared.link_ext.macsec_payload_slice.MacsecPayloadSlice.{MacsecPayloadSlice}
+use Rattle.ep_link.specs.declared.link_ext.macsec_payload_slice.MacsecPayloadSlice.TheVariants as slice
+use Rattle.ep_link.specs.declared.link_ext.macsec_slice.MacsecSlice.{MacsecSlice}
+use Rattle.ep_link.specs.Macsec.{macsec_header_of, macsec_payload_bytes, MacsecPayload, unmodified, modified}
 
 -- the bytes of a tag
 abbrev pub macsec_header_slice_bytes : MacsecHeaderSlice → List ℕ
-macsec_header_slice_bytes slice = slice.slice.now
+macsec_header_slice_bytes slice = slice.tag.slice.now
 
 -- the tag as a value
 abbrev pub macsec_header_slice_header : MacsecHeaderSlice → MacsecHeader
@@ -27,3 +28,12 @@ macsec_slice_header slice = macsec_header_slice_header slice.header
 -- the payload behind a tag
 abbrev pub macsec_slice_payload : MacsecSlice → MacsecPayload
 macsec_slice_payload slice = macsec_payload_of slice.payload
+
+-- the bytes of tag and payload, of a modified one too
+abbrev pub macsec_slice_bytes : MacsecSlice → List ℕ
+macsec_slice_bytes slice = macsec_header_slice_bytes slice.header ++ macsec_payload_bytes (macsec_slice_payload slice)
+
+-- tag, payload, and what the cut left
+abbrev pub macsec_slice_parts : MacsecSlice → List ℕ → Parts MacsecHeader
+macsec_slice_parts slice left =
+    parts_of (macsec_slice_header slice) (macsec_payload_bytes (macsec_slice_payload slice)) left

@@ -1,18 +1,19 @@
 -- What slices of VLAN tags show.
 use Rattle.std.specs.Prelude.{ℕ, List, drop}
-use Rattle.ep_link.specs.declared.single_vlan_header.SingleVlanHeader.{SingleVlanHeader}
-use Rattle.ep_link.specs.declared.double_vlan_header.DoubleVlanHeader.{DoubleVlanHeader}
-use Rattle.ep_link.specs.declared.vlan_header.VlanHeader.{VlanHeader}
-use Rattle.ep_link.specs.declared.vlan_header.VlanHeader.TheVariants as tags
-use Rattle.ep_link.specs.declared.single_vlan_slice.SingleVlanSlice.{SingleVlanSlice}
-use Rattle.ep_link.specs.declared.double_vlan_slice.DoubleVlanSlice.{DoubleVlanSlice}
-use Rattle.ep_link.specs.declared.vlan_slice.VlanSlice.{VlanSlice}
-use Rattle.ep_link.specs.declared.vlan_slice.VlanSlice.TheVariants as slice
-use Rattle.ep_link.specs.Vlan.{vlan_header_of}
+use Rattle.ep_base.specs.Tables.{Parts}
+use Rattle.ep_link.specs.declared.link_ext.single_vlan_header.SingleVlanHeader.{SingleVlanHeader}
+use Rattle.ep_link.specs.declared.link_ext.double_vlan_header.DoubleVlanHeader.{DoubleVlanHeader}
+use Rattle.ep_link.specs.declared.link_ext.vlan_header.VlanHeader.{VlanHeader}
+use Rattle.ep_link.specs.declared.link_ext.vlan_header.VlanHeader.TheVariants as tags
+use Rattle.ep_link.specs.declared.link_ext.single_vlan_slice.SingleVlanSlice.{SingleVlanSlice}
+use Rattle.ep_link.specs.declared.link_ext.double_vlan_slice.DoubleVlanSlice.{DoubleVlanSlice}
+use Rattle.ep_link.specs.declared.link_ext.vlan_slice.VlanSlice.{VlanSlice}
+use Rattle.ep_link.specs.declared.link_ext.vlan_slice.VlanSlice.TheVariants as slice
+use Rattle.ep_link.specs.Vlan.{vlan_header_of, vlan_parts}
 
 -- the bytes of tag and payload
 abbrev pub vlan_slice_bytes : SingleVlanSlice → List ℕ
-vlan_slice_bytes slice = slice.slice.now
+vlan_slice_bytes slice = slice.bytes.slice.now
 
 -- its tag
 abbrev pub vlan_slice_header : SingleVlanSlice → SingleVlanHeader
@@ -21,6 +22,10 @@ vlan_slice_header slice = vlan_header_of (vlan_slice_bytes slice)
 -- the bytes after its tag
 abbrev pub vlan_slice_payload : SingleVlanSlice → List ℕ
 vlan_slice_payload slice = drop 4 (vlan_slice_bytes slice)
+
+-- both, and what the cut left
+abbrev pub vlan_slice_parts : SingleVlanSlice → List ℕ → Parts SingleVlanHeader
+vlan_slice_parts slice left = vlan_parts (vlan_slice_bytes slice) left
 
 -- two tags
 abbrev pub double_vlan_slice_header : DoubleVlanSlice → DoubleVlanHeader

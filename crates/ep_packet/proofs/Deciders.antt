@@ -1,21 +1,41 @@
 -- What is known of each layer: bytes are one, or are refused with one error.
-use Rattle.std.proofs.Common.{◌≡◌, ℕ, List, []}
+use Rattle.std.proofs.Common.{◌≡◌, ◌⊎◌, ℕ, Bool, List, ◌++◌, Option}
 use Rattle.ep_base.specs.Bytes.{AreBytes}
-use Rattle.ep_base.specs.Layer.{IsDecided}
+use Rattle.ep_base.specs.Layer.{Reading}
+use Rattle.ep_base.specs.Tables.{IsDecided}
+use Rattle.ep_base.specs.declared.ether_type.EtherType.{EtherType}
 use Rattle.ep_link.specs.Arp.{IsArp, RefusesArp}
 use Rattle.ep_link.specs.Ethernet2.{IsEthernet2, RefusesEthernet2}
+use Rattle.ep_base.specs.declared.err.macsec.HeaderSliceError.{HeaderSliceError as ExtensionError}
+use Rattle.ep_link.specs.LinkExtensions.{LinkExtension, BeginsLinkExtension, EncodesTag, IsLinkExtension, RefusesLinkExtension, extension_payload}
 use Rattle.ep_link.specs.LinuxSll.{IsLinuxSll, RefusesLinuxSll}
-use Rattle.ep_link.specs.Macsec.{IsMacsec, RefusesMacsec}
-use Rattle.ep_link.specs.Vlan.{IsVlan, RefusesVlan}
 use Rattle.ep_ip.specs.Ipv4.{IsIpv4, RefusesIpv4}
-use Rattle.ep_transport.specs.Udp.{IsUdp, RefusesUdp}
+use Rattle.ep_transport.specs.TransportParts.{TransportLayer, AreTransport, IsTransportPart, RefusesTransportPart}
 
--- the laws of the layers
+-- a link extension and what its cut leaves
+abbrev pub ExtensionPart : Type 0
+ExtensionPart = LinkExtension × List ℕ
+
+-- the laws of the link extensions
+pub record ExtensionLaws : Type 0 where
+  pub cases : (type : EtherType) → BeginsLinkExtension type ⊎ (¬ BeginsLinkExtension type)
+  pub decided : (type : EtherType) (bytes : List ℕ) → AreBytes bytes → BeginsLinkExtension type
+      → IsDecided (IsLinkExtension type bytes) (RefusesLinkExtension type bytes)
+  pub begins : (type : EtherType) (bytes : List ℕ) (part : ExtensionPart)
+      → IsLinkExtension type bytes part → BeginsLinkExtension type
+  pub refused : (type : EtherType) (bytes : List ℕ) (error : ExtensionError)
+      → RefusesLinkExtension type bytes error → BeginsLinkExtension type
+  pub bytes : (type : EtherType) (bytes : List ℕ) (part : ExtensionPart) → IsLinkExtension type bytes part
+      → (tag : List ℕ) × EncodesTag part.0 tag × (bytes ≡ (tag ++ extension_payload part.0) ++ part.1)
+
+-- the laws of all layers
 pub record Deciders : Type 0 where
-  pub ethernet2 : (bytes : List ℕ) → AreBytes bytes → IsDecided IsEthernet2 RefusesEthernet2 bytes
-  pub linux_sll : (bytes : List ℕ) → AreBytes bytes → IsDecided IsLinuxSll RefusesLinuxSll bytes
-  pub vlan : (bytes : List ℕ) → AreBytes bytes → IsDecided IsVlan RefusesVlan bytes
-  pub macsec : (bytes : List ℕ) → AreBytes bytes → IsDecided IsMacsec RefusesMacsec bytes
-  pub arp : (bytes : List ℕ) → AreBytes bytes → IsDecided (λ bytes packet payload left. IsArp bytes packet left × (payload ≡ [])) RefusesArp bytes
-  pub ipv4 : (bytes : List ℕ) → AreBytes bytes → IsDecided IsIpv4 RefusesIpv4 bytes
-  pub udp : (bytes : List ℕ) → AreBytes bytes → IsDecided IsUdp RefusesUdp bytes
+  pub ethernet2 : (bytes : List ℕ) → AreBytes bytes → IsDecided (IsEthernet2 bytes) (RefusesEthernet2 bytes)
+  pub linux_sll : (bytes : List ℕ) → AreBytes bytes → IsDecided (IsLinuxSll bytes) (RefusesLinuxSll bytes)
+  pub extension : ExtensionLaws
+  pub arp : (bytes : List ℕ) → AreBytes bytes → IsDecided (IsArp bytes) (RefusesArp bytes)
+  pub ipv4 : (bytes : List ℕ) → AreBytes bytes → IsDecided (IsIpv4 bytes) (RefusesIpv4 bytes)
+  pub transport : (reading : Reading) (number : ℕ) (fragmented : Bool) (bytes : List ℕ) → AreBytes bytes
+      → IsDecided (IsTransportPart reading number fragmented bytes) (RefusesTransportPart reading number fragmented bytes)
+  pub transport_bytes : (reading : Reading) (number : ℕ) (fragmented : Bool) (bytes : List ℕ)
+      (part : Option TransportLayer) → IsTransportPart reading number fragmented bytes part → AreTransport bytes part

@@ -1,45 +1,27 @@
 -- That a frame's bytes are its headers, its payload, and what the cuts left.
 use Rattle.std.proofs.Common.{◌≡◌, ℕ, zero, suc, List, [], ◌∷◌, ◌++◌, Option, Some, None, refl, sym, ap, subst, ◌∙◌, append_assoc}
 use Rattle.std.proofs.lemmas.List.{append-nil}
+use Rattle.ep_base.specs.Layer.{Reading}
 use Rattle.ep_base.specs.declared.ether_type.EtherType.{EtherType}
 use Rattle.ep_base.specs.declared.len_source.LenSource.TheVariants as source
 use Rattle.ep_link.specs.Arp.{arp_bytes}
 use Rattle.ep_link.specs.Ethernet2.{ethernet2_bytes}
-use Rattle.ep_link.specs.LinkExtensions.{LinkExtension, vlan, macsec, IsLinkExtension, extension_type, extension_payload}
+use Rattle.ep_link.specs.LinkExtensions.{LinkExtension, EncodesTag, extension_type, extension_payload}
 use Rattle.ep_link.specs.LinkSlices.{LinkLayer, ethernet2, linux_sll as sll, ether_payload}
 use Rattle.ep_link.specs.LinuxSll.{linux_sll_bytes, protocol_ether_type}
-use Rattle.ep_link.specs.Vlan.{vlan_bytes}
 use Rattle.ep_ip.specs.declared.ipv4_header.Ipv4Header.{Ipv4Header}
-use Rattle.ep_ip.specs.IpPayload.{IpPayload}
+use Rattle.ep_base.specs.IpPayload.{IpPayload}
 use Rattle.ep_ip.specs.Ipv4.{EncodesIpv4}
-use Rattle.ep_transport.specs.Udp.{udp_bytes}
-use Rattle.ep_transport.specs.TransportSlices.{TransportLayer, udp}
+use Rattle.ep_transport.specs.TransportParts.{TransportLayer, EncodesTransport, AreTransport}
+use Rattle.ep_packet.proofs.Deciders.{Deciders}
 use Rattle.ep_packet.specs.Layers.{Entry, ethernet, linux_sll, ether_type, NetLayer, ipv4, arp, Layers}
-use Rattle.ep_packet.specs.Frame.{IsTransportPart, IsNetPart, IsInside, most_link_exts, IsFrame}
-use Rattle.ep_packet.specs.FrameBytes.{EncodesLink, EncodesTag, EncodesTags, EncodesNet, EncodesTransport, link_payload, payload_behind, inner_payload, AreInOrder}
+use Rattle.ep_packet.specs.Frame.{IsNetPart, IsInside, most_link_exts, IsFrameIn}
+use Rattle.ep_packet.specs.FrameBytes.{EncodesLink, EncodesTags, EncodesNet, link_payload, payload_behind, inner_payload, AreInOrder}
 
 -- a header, a payload and what is left, grouped from the back
-regroup : (bytes header payload left : List ℕ) → bytes ≡ (header ++ payload) ++ left → bytes ≡ header ++ (payload ++ left)
+regroup : (bytes header payload left : List ℕ) → bytes ≡ (header ++ payload) ++ left
+    → bytes ≡ header ++ (payload ++ left)
 regroup bytes header payload left parts = parts ∙ append_assoc header payload left
-
--- ---- the transport layer
-
--- the bytes of a transport layer, in the bytes of an IP payload
-record TransportBytes (bytes : List ℕ) (transport : Option TransportLayer) : Type 0 where
-  header : List ℕ
-  left : List ℕ
-  encodes : EncodesTransport transport header
-  parts : bytes ≡ header ++ (inner_payload bytes None transport ++ left)
-
--- an IP payload begins with its transport layer's header, where it has one
-transport_bytes : (ip : IpPayload) (transport : Option TransportLayer) → IsTransportPart ip transport → TransportBytes ip.bytes transport
-transport_bytes ip None part = record { header = []; left = []; encodes = refl; parts = sym (append-nil ip.bytes) }
-transport_bytes ip (Some (udp header payload)) part = record {
-  header = udp_bytes header;
-  left = part.1.0;
-  encodes = (part.1.1.fits, refl);
-  parts = regroup ip.bytes (udp_bytes header) payload part.1.0 part.1.1.parts;
-}
 
 -- ---- the net layer
 
@@ -63,15 +45,10 @@ no_net_bytes bytes = record {
   parts = sym (append-nil bytes);
 }
 
--- the payload in an IPv4 packet is that of its transport layer, where it has one
-ipv4_inner : (bytes : List ℕ) (header : Ipv4Header) (ip : IpPayload) (transport : Option TransportLayer)
-    → inner_payload ip.bytes None transport ≡ inner_payload bytes (Some (ipv4 header ip)) transport
-ipv4_inner bytes header ip None = refl
-ipv4_inner bytes header ip (Some (udp tag payload)) = refl
-
 -- the bytes of an IPv4 packet, from those of its payload
-ipv4_bytes : (bytes encoded left : List ℕ) (header : Ipv4Header) (ip : IpPayload) (transport : Option TransportLayer) → EncodesIpv4 encoded header
-    → bytes ≡ (encoded ++ ip.bytes) ++ left → TransportBytes ip.bytes transport → NetBytes bytes (Some (ipv4 header ip)) transport
+ipv4_bytes : (bytes encoded left : List ℕ) (header : Ipv4Header) (ip : IpPayload) (transport : Option TransportLayer)
+    → EncodesIpv4 encoded header → bytes ≡ (encoded ++ ip.bytes) ++ left → AreTransport ip.bytes transport
+    → NetBytes bytes (Some (ipv4 header ip)) transport
 ipv4_bytes bytes encoded left header ip transport encodes parts inside = record {
   net_header = encoded;
   transport_header = inside.header;
@@ -80,29 +57,34 @@ ipv4_bytes bytes encoded left header ip transport encodes parts inside = record 
   transport_encodes = inside.encodes;
   parts = regroup bytes encoded ip.bytes left parts
       ∙ ap (λ (x : List ℕ). encoded ++ (x ++ left)) inside.parts
-      ∙ ap (λ (x : List ℕ). encoded ++ x) (simp append_assoc)
-      ∙ ap (λ (x : List ℕ). encoded ++ (inside.header ++ (x ++ (inside.left ++ left)))) (ipv4_inner bytes header ip transport);
+      ∙ ap (λ (x : List ℕ). encoded ++ x) (simp append_assoc);
 }
 
 -- bytes of a type begin with their net layer's header, where they have one
-net_bytes : (type : EtherType) (bytes : List ℕ) (net : Option NetLayer) (transport : Option TransportLayer) → IsNetPart type bytes net transport → NetBytes bytes net transport
-net_bytes type bytes None transport part = subst (NetBytes bytes None) (sym part.1) (no_net_bytes bytes)
-net_bytes type bytes (Some (ipv4 header ip)) transport part =
+net_bytes : Deciders → (reading : Reading) (type : EtherType) (bytes : List ℕ)
+    (net : Option NetLayer) (transport : Option TransportLayer)
+    → IsNetPart reading type bytes net transport → NetBytes bytes net transport
+net_bytes deciders reading type bytes None transport part =
+    subst (NetBytes bytes None) (sym part.1) (no_net_bytes bytes)
+net_bytes deciders reading type bytes (Some (ipv4 header ip)) transport part =
     let whole = part.1.1 in
-    ipv4_bytes bytes whole.encoded part.1.0 header ip transport whole.encodes whole.parts (transport_bytes ip transport part.3)
-net_bytes type bytes (Some (arp packet)) transport part = subst (NetBytes bytes (Some (arp packet))) (sym part.2) (record {
-  net_header = arp_bytes packet;
-  transport_header = [];
-  left = part.1.0;
-  net_encodes = (part.1.1.fits, refl);
-  transport_encodes = refl;
-  parts = part.1.1.parts;
-})
+    ipv4_bytes bytes whole.encoded part.1.0 header ip transport whole.encodes whole.parts
+    (deciders.transport_bytes reading ip.number ip.fragmented ip.bytes transport part.3)
+net_bytes deciders reading type bytes (Some (arp packet)) transport part =
+    subst (NetBytes bytes (Some (arp packet))) (sym part.2) (record {
+      net_header = arp_bytes packet;
+      transport_header = [];
+      left = part.1.0;
+      net_encodes = (part.1.1.fits, refl);
+      transport_encodes = refl;
+      parts = part.1.1.parts;
+    })
 
 -- ---- the link extensions
 
 -- the bytes of link extensions, of the net layer and of the transport layer
-record InsideBytes (bytes : List ℕ) (extensions : List LinkExtension) (net : Option NetLayer) (transport : Option TransportLayer) : Type 0 where
+record InsideBytes (bytes : List ℕ) (extensions : List LinkExtension)
+    (net : Option NetLayer) (transport : Option TransportLayer) : Type 0 where
   tags : List ℕ
   net_header : List ℕ
   transport_header : List ℕ
@@ -113,7 +95,8 @@ record InsideBytes (bytes : List ℕ) (extensions : List LinkExtension) (net : O
   parts : bytes ≡ tags ++ (net_header ++ (transport_header ++ (inner_payload (payload_behind bytes extensions) net transport ++ left)))
 
 -- a net layer before which no extensions stand
-bare_bytes : (bytes : List ℕ) (net : Option NetLayer) (transport : Option TransportLayer) → NetBytes bytes net transport → InsideBytes bytes [] net transport
+bare_bytes : (bytes : List ℕ) (net : Option NetLayer) (transport : Option TransportLayer)
+    → NetBytes bytes net transport → InsideBytes bytes [] net transport
 bare_bytes bytes net transport inside = record {
   tags = [];
   net_header = inside.net_header;
@@ -125,53 +108,49 @@ bare_bytes bytes net transport inside = record {
   parts = inside.parts;
 }
 
--- the bytes of a tag before its payload
-record TagBytes (bytes : List ℕ) (extension : LinkExtension) : Type 0 where
-  tag : List ℕ
-  left : List ℕ
-  encodes : EncodesTag extension tag
-  parts : bytes ≡ (tag ++ extension_payload extension) ++ left
-
--- an extension begins with its tag
-tag_bytes : (type : EtherType) (bytes : List ℕ) (extension : LinkExtension) (left : List ℕ) → IsLinkExtension type bytes extension left → TagBytes bytes extension
-tag_bytes type bytes (vlan header payload) left is = record { tag = vlan_bytes header; left = left; encodes = (is.1.fits, refl); parts = is.1.parts }
-tag_bytes type bytes (macsec header payload) left is = record { tag = is.1.encoded; left = left; encodes = is.1.encodes; parts = is.1.parts }
-
 -- the tag before what its payload holds
-tagged_bytes : (bytes : List ℕ) (extension : LinkExtension) (others : List LinkExtension) (net : Option NetLayer) (transport : Option TransportLayer) → TagBytes bytes extension
-    → InsideBytes (extension_payload extension) others net transport → InsideBytes bytes (extension ∷ others) net transport
-tagged_bytes bytes extension others net transport front inside = record {
-  tags = front.tag ++ inside.tags;
+tagged_bytes : (bytes tag left : List ℕ) (extension : LinkExtension) (others : List LinkExtension)
+    (net : Option NetLayer) (transport : Option TransportLayer) → EncodesTag extension tag
+    → bytes ≡ (tag ++ extension_payload extension) ++ left
+    → InsideBytes (extension_payload extension) others net transport
+    → InsideBytes bytes (extension ∷ others) net transport
+tagged_bytes bytes tag left extension others net transport encodes parts inside = record {
+  tags = tag ++ inside.tags;
   net_header = inside.net_header;
   transport_header = inside.transport_header;
-  left = inside.left ++ front.left;
-  tags_encode = (front.tag, inside.tags, front.encodes, inside.tags_encode, refl);
+  left = inside.left ++ left;
+  tags_encode = (tag, inside.tags, encodes, inside.tags_encode, refl);
   net_encodes = inside.net_encodes;
   transport_encodes = inside.transport_encodes;
-  parts = regroup bytes front.tag (extension_payload extension) front.left front.parts
-      ∙ ap (λ (x : List ℕ). front.tag ++ (x ++ front.left)) inside.parts
+  parts = regroup bytes tag (extension_payload extension) left parts
+      ∙ ap (λ (x : List ℕ). tag ++ (x ++ left)) inside.parts
       ∙ simp append_assoc;
 }
 
 -- the bytes of what bytes of a type hold
-inside_bytes : (room : ℕ) (type : Option EtherType) (bytes : List ℕ) (extensions : List LinkExtension) (net : Option NetLayer) (transport : Option TransportLayer)
-    → IsInside room type bytes extensions net transport → InsideBytes bytes extensions net transport
-inside_bytes room None bytes extensions net transport part =
+inside_bytes : Deciders → (reading : Reading) (room : ℕ) (type : Option EtherType) (bytes : List ℕ)
+    (extensions : List LinkExtension) (net : Option NetLayer) (transport : Option TransportLayer)
+    → IsInside reading room type bytes extensions net transport → InsideBytes bytes extensions net transport
+inside_bytes deciders reading room None bytes extensions net transport part =
     subst (λ (x : List LinkExtension). InsideBytes bytes x net transport) (sym part.0)
     (subst (λ (x : Option NetLayer). InsideBytes bytes [] x transport) (sym part.1)
     (subst (InsideBytes bytes [] None) (sym part.2) (bare_bytes bytes None None (no_net_bytes bytes))))
-inside_bytes zero (Some type) bytes [] net transport part = bare_bytes bytes net transport (net_bytes type bytes net transport part)
-inside_bytes zero (Some type) bytes (extension ∷ others) net transport part = absurd part
-inside_bytes (suc room) (Some type) bytes [] net transport part = bare_bytes bytes net transport (net_bytes type bytes net transport part.1)
-inside_bytes (suc room) (Some type) bytes (extension ∷ others) net transport part =
-    tagged_bytes bytes extension others net transport (tag_bytes type bytes extension part.0.0 part.0.1)
-    (inside_bytes room (extension_type extension) (extension_payload extension) others net transport part.1)
+inside_bytes deciders reading zero (Some type) bytes [] net transport part =
+    bare_bytes bytes net transport (net_bytes deciders reading type bytes net transport part)
+inside_bytes deciders reading zero (Some type) bytes (extension ∷ others) net transport part = absurd part
+inside_bytes deciders reading (suc room) (Some type) bytes [] net transport part =
+    bare_bytes bytes net transport (net_bytes deciders reading type bytes net transport part.1)
+inside_bytes deciders reading (suc room) (Some type) bytes (extension ∷ others) net transport part =
+    let front = deciders.extension.bytes type bytes (extension, part.0.0) part.0.1 in
+    tagged_bytes bytes front.0 part.0.0 extension others net transport front.1 front.2
+    (inside_bytes deciders reading room (extension_type extension) (extension_payload extension) others net transport part.1)
 
 -- ---- the frame
 
 -- the bytes of a link header and of what its payload holds
-frame_bytes : (bytes header left : List ℕ) (link : LinkLayer) (layers : Layers) → EncodesLink (Some link) header → bytes ≡ (header ++ link_payload (Some link)) ++ left
-    → layers.link ≡ Some link → InsideBytes (link_payload (Some link)) layers.link_exts layers.net layers.transport → AreInOrder bytes layers
+frame_bytes : (bytes header left : List ℕ) (link : LinkLayer) (layers : Layers) → EncodesLink (Some link) header
+    → bytes ≡ (header ++ link_payload (Some link)) ++ left → layers.link ≡ Some link
+    → InsideBytes (link_payload (Some link)) layers.link_exts layers.net layers.transport → AreInOrder bytes layers
 frame_bytes bytes header left link layers encodes parts same inside = record {
   link = header;
   tags = inside.tags;
@@ -186,17 +165,23 @@ frame_bytes bytes header left link layers encodes parts same inside = record {
       ∙ ap (λ (x : List ℕ). header ++ (x ++ left)) inside.parts
       ∙ ap (λ (x : List ℕ). header ++ x) (simp append_assoc)
       ∙ ap (λ (x : Option LinkLayer). header ++ (inside.tags ++ (inside.net_header ++ (inside.transport_header
-      ++ (inner_payload (payload_behind (link_payload x) layers.link_exts) layers.net layers.transport ++ (inside.left ++ left)))))) (sym same);
+      ++ (inner_payload (payload_behind (link_payload x) layers.link_exts) layers.net layers.transport
+      ++ (inside.left ++ left)))))) (sym same);
 }
 
 -- a frame's bytes are its headers from the outside in, the last payload, and what the cuts left
-pub frame_in_order : (entry : Entry) (bytes : List ℕ) (layers : Layers) → IsFrame entry bytes layers → AreInOrder bytes layers
-frame_in_order ethernet bytes layers frame =
-    frame_bytes bytes (ethernet2_bytes frame.0) frame.2 (ethernet2 frame.0 frame.1) layers (frame.3.fits, refl) frame.3.parts frame.4
-    (inside_bytes most_link_exts (Some frame.0.ether_type) frame.1 layers.link_exts layers.net layers.transport frame.5)
-frame_in_order linux_sll bytes layers frame =
-    frame_bytes bytes (linux_sll_bytes frame.0) frame.2 (sll frame.0 frame.1) layers (frame.3.fits, refl) frame.3.parts frame.4
-    (inside_bytes most_link_exts (protocol_ether_type frame.0.protocol_type) frame.1 layers.link_exts layers.net layers.transport frame.5)
-frame_in_order (ether_type type) bytes layers frame =
-    frame_bytes bytes [] [] (ether_payload type source.Slice bytes) layers refl (sym (append-nil bytes)) frame.0
-    (inside_bytes most_link_exts (Some type) bytes layers.link_exts layers.net layers.transport frame.1)
+pub frame_in_order : Deciders → (reading : Reading) (entry : Entry) (bytes : List ℕ) (layers : Layers)
+    → IsFrameIn reading entry bytes layers → AreInOrder bytes layers
+frame_in_order deciders reading ethernet bytes layers (frame, is, link, inside) =
+    frame_bytes bytes (ethernet2_bytes frame.header) frame.left (ethernet2 frame.header frame.payload) layers
+    (is.fits, refl) is.parts link
+    (inside_bytes deciders reading most_link_exts (Some frame.header.ether_type) frame.payload
+    layers.link_exts layers.net layers.transport inside)
+frame_in_order deciders reading linux_sll bytes layers (frame, is, link, inside) =
+    frame_bytes bytes (linux_sll_bytes frame.header) frame.left (sll frame.header frame.payload) layers
+    (is.fits, refl) is.parts link
+    (inside_bytes deciders reading most_link_exts (protocol_ether_type frame.header.protocol_type) frame.payload
+    layers.link_exts layers.net layers.transport inside)
+frame_in_order deciders reading (ether_type type) bytes layers (link, inside) =
+    frame_bytes bytes [] [] (ether_payload type source.Slice bytes) layers refl (sym (append-nil bytes)) link
+    (inside_bytes deciders reading most_link_exts (Some type) bytes layers.link_exts layers.net layers.transport inside)

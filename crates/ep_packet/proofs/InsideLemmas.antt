@@ -2,17 +2,18 @@
 -- one error.
 use Rattle.std.proofs.Common.{◌≡◌, ℕ, zero, suc, ◌+◌, List, [], ◌∷◌, Option, Some, None, refl, ap, ◌∙◌, inl, inr}
 use Rattle.ep_base.specs.Bytes.{AreBytes}
+use Rattle.ep_base.specs.Layer.{Reading}
+use Rattle.ep_base.specs.Tables.{IsDecided}
+use Rattle.ep_base.proofs.BytesLemmas.{AreBytes-payload}
+use Rattle.ep_base.proofs.DecidedLemmas.{same_image, refused_as, decided_by, decided_as, IsBoth, RefusesEither, decided_then}
 use Rattle.ep_base.specs.declared.ether_type.EtherType.{EtherType}
-use Rattle.ep_link.specs.LinkExtensions.{LinkExtension, BeginsLinkExtension, extension_header, extension_payload, extension_type, link_ext_header_len}
-use Rattle.ep_transport.specs.TransportSlices.{TransportLayer}
+use Rattle.ep_link.specs.LinkExtensions.{LinkExtension, BeginsLinkExtension, IsLinkExtension, extension_header, extension_payload, extension_type, link_ext_header_len}
+use Rattle.ep_transport.specs.TransportParts.{TransportLayer}
 use Rattle.ep_packet.specs.declared.err.slice_error.SliceError.{SliceError}
-use Rattle.ep_packet.specs.Decided.{IsExactlyOne}
 use Rattle.ep_packet.specs.Layers.{NetLayer}
 use Rattle.ep_packet.specs.Frame.{IsInside}
-use Rattle.ep_packet.specs.Refusals.{RefusesNetPart, RefusesLinkExtension, RefusesInside}
-use Rattle.ep_packet.proofs.DecidedLemmas.{same_image, decided_by, decided_as, IsBoth, RefusesEither, decided_then}
-use Rattle.ep_packet.proofs.Deciders.{Deciders}
-use Rattle.ep_packet.proofs.ExtensionLemmas.{ExtensionPart, IsExtensionPart, cases_begins, extension_begins, extension_decided, extension_payload_fits}
+use Rattle.ep_packet.specs.Refusals.{RefusesNetPart, RefusesExtensionAt, RefusesInside, extension_refusal}
+use Rattle.ep_packet.proofs.Deciders.{Deciders, ExtensionLaws, ExtensionPart}
 use Rattle.ep_packet.proofs.NetLemmas.{NetPart, IsNetPartOf, net_decided}
 
 -- the link extensions, the net layer and the transport layer
@@ -20,8 +21,8 @@ abbrev pub Inside : Type 0
 Inside = List LinkExtension × Option NetLayer × Option TransportLayer
 
 -- bytes of a type hold these
-abbrev pub HoldsInside : ℕ → Option EtherType → List ℕ → Inside → Type 0
-HoldsInside room type bytes inside = IsInside room type bytes inside.0 inside.1 inside.2
+abbrev pub HoldsInside : Reading → ℕ → Option EtherType → List ℕ → Inside → Type 0
+HoldsInside reading room type bytes inside = IsInside reading room type bytes inside.0 inside.1 inside.2
 
 -- a net layer without link extensions before it
 abbrev bare : NetPart → Inside
@@ -36,83 +37,102 @@ abbrev tagged : TagInside → Inside
 tagged layers = (layers.0.0 ∷ layers.1.0, layers.1.1, layers.1.2)
 
 -- the bytes are an extension whose payload holds these
-abbrev IsTagInside : ℕ → EtherType → List ℕ → TagInside → Type 0
-IsTagInside room type bytes = IsBoth
-    (IsExtensionPart type bytes)
-    (λ (part : ExtensionPart). HoldsInside room (extension_type part.0) (extension_payload part.0))
+abbrev IsTagInside : Reading → ℕ → EtherType → List ℕ → TagInside → Type 0
+IsTagInside reading room type bytes = IsBoth
+    (IsLinkExtension type bytes)
+    (λ (part : ExtensionPart). HoldsInside reading room (extension_type part.0) (extension_payload part.0))
+
+-- how far behind the start the payload of an extension lies
+abbrev behind : ℕ → ExtensionPart → ℕ
+behind offset part = offset + link_ext_header_len (extension_header part.0)
 
 -- the bytes are no extension, or its payload is refused
-abbrev RefusesTagInside : ℕ → ℕ → EtherType → List ℕ → SliceError → Type 0
-RefusesTagInside room offset type bytes = RefusesEither
-    (IsExtensionPart type bytes)
-    (RefusesLinkExtension offset type bytes)
-    (λ (part : ExtensionPart). RefusesInside room (offset + link_ext_header_len (extension_header part.0)) (extension_type part.0) (extension_payload part.0))
+abbrev RefusesTagInside : Reading → ℕ → ℕ → EtherType → List ℕ → SliceError → Type 0
+RefusesTagInside reading room offset type bytes = RefusesEither
+    (IsLinkExtension type bytes)
+    (RefusesExtensionAt offset type bytes)
+    (λ (part : ExtensionPart). RefusesInside reading room (behind offset part) (extension_type part.0) (extension_payload part.0))
 
 -- bytes whose type can't be read hold nothing
-untyped_only : (room : ℕ) (bytes : List ℕ) (inside : Inside) → HoldsInside room None bytes inside → inside ≡ ([], None, None)
-untyped_only room bytes (extensions, net, transport) part =
+untyped_only : (reading : Reading) (room : ℕ) (bytes : List ℕ) (inside : Inside)
+    → HoldsInside reading room None bytes inside → inside ≡ ([], None, None)
+untyped_only reading room bytes (extensions, net, transport) part =
     ap (λ (x : List LinkExtension). (x, net, transport)) part.0
     ∙ ap (λ (x : Option NetLayer). ([], x, transport)) part.1
     ∙ ap (λ (x : Option TransportLayer). ([], None, x)) part.2
 
 -- where no extensions are taken, bytes hold a net layer alone
-no_room_back : (type : EtherType) (bytes : List ℕ) (inside : Inside) → HoldsInside zero (Some type) bytes inside
-    → (part : NetPart) × IsNetPartOf type bytes part × (inside ≡ bare part)
-no_room_back type bytes ([], net, transport) part = ((net, transport), part, refl)
-no_room_back type bytes (extension ∷ others, net, transport) part = absurd part
+no_room_back : (reading : Reading) (type : EtherType) (bytes : List ℕ) (inside : Inside)
+    → HoldsInside reading zero (Some type) bytes inside
+    → (part : NetPart) × IsNetPartOf reading type bytes part × (inside ≡ bare part)
+no_room_back reading type bytes ([], net, transport) part = ((net, transport), part, refl)
+no_room_back reading type bytes (extension ∷ others, net, transport) part = absurd part
 
 -- where the type begins no extension, bytes hold a net layer alone
-no_tag_back : (room : ℕ) (type : EtherType) (bytes : List ℕ) → (¬ BeginsLinkExtension type) → (inside : Inside) → HoldsInside (suc room) (Some type) bytes inside
-    → (part : NetPart) × IsNetPartOf type bytes part × (inside ≡ bare part)
-no_tag_back room type bytes none ([], net, transport) part = ((net, transport), part.1, refl)
-no_tag_back room type bytes none (extension ∷ others, net, transport) part = absurd (none (extension_begins type bytes extension part.0.0 part.0.1))
+no_tag_back : ExtensionLaws → (reading : Reading) (room : ℕ) (type : EtherType) (bytes : List ℕ)
+    → (¬ BeginsLinkExtension type)
+    → (inside : Inside) → HoldsInside reading (suc room) (Some type) bytes inside
+    → (part : NetPart) × IsNetPartOf reading type bytes part × (inside ≡ bare part)
+no_tag_back laws reading room type bytes none ([], net, transport) part = ((net, transport), part.1, refl)
+no_tag_back laws reading room type bytes none (extension ∷ others, net, transport) part =
+    absurd (none (laws.begins type bytes (extension, part.0.0) part.0.1))
 
 -- and they are refused as such
-no_tag_refused_back : (room offset : ℕ) (type : EtherType) (bytes : List ℕ) → (¬ BeginsLinkExtension type) → (error : SliceError)
-    → RefusesInside (suc room) offset (Some type) bytes error → RefusesNetPart offset type bytes error
-no_tag_refused_back room offset type bytes none error (inl refused) = refused.1
-no_tag_refused_back room offset type bytes none error (inr (inl (inl refused))) = absurd (none (inl refused.0))
-no_tag_refused_back room offset type bytes none error (inr (inl (inr refused))) = absurd (none (inr refused.0))
-no_tag_refused_back room offset type bytes none error (inr (inr refused)) = absurd (none (extension_begins type bytes refused.0 refused.1 refused.2))
+no_tag_refused_back : ExtensionLaws → (reading : Reading) (room offset : ℕ) (type : EtherType) (bytes : List ℕ)
+    → (¬ BeginsLinkExtension type) → (error : SliceError)
+    → RefusesInside reading (suc room) offset (Some type) bytes error → RefusesNetPart reading offset type bytes error
+no_tag_refused_back laws reading room offset type bytes none error (inl refused) = refused.1
+no_tag_refused_back laws reading room offset type bytes none error (inr (inl refused)) =
+    absurd (none (laws.refused type bytes refused.0 refused.1))
+no_tag_refused_back laws reading room offset type bytes none error (inr (inr refused)) =
+    absurd (none (laws.begins type bytes (refused.0, refused.1) refused.2))
 
 -- where the type begins an extension, bytes hold one and what its payload holds
-tag_back : (room : ℕ) (type : EtherType) (bytes : List ℕ) → BeginsLinkExtension type → (inside : Inside) → HoldsInside (suc room) (Some type) bytes inside
-    → (layers : TagInside) × IsTagInside room type bytes layers × (inside ≡ tagged layers)
-tag_back room type bytes begins ([], net, transport) part = absurd (part.0 begins)
-tag_back room type bytes begins (extension ∷ others, net, transport) part =
+tag_back : (reading : Reading) (room : ℕ) (type : EtherType) (bytes : List ℕ) → BeginsLinkExtension type
+    → (inside : Inside) → HoldsInside reading (suc room) (Some type) bytes inside
+    → (layers : TagInside) × IsTagInside reading room type bytes layers × (inside ≡ tagged layers)
+tag_back reading room type bytes begins ([], net, transport) part = absurd (part.0 begins)
+tag_back reading room type bytes begins (extension ∷ others, net, transport) part =
     (((extension, part.0.0), (others, net, transport)), (part.0.1, part.1), refl)
 
 -- they are refused as an extension or in its payload
-tag_refused_there : (room offset : ℕ) (type : EtherType) (bytes : List ℕ) (error : SliceError)
-    → RefusesTagInside room offset type bytes error → RefusesInside (suc room) offset (Some type) bytes error
-tag_refused_there room offset type bytes error (inl refused) = inr (inl refused)
-tag_refused_there room offset type bytes error (inr refused) = inr (inr (refused.0.0, refused.0.1, refused.1, refused.2))
+tag_refused_there : (reading : Reading) (room offset : ℕ) (type : EtherType) (bytes : List ℕ) (error : SliceError)
+    → RefusesTagInside reading room offset type bytes error
+    → RefusesInside reading (suc room) offset (Some type) bytes error
+tag_refused_there reading room offset type bytes error (inl refused) = inr (inl refused)
+tag_refused_there reading room offset type bytes error (inr refused) =
+    inr (inr (refused.0.0, refused.0.1, refused.1, refused.2))
 
 -- and so the other way round
-tag_refused_back : (room offset : ℕ) (type : EtherType) (bytes : List ℕ) → BeginsLinkExtension type → (error : SliceError)
-    → RefusesInside (suc room) offset (Some type) bytes error → RefusesTagInside room offset type bytes error
-tag_refused_back room offset type bytes begins error (inl refused) = absurd (refused.0 begins)
-tag_refused_back room offset type bytes begins error (inr (inl refused)) = inl refused
-tag_refused_back room offset type bytes begins error (inr (inr refused)) = inr ((refused.0, refused.1), refused.2, refused.3)
+tag_refused_back : (reading : Reading) (room offset : ℕ) (type : EtherType) (bytes : List ℕ) → BeginsLinkExtension type
+    → (error : SliceError) → RefusesInside reading (suc room) offset (Some type) bytes error
+    → RefusesTagInside reading room offset type bytes error
+tag_refused_back reading room offset type bytes begins error (inl refused) = absurd (refused.0 begins)
+tag_refused_back reading room offset type bytes begins error (inr (inl refused)) = inl refused
+tag_refused_back reading room offset type bytes begins error (inr (inr refused)) =
+    inr ((refused.0, refused.1), refused.2, refused.3)
 
 -- bytes of a type hold one list of layers, or are refused
-pub inside_decided : Deciders → (room offset : ℕ) (type : Option EtherType) (bytes : List ℕ) → AreBytes bytes
-    → IsExactlyOne (HoldsInside room type bytes) (RefusesInside room offset type bytes)
-inside_decided deciders room offset None bytes fits =
-    decided_by ([], None, None) (refl, refl, refl) (untyped_only room bytes) (λ error refused. refused)
-inside_decided deciders zero offset (Some type) bytes fits =
-    decided_as bare (λ error. error) (net_decided deciders offset type bytes fits)
-    (record { there = λ part is. is; back = no_room_back type bytes })
+pub inside_decided : Deciders → (reading : Reading) (room offset : ℕ) (type : Option EtherType) (bytes : List ℕ)
+    → AreBytes bytes → IsDecided (HoldsInside reading room type bytes) (RefusesInside reading room offset type bytes)
+inside_decided deciders reading room offset None bytes fits =
+    decided_by ([], None, None) (refl, refl, refl) (untyped_only reading room bytes) (λ error refused. refused)
+inside_decided deciders reading zero offset (Some type) bytes fits =
+    decided_as bare (λ error. error) (net_decided deciders reading offset type bytes fits)
+    (record { there = λ part is. is; back = no_room_back reading type bytes })
     (same_image (λ error refused. refused) (λ error refused. refused))
-inside_decided deciders (suc room) offset (Some type) bytes fits =
-    elim (cases_begins type) [
+inside_decided deciders reading (suc room) offset (Some type) bytes fits =
+    elim (deciders.extension.cases type) [
       | inl begins ↦ decided_as tagged (λ error. error)
-          (decided_then (extension_decided deciders offset type bytes fits begins)
-          (λ part is. inside_decided deciders room (offset + link_ext_header_len (extension_header part.0)) (extension_type part.0) (extension_payload part.0)
-          (extension_payload_fits type bytes part.0 part.1 fits is)))
-          (record { there = λ layers is. ((layers.0.1, is.0), is.1); back = tag_back room type bytes begins })
-          (same_image (tag_refused_there room offset type bytes) (tag_refused_back room offset type bytes begins))
-      | inr none ↦ decided_as bare (λ error. error) (net_decided deciders offset type bytes fits)
-          (record { there = λ part is. (none, is); back = no_tag_back room type bytes none })
-          (same_image (λ error refused. inl (none, refused)) (no_tag_refused_back room offset type bytes none))
+          (decided_then (refused_as (extension_refusal offset) (deciders.extension.decided type bytes fits begins))
+          (λ part is.
+          let parts = deciders.extension.bytes type bytes part is in
+          inside_decided deciders reading room (behind offset part) (extension_type part.0) (extension_payload part.0)
+          (AreBytes-payload bytes parts.0 (extension_payload part.0) part.1 fits parts.2)))
+          (record { there = λ layers is. ((layers.0.1, is.0), is.1); back = tag_back reading room type bytes begins })
+          (same_image (tag_refused_there reading room offset type bytes)
+          (tag_refused_back reading room offset type bytes begins))
+      | inr none ↦ decided_as bare (λ error. error) (net_decided deciders reading offset type bytes fits)
+          (record { there = λ part is. (none, is); back = no_tag_back deciders.extension reading room type bytes none })
+          (same_image (λ error refused. inl (none, refused)) (no_tag_refused_back deciders.extension reading room offset type bytes none))
     ]

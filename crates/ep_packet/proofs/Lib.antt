@@ -1,11 +1,10 @@
-pub mod DecidedLemmas
 pub mod Deciders
-pub mod ExtensionLemmas
+pub mod EntryLemmas
 pub mod FrameBytesLemmas
 pub mod FrameLemmas
 pub mod InsideLemmas
-pub mod InsideWalkLemmas
+pub mod LayerLaws
 pub mod NetLemmas
-pub mod WalkLemmas
-pub mod TagLemmas
 pub mod PayloadLemmas
+pub mod TagLemmas
+pub mod WalkLemmas

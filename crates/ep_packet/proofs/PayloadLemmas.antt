@@ -5,7 +5,7 @@ use Rattle.std.specs.Option.{option_map}
 use Rattle.std.proofs.lemmas.List.{length-map}
 use Rattle.std.proofs.lemmas.Option.{slice_get-map}
 use Rattle.ep_base.specs.declared.len_source.LenSource.{LenSource}
-use Rattle.ep_link.specs.declared.link_ext_slice.LinkExtSlice.{LinkExtSlice}
+use Rattle.ep_link.specs.declared.link_ext.link_ext_slice.LinkExtSlice.{LinkExtSlice}
 use Rattle.ep_link.specs.EtherPayloads.{EtherPayload}
 use Rattle.ep_link.specs.LinkSlices.{LinkLayer}
 use Rattle.ep_link.specs.LinkExtensions.{LinkExtension, link_extension_of, extension_ether_payload, extension_payload}
@@ -17,13 +17,15 @@ last_of : LinkExtension → List LinkExtension → LinkExtension
 last_of extension [] = extension
 last_of extension (next ∷ others) = last_of next others
 
-get_last : (extension : LinkExtension) (others : List LinkExtension) → slice_get (extension ∷ others) (length others) ≡ Some (last_of extension others)
+get_last : (extension : LinkExtension) (others : List LinkExtension)
+    → slice_get (extension ∷ others) (length others) ≡ Some (last_of extension others)
 unfolding last_of
 get_last extension [] = refl
 get_last extension (next ∷ others) = get_last next others
 
 -- behind them lies the payload of the last
-behind_last : (extension : LinkExtension) (others : List LinkExtension) → payload_behind (extension_payload extension) others ≡ extension_payload (last_of extension others)
+behind_last : (extension : LinkExtension) (others : List LinkExtension)
+    → payload_behind (extension_payload extension) others ≡ extension_payload (last_of extension others)
 unfolding last_of
 behind_last extension [] = refl
 behind_last extension (next ∷ others) = behind_last next others
@@ -51,7 +53,8 @@ last_shown slices last is =
     ∙ slice_get-map link_extension_of slices (length slices - 1) ∙ ap (option_map link_extension_of) is
 
 -- the payload behind extensions is the last one's
-pub payload_of_last : (bytes : List ℕ) (extensions : List LinkExtension) (last : LinkExtension) → slice_get extensions (length extensions - 1) ≡ Some last
+pub payload_of_last : (bytes : List ℕ) (extensions : List LinkExtension) (last : LinkExtension)
+    → slice_get extensions (length extensions - 1) ≡ Some last
     → payload_behind bytes extensions ≡ extension_payload last
 payload_of_last bytes [] last is = absurd (cc is)
 payload_of_last bytes (extension ∷ others) last is = behind_last extension others ∙ ap extension_payload (found_last extension others last is)
@@ -61,7 +64,8 @@ abbrev pub with_source : LenSource → EtherPayload → EtherPayload
 with_source source payload = record payload { len_source = source }
 
 -- and so it is with its type
-pub ether_payload_of_last : (link : Option LinkLayer) (extensions : List LinkExtension) (last : LinkExtension) → slice_get extensions (length extensions - 1) ≡ Some last
+pub ether_payload_of_last : (link : Option LinkLayer) (extensions : List LinkExtension) (last : LinkExtension)
+    → slice_get extensions (length extensions - 1) ≡ Some last
     → ether_payload_of_parts link extensions ≡ option_map (with_source (extensions_len_source extensions)) (extension_ether_payload last)
 ether_payload_of_last link [] last is = absurd (cc is)
 ether_payload_of_last link (extension ∷ others) last is =

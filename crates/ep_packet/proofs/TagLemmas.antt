@@ -1,6 +1,6 @@
 -- The VLAN tags among the link extensions, one after the other.
 use Rattle.std.proofs.Common.{List, ◌∷◌, Option, Some, None}
-use Rattle.ep_link.specs.declared.single_vlan_slice.SingleVlanSlice.{SingleVlanSlice}
+use Rattle.ep_link.specs.declared.link_ext.single_vlan_slice.SingleVlanSlice.{SingleVlanSlice}
 
 -- the tags with one before them, where there is one
 abbrev pub tags_with : Option SingleVlanSlice → List SingleVlanSlice → List SingleVlanSlice

@@ -1,89 +1,121 @@
 -- One step of the walk over a frame, from what the layers' calls ensure.
-use Rattle.std.proofs.Common.{◌≡◌, ℕ, ◌+◌, ◌≤◌, List, ◌++◌, Option, Some, None, length, length-append, refl, sym, ap, subst, ◌∙◌, arith}
+use Rattle.std.proofs.Common.{◌≡◌, ◌⊎◌, ℕ, zero, suc, ◌+◌, ◌≤◌, List, [], ◌∷◌, ◌++◌, map, length, Option, Some, None, refl, sym, ap, subst, ◌∙◌, inl, inr, append_assoc, arith}
+use Rattle.std.specs.Option.{option_map}
+use Rattle.std.specs.Prelude.{IfSome, IfNone}
+use Rattle.std.proofs.lemmas.List.{append-nil}
+use Rattle.ep_base.specs.Layer.{slices}
 use Rattle.ep_base.specs.declared.ether_type.EtherType.{EtherType}
-use Rattle.ep_link.specs.declared.macsec_header.MacsecHeader.{MacsecHeader}
-use Rattle.ep_link.specs.declared.macsec_ptype.MacsecPType.{MacsecPType}
-use Rattle.ep_link.specs.declared.macsec_ptype.MacsecPType.TheVariants as ptype
-use Rattle.ep_link.specs.Arp.{Arp, IsArp}
-use Rattle.ep_link.specs.LinkExtensions.{LinkExtension, vlan, macsec, IsMacsecType, IsLinkExtension, extension_header, extension_payload, link_ext_header_len}
-use Rattle.ep_link.specs.Macsec.{IsMacsec, MacsecPayload, macsec_bytes_with, macsec_header_len, macsec_payload, macsec_payload_bytes, ptype_bytes, ptype_len, sci_bytes, sci_len}
-use Rattle.ep_link.specs.Vlan.{vlan_bytes}
-use Rattle.ep_ip.specs.declared.ipv4_header.Ipv4Header.{Ipv4Header}
-use Rattle.ep_ip.specs.IpPayload.{IpPayload, ipv4_payload}
-use Rattle.ep_ip.specs.Ipv4.{IsIpv4}
-use Rattle.ep_transport.specs.TransportSlices.{TransportLayer}
-use Rattle.ep_packet.specs.Layers.{NetLayer, ipv4, arp}
-use Rattle.ep_packet.specs.Frame.{IsTransportPart, IsNetPart}
-use Rattle.ep_packet.proofs.ExtensionLemmas.{vlan_not_macsec}
+use Rattle.ep_link.specs.declared.link_ext.link_ext_slice.LinkExtSlice.{LinkExtSlice}
+use Rattle.ep_link.specs.LinkExtensions.{LinkExtension, BeginsLinkExtension, IsLinkExtension, extension_header, extension_payload, extension_type, link_ext_header_len, link_ext_slice_bytes, link_extension_of}
+use Rattle.ep_link.specs.LinkSlices.{LinkLayer}
+use Rattle.ep_transport.specs.declared.transport_slice.TransportSlice.{TransportSlice}
+use Rattle.ep_transport.specs.TransportParts.{TransportLayer, transport_layer_of}
+use Rattle.ep_packet.specs.declared.err.slice_error.SliceError.{SliceError}
+use Rattle.ep_packet.specs.declared.net_slice.NetSlice.{NetSlice}
+use Rattle.ep_packet.specs.Layers.{Layers, NetLayer, net_layer_of}
+use Rattle.ep_packet.specs.Frame.{IsInside, IsNetPart}
+use Rattle.ep_packet.specs.Refusals.{RefusesInside}
+use Rattle.ep_packet.specs.ShownBytes.{BeginsWith}
+use Rattle.ep_packet.specs.Walk.{AppendsInside, HoldsNet}
 
--- bytes that are one IPv4 packet are no other net layer
-pub net_is_ipv4 : (type : EtherType) (bytes : List ℕ) (header : Ipv4Header) (payload : List ℕ) → type.0 ≡ 0x0800
-    → ((h : Ipv4Header) (p left : List ℕ) → IsIpv4 bytes h p left → (header ≡ h) × (payload ≡ p))
-    → (net : Option NetLayer) (transport : Option TransportLayer) → IsNetPart type bytes net transport
-    → (Some (ipv4 header (ipv4_payload header payload)) ≡ net) × IsTransportPart (ipv4_payload header payload) transport
-net_is_ipv4 type bytes header payload is_ipv4 only None transport part = absurd (part.0.0 is_ipv4)
-net_is_ipv4 type bytes header payload is_ipv4 only (Some (arp packet)) transport part = absurd (omega (arith, part.0))
-net_is_ipv4 type bytes header payload is_ipv4 only (Some (ipv4 h p)) transport part =
-    let same = only h p.bytes part.1.0 part.1.1 in
-    let shown : ipv4_payload header payload ≡ p =
-    ap (λ (x : Ipv4Header). ipv4_payload x payload) same.0 ∙ ap (ipv4_payload h) same.1 ∙ sym part.2 in (
-      ap (λ (x : Ipv4Header). Some (ipv4 x (ipv4_payload header payload))) same.0 ∙ ap (λ (x : IpPayload). Some (ipv4 h x)) shown,
-      subst (λ (x : IpPayload). IsTransportPart x transport) (sym shown) part.3,
-    )
+-- a fact of two values is one of their equals
+pub along : {A B : Type 0} (P : A → B → Type 0) (a b : A) (x y : B) → a ≡ b → x ≡ y → P a x → P b y
+along P a b x y same others holds = subst (λ z. P b z) others (subst (λ c. P c x) same holds)
 
--- bytes that are one ARP packet are no other net layer
-pub net_is_arp : (type : EtherType) (bytes : List ℕ) (packet : Arp) → type.0 ≡ 0x0806 → ((p : Arp) (left : List ℕ) → IsArp bytes p left → packet ≡ p)
-    → (net : Option NetLayer) (transport : Option TransportLayer) → IsNetPart type bytes net transport → (Some (arp packet) ≡ net) × (transport ≡ None)
-net_is_arp type bytes packet is_arp only None transport part = absurd (part.0.1 is_arp)
-net_is_arp type bytes packet is_arp only (Some (ipv4 h p)) transport part = absurd (omega (arith, part.0))
-net_is_arp type bytes packet is_arp only (Some (arp p)) transport part =
-    (ap (λ (x : Arp). Some (arp x)) (only p part.1.0 part.1.1), part.2)
+-- the layers of a packet
+abbrev layers_with : Option LinkLayer → List LinkExtension → Option NetLayer → Option TransportLayer → Layers
+layers_with link extensions net transport =
+    record { link = link; link_exts = extensions; net = net; transport = transport }
 
--- the number of bytes of a MACsec payload's type
-length_ptype : (kind : MacsecPType) → length (ptype_bytes kind) ≡ ptype_len kind
-length_ptype (ptype.Unmodified type) = refl
-length_ptype ptype.Modified = refl
-length_ptype ptype.Encrypted = refl
-length_ptype ptype.EncryptedUnmodified = refl
+-- ---- link extensions
 
--- the number of bytes of a secure channel identifier
-length_sci : (sci : Option ℕ) → length (sci_bytes sci) ≡ sci_len sci
-length_sci None = refl
-length_sci (Some sci) = refl
+-- bytes whose type can't be read hold nothing, and nothing is appended
+pub appends_nothing : (room : ℕ) (type : Option EtherType) (bytes : List ℕ) (old : List LinkExtSlice) → type ≡ None
+    → AppendsInside room type bytes old old None None
+appends_nothing room type bytes old is = record {
+  extensions = [];
+  appended = sym (append-nil old);
+  inside = subst (λ (t : Option EtherType). IsInside slices room t bytes [] None None) (sym is) (refl, refl, refl);
+  shows = refl;
+}
 
--- the number of bytes of a MACsec tag
-pub length_macsec : (reserved : ℕ) (header : MacsecHeader) → length (macsec_bytes_with reserved header) ≡ macsec_header_len header
-length_macsec reserved header =
-    simp length-append (omega (arith, length_ptype header.ptype, length_sci header.sci))
+-- the extensions end where no more are taken, or at a type that begins none
+ends_here : (room : ℕ) (type : EtherType) (bytes : List ℕ) → ((room ≡ 0) ⊎ (¬ BeginsLinkExtension type))
+    → (net : Option NetLayer) (transport : Option TransportLayer) → IsNetPart slices type bytes net transport
+    → IsInside slices room (Some type) bytes [] net transport
+ends_here zero type bytes why net transport part = part
+ends_here (suc room) type bytes (inl full) net transport part = absurd (omega (arith, full))
+ends_here (suc room) type bytes (inr none) net transport part = (none, part)
 
--- the number of bytes of a header and its payload is within all bytes
-within : (bytes header payload left : List ℕ) (len : ℕ) → bytes ≡ (header ++ payload) ++ left → length header ≡ len → len + length payload ≤ length bytes
-within bytes header payload left len parts long =
-    let total : length bytes ≡ (length header + length payload) + length left =
-    ap length parts ∙ length-append (header ++ payload) left ∙ ap (λ (n : ℕ). n + length left) (length-append header payload) in
-    omega (arith, total, long)
+-- then nothing is appended to those before them
+pub appends_no_more : (room : ℕ) (type : Option EtherType) (known : EtherType) (bytes : List ℕ) (old : List LinkExtSlice)
+    → type ≡ Some known → ((room ≡ 0) ⊎ (¬ BeginsLinkExtension known))
+    → (net : Option NetSlice) (transport : Option TransportSlice) → HoldsNet known bytes net transport
+    → AppendsInside room type bytes old old net transport
+appends_no_more room type known bytes old is why net transport holds = record {
+  extensions = [];
+  appended = sym (append-nil old);
+  inside = subst
+      (λ (t : Option EtherType). IsInside slices room t bytes [] (option_map net_layer_of net) (option_map transport_layer_of transport))
+      (sym is) (ends_here room known bytes why _ _ holds.part);
+  shows = holds.shows;
+}
 
--- the tag and the payload of an extension are within its bytes
-pub extension_room : (type : EtherType) (bytes : List ℕ) (extension : LinkExtension) (left : List ℕ) → IsLinkExtension type bytes extension left
-    → link_ext_header_len (extension_header extension) + length (extension_payload extension) ≤ length bytes
-extension_room type bytes (vlan header payload) left is = within bytes (vlan_bytes header) payload left 4 is.1.parts refl
-extension_room type bytes (macsec header payload) left is =
-    let encodes = is.1.encodes in
-    within bytes is.1.encoded (macsec_payload_bytes payload) left (macsec_header_len header) is.1.parts
-    (ap length encodes.same ∙ length_macsec encodes.reserved header)
+-- an extension is appended, and then what its payload holds
+pub appends_one : (room rest : ℕ) (type : Option EtherType) (known : EtherType) (bytes left : List ℕ)
+    (old pushed new : List LinkExtSlice) (found : LinkExtSlice) (net : Option NetSlice) (transport : Option TransportSlice)
+    → room ≡ suc rest → type ≡ Some known → BeginsWith bytes (link_ext_slice_bytes found)
+    → IsLinkExtension known bytes (link_extension_of found, left) → pushed ≡ old ++ found ∷ []
+    → AppendsInside rest (extension_type (link_extension_of found)) (extension_payload (link_extension_of found))
+    pushed new net transport
+    → AppendsInside room type bytes old new net transport
+appends_one room rest type known bytes left old pushed new found net transport more is begins part push behind = record {
+  extensions = found ∷ behind.extensions;
+  appended = behind.appended ∙ ap (λ (x : List LinkExtSlice). x ++ behind.extensions) push
+      ∙ append_assoc old (found ∷ []) behind.extensions;
+  inside =
+      let Holds : ℕ → Option EtherType → Type 0 =
+      λ n t. IsInside slices n t bytes (map link_extension_of (found ∷ behind.extensions))
+      (option_map net_layer_of net) (option_map transport_layer_of transport) in
+      along Holds (suc rest) room (Some known) type (sym more) (sym is) ((left, part), behind.inside);
+  shows = (begins, behind.shows);
+}
 
--- bytes that are one MACsec packet are no other extension
-pub extension_is_macsec : (type : EtherType) (bytes : List ℕ) (header : MacsecHeader) (payload : MacsecPayload) → IsMacsecType type
-    → ((h : MacsecHeader) (p left : List ℕ) → IsMacsec bytes h p left → (header ≡ h) × (payload ≡ macsec_payload h p))
-    → (extension : LinkExtension) (left : List ℕ) → IsLinkExtension type bytes extension left → Some (macsec header payload) ≡ Some extension
-extension_is_macsec type bytes header payload is_macsec only (vlan h p) left is = absurd (vlan_not_macsec type is.0 is_macsec)
-extension_is_macsec type bytes header payload is_macsec only (macsec h p) left is =
-    let same = only h (macsec_payload_bytes p) left is.1 in
-    ap (λ (x : MacsecHeader). Some (macsec x payload)) same.0 ∙ ap (λ (x : MacsecPayload). Some (macsec h x)) (same.1 ∙ sym is.2)
+-- what a call that looks for an extension has found
+pub found_there : (type : EtherType) (bytes : List ℕ) (answer : Option LinkExtSlice) (found : LinkExtSlice)
+    → answer ≡ Some found
+    → IfSome answer (λ shown. (left : List ℕ) × (bytes ≡ link_ext_slice_bytes shown ++ left)
+    × IsLinkExtension type bytes (link_extension_of shown, left))
+    → (left : List ℕ) × (bytes ≡ link_ext_slice_bytes found ++ left)
+    × IsLinkExtension type bytes (link_extension_of found, left)
+found_there type bytes answer found same ok =
+    subst (λ (o : Option LinkExtSlice). IfSome o (λ shown. (left : List ℕ) × (bytes ≡ link_ext_slice_bytes shown ++ left)
+    × IsLinkExtension type bytes (link_extension_of shown, left))) same ok
 
--- bytes that are no MACsec packet are no extension
-pub extension_is_none : (type : EtherType) (bytes : List ℕ) → IsMacsecType type
-    → ((h : MacsecHeader) (p left : List ℕ) → IsMacsec bytes h p left → ⊥)
-    → (extension : LinkExtension) (left : List ℕ) → IsLinkExtension type bytes extension left → ⊥
-extension_is_none type bytes is_macsec none (vlan h p) left is = vlan_not_macsec type is.0 is_macsec
-extension_is_none type bytes is_macsec none (macsec h p) left is = none h (macsec_payload_bytes p) left is.1
+-- and that it has found none
+pub none_there : (type : EtherType) (answer : Option LinkExtSlice) → answer ≡ None
+    → IfNone answer (¬ BeginsLinkExtension type) → ¬ BeginsLinkExtension type
+none_there type answer same none =
+    subst (λ (o : Option LinkExtSlice). IfNone o (¬ BeginsLinkExtension type)) same none
+
+-- a refusal behind an extension is one of its bytes
+pub refused_behind : (room rest offset : ℕ) (type : Option EtherType) (known : EtherType) (bytes left : List ℕ)
+    (found : LinkExtension) → room ≡ suc rest → type ≡ Some known → IsLinkExtension known bytes (found, left)
+    → (error : SliceError)
+    → RefusesInside slices rest (offset + link_ext_header_len (extension_header found)) (extension_type found)
+    (extension_payload found) error
+    → RefusesInside slices room offset type bytes error
+refused_behind room rest offset type known bytes left found more is part error refused =
+    along (λ n t. RefusesInside slices n offset t bytes error) (suc rest) room (Some known) type (sym more) (sym is)
+    (inr (inr (found, left, part, refused)))
+
+-- ---- a whole packet
+
+-- layers are known by their parts
+pub same_layers : (k l : Layers) → k.link ≡ l.link → k.link_exts ≡ l.link_exts → k.net ≡ l.net
+    → k.transport ≡ l.transport → k ≡ l
+same_layers k l link extensions net transport =
+    ap (λ (x : Option LinkLayer). layers_with x k.link_exts k.net k.transport) link
+    ∙ ap (λ (x : List LinkExtension). layers_with l.link x k.net k.transport) extensions
+    ∙ ap (λ (x : Option NetLayer). layers_with l.link l.link_exts x k.transport) net
+    ∙ ap (layers_with l.link l.link_exts l.net) transport

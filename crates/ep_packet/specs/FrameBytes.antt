@@ -4,12 +4,9 @@ use Rattle.ep_link.specs.Arp.{FitsArp, arp_bytes}
 use Rattle.ep_link.specs.Ethernet2.{FitsEthernet2, ethernet2_bytes}
 use Rattle.ep_link.specs.LinuxSll.{FitsLinuxSll, linux_sll_bytes}
 use Rattle.ep_link.specs.LinkSlices.{LinkLayer, ethernet2, linux_sll, ether_payload, linux_sll_payload, link_layer_payload}
-use Rattle.ep_link.specs.LinkExtensions.{LinkExtension, vlan, macsec, extension_payload}
-use Rattle.ep_link.specs.Macsec.{EncodesMacsec}
-use Rattle.ep_link.specs.Vlan.{FitsVlan, vlan_bytes}
+use Rattle.ep_link.specs.LinkExtensions.{LinkExtension, EncodesTag, extension_payload}
 use Rattle.ep_ip.specs.Ipv4.{EncodesIpv4}
-use Rattle.ep_transport.specs.Udp.{FitsUdp, udp_bytes}
-use Rattle.ep_transport.specs.TransportSlices.{TransportLayer, udp}
+use Rattle.ep_transport.specs.TransportParts.{TransportLayer, EncodesTransport, payload_in}
 use Rattle.ep_packet.specs.Layers.{NetLayer, ipv4, arp, Layers}
 
 -- the bytes are the link header's, where there is one
@@ -19,11 +16,6 @@ EncodesLink (Some (ethernet2 header payload)) bytes = FitsEthernet2 header × (b
 EncodesLink (Some (linux_sll header payload)) bytes = FitsLinuxSll header × (bytes ≡ linux_sll_bytes header)
 EncodesLink (Some (ether_payload type source payload)) bytes = bytes ≡ []
 EncodesLink (Some (linux_sll_payload protocol payload)) bytes = bytes ≡ []
-
--- the bytes are a tag's, up to its reserved bits
-abbrev pub EncodesTag : LinkExtension → List ℕ → Type 0
-EncodesTag (vlan header payload) bytes = FitsVlan header × (bytes ≡ vlan_bytes header)
-EncodesTag (macsec header payload) bytes = EncodesMacsec bytes header
 
 -- the bytes are the tags' of some link extensions, from the outside in
 abbrev pub EncodesTags : List LinkExtension → List ℕ → Type 0
@@ -37,11 +29,6 @@ EncodesNet None bytes = bytes ≡ []
 EncodesNet (Some (ipv4 header payload)) bytes = EncodesIpv4 bytes header
 EncodesNet (Some (arp packet)) bytes = FitsArp packet × (bytes ≡ arp_bytes packet)
 
--- the bytes are the transport header's, where there is one
-abbrev pub EncodesTransport : Option TransportLayer → List ℕ → Type 0
-EncodesTransport None bytes = bytes ≡ []
-EncodesTransport (Some (udp header payload)) bytes = FitsUdp header × (bytes ≡ udp_bytes header)
-
 -- the payload of a link layer, where there is one
 abbrev pub link_payload : Option LinkLayer → List ℕ
 link_payload None = []
@@ -52,16 +39,20 @@ abbrev pub payload_behind : List ℕ → List LinkExtension → List ℕ
 payload_behind bytes [] = bytes
 payload_behind bytes (extension ∷ others) = payload_behind (extension_payload extension) others
 
+-- the bytes behind the net layer, where there is one in some bytes
+abbrev pub behind_net : List ℕ → Option NetLayer → List ℕ
+behind_net bytes None = bytes
+behind_net bytes (Some (ipv4 header payload)) = payload.bytes
+behind_net bytes (Some (arp packet)) = []
+
 -- the payload of the net layer and of the transport layer, which lie in some bytes
 abbrev pub inner_payload : List ℕ → Option NetLayer → Option TransportLayer → List ℕ
-inner_payload bytes net (Some (udp header payload)) = payload
-inner_payload bytes (Some (ipv4 header payload)) None = payload.bytes
-inner_payload bytes (Some (arp packet)) None = []
-inner_payload bytes None None = bytes
+inner_payload bytes net transport = payload_in (behind_net bytes net) transport
 
 -- the payload of the last layer
 abbrev pub last_payload : Layers → List ℕ
-last_payload layers = inner_payload (payload_behind (link_payload layers.link) layers.link_exts) layers.net layers.transport
+last_payload layers =
+    inner_payload (payload_behind (link_payload layers.link) layers.link_exts) layers.net layers.transport
 
 -- The bytes are the headers from the outside in, the payload of the last layer, and what the cuts left behind it.
 pub record AreInOrder (bytes : List ℕ) (layers : Layers) : Type 0 where

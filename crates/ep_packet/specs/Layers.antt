@@ -7,9 +7,10 @@ use Rattle.ep_link.specs.ArpSlices.{arp_slice_packet}
 use Rattle.ep_link.specs.LinkSlices.{LinkLayer, link_layer_of}
 use Rattle.ep_link.specs.LinkExtensions.{LinkExtension, link_extension_of}
 use Rattle.ep_ip.specs.declared.ipv4_header.Ipv4Header.{Ipv4Header}
-use Rattle.ep_ip.specs.IpPayload.{IpPayload, ipv4_payload}
+use Rattle.ep_base.specs.IpPayload.{IpPayload}
+use Rattle.ep_ip.specs.Ipv4.{ipv4_payload}
 use Rattle.ep_ip.specs.Ipv4Slices.{ipv4_slice_header, ipv4_slice_payload}
-use Rattle.ep_transport.specs.TransportSlices.{TransportLayer, transport_layer_of}
+use Rattle.ep_transport.specs.TransportParts.{TransportLayer, transport_layer_of}
 use Rattle.ep_packet.specs.declared.net_slice.NetSlice.{NetSlice}
 use Rattle.ep_packet.specs.declared.net_slice.NetSlice.TheVariants as slice
 use Rattle.ep_packet.specs.declared.sliced_packet.SlicedPacket.{SlicedPacket}

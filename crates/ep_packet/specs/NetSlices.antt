@@ -1,6 +1,6 @@
 -- Which net layer a slice is.
 use Rattle.std.specs.Prelude.{Bool, true, false, Option, Some, None}
-use Rattle.ep_link.specs.declared.arp_packet_slice.ArpPacketSlice.{ArpPacketSlice}
+use Rattle.ep_link.specs.declared.arp.arp_packet_slice.ArpPacketSlice.{ArpPacketSlice}
 use Rattle.ep_ip.specs.declared.ipv4_slice.Ipv4Slice.{Ipv4Slice}
 use Rattle.ep_packet.specs.declared.net_slice.NetSlice.{NetSlice}
 use Rattle.ep_packet.specs.declared.net_slice.NetSlice.TheVariants as slice

@@ -7,7 +7,7 @@ use Rattle.ep_base.specs.declared.len_source.LenSource.TheVariants as source
 use Rattle.ep_link.specs.EtherPayloads.{EtherPayload}
 use Rattle.ep_link.specs.LinkSlices.{LinkLayer, link_ether_payload}
 use Rattle.ep_link.specs.LinkExtensions.{LinkExtension, vlan, macsec, extension_ether_payload}
-use Rattle.ep_transport.specs.TransportSlices.{TransportLayer}
+use Rattle.ep_transport.specs.TransportParts.{TransportLayer}
 use Rattle.ep_packet.specs.Layers.{Layers, NetLayer}
 
 -- whether an extension is a MACsec tag with a short length

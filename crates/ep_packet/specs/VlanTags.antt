@@ -1,10 +1,10 @@
 -- The VLAN tags among the link extensions.
 use Rattle.std.specs.Prelude.{ℕ, List, [], ◌∷◌, Option, Some, None}
-use Rattle.ep_link.specs.declared.link_ext_slice.LinkExtSlice.{LinkExtSlice}
-use Rattle.ep_link.specs.declared.link_ext_slice.LinkExtSlice.TheVariants as slice
-use Rattle.ep_link.specs.declared.single_vlan_slice.SingleVlanSlice.{SingleVlanSlice}
-use Rattle.ep_link.specs.declared.vlan_slice.VlanSlice.{VlanSlice}
-use Rattle.ep_link.specs.declared.vlan_slice.VlanSlice.TheVariants as tags
+use Rattle.ep_link.specs.declared.link_ext.link_ext_slice.LinkExtSlice.{LinkExtSlice}
+use Rattle.ep_link.specs.declared.link_ext.link_ext_slice.LinkExtSlice.TheVariants as slice
+use Rattle.ep_link.specs.declared.link_ext.single_vlan_slice.SingleVlanSlice.{SingleVlanSlice}
+use Rattle.ep_link.specs.declared.link_ext.vlan_slice.VlanSlice.{VlanSlice}
+use Rattle.ep_link.specs.declared.link_ext.vlan_slice.VlanSlice.TheVariants as tags
 use Rattle.ep_link.specs.LinkExtensions.{LinkExtension, vlan, macsec}
 
 -- the tags among some slices, from the outside in

@@ -19,7 +19,7 @@ pub type InternetSlice<'a> = NetSlice<'a>;
 impl<'a> NetSlice<'a> {
     ghost use Rattle.std.specs.Prelude.{◌≡◌};
     ghost use Rattle.std.specs.Option.{option_copied, option_map};
-    ghost use Rattle.ep_ip.specs.IpPayload.{ip_payload_of};
+    ghost use Rattle.ep_base.specs.IpPayload.{ip_payload_of};
     ghost use Rattle.ep_packet.specs.Layers.{net_layer_of, net_payload};
     ghost use Rattle.ep_packet.specs.NetSlices.{is_ip_layer, is_ipv4_layer, is_arp_layer, ipv4_in, arp_in};
 

@@ -1,28 +1,27 @@
 //! A packet, sliced into its layers.
 
-ghost use Rattle.std.specs.Prelude.{◌≡◌, ◌+◌, ◌-◌, ◌<◌, ◌^◌, ◌++◌, length, map, ℕ, List, IfOk, IfErr, IfSome, IfNone, IsOkAnd, Option, Some, None};
+ghost use Rattle.std.specs.Prelude.{◌≡◌, ◌+◌, ◌-◌, ◌<◌, ◌^◌, length, IfOk, IfErr, Some};
 ghost use Rattle.std.specs.Option.{option_map};
-ghost use Rattle.ep_link.specs.LinkSlices.{link_layer_of};
-ghost use Rattle.ep_link.specs.LinkExtensions.{LinkExtension, link_extension_of, BeginsLinkExtension, IsLinkExtension};
-ghost use Rattle.ep_ip.specs.IpPayload.{ip_payload_of};
-ghost use Rattle.ep_transport.specs.TransportSlices.{TransportLayer, transport_layer_of};
-ghost use Rattle.ep_packet.specs.Layers.{NetLayer, net_layer_of, layers_of};
-ghost use Rattle.ep_packet.specs.Frame.{IsInside, IsNetPart, IsTransportPart, most_link_exts, ipv4_type, arp_type};
-ghost use Rattle.ep_packet.specs.Refusals.{RefusesInside, RefusesLinkExtension, RefusesNetPart, RefusesTransportPart, further_behind, cut_by};
+ghost use Rattle.ep_base.specs.EtherTypes.{ipv4_type, arp_type};
+ghost use Rattle.ep_base.specs.Layer.{slices};
+ghost use Rattle.ep_base.specs.IpPayload.{ip_payload_of};
+ghost use Rattle.ep_transport.specs.TransportParts.{transport_layer_of};
+ghost use Rattle.ep_packet.specs.Frame.{IsTransportIn, most_link_exts};
+ghost use Rattle.ep_packet.specs.Refusals.{RefusesInside, RefusesNetPart, RefusesTransportIn, further_behind, cut_by};
+ghost use Rattle.ep_packet.specs.ShownBytes.{ShowsTransport};
+ghost use Rattle.ep_packet.specs.Walk.{AppendsInside, HoldsBehind, HoldsNet};
 
 use crate::err::SliceError;
 use crate::net_slice::NetSlice;
 use arrayvec::ArrayVec;
-use ep_base::err::{LenError, ipv4, linux_sll, macsec};
-use ep_base::{
-    EtherPayloadSlice, EtherType, IpNumber, IpPayloadSlice, LenSource, VlanId, ether_type,
-};
+use ep_base::err::{LenError, ipv4, linux_sll, macsec, tcp};
+use ep_base::{EtherPayloadSlice, EtherType, IpPayloadSlice, LenSource, VlanId, ether_type};
 use ep_ip::Ipv4Slice;
 use ep_link::{
     ArpPacketSlice, DoubleVlanSlice, Ethernet2Header, Ethernet2Slice, LinkExtSlice, LinkSlice,
-    LinuxSllHeader, LinuxSllSlice, MacsecSlice, SingleVlanSlice, VlanSlice,
+    LinuxSllHeader, LinuxSllSlice, VlanSlice,
 };
-use ep_transport::{TransportSlice, UdpSlice};
+use ep_transport::TransportSlice;
 
 /// A packet, sliced into its layers from the outside in. A layer that is no part of the packet, or whose protocol is
 /// not read, is `None`, and so is each layer inside it.
@@ -41,13 +40,14 @@ pub struct SlicedPacket<'a> {
 impl<'a> SlicedPacket<'a> {
     ghost use Rattle.std.specs.Prelude.{◌≡◌, IfOk, IfErr, IsOkAnd};
     ghost use Rattle.std.specs.Option.{option_copied, option_map};
-    ghost use Rattle.ep_ip.specs.IpPayload.{ip_payload_of};
+    ghost use Rattle.ep_base.specs.IpPayload.{ip_payload_of};
     ghost use Rattle.ep_packet.specs.Layers.{ethernet, linux_sll, ether_type as of_type, Layers, layers_of, ip_payload_in, carries_fragment};
     ghost use Rattle.ep_link.specs.EtherPayloads.{ether_payload_of};
     ghost use Rattle.ep_packet.specs.Frame.{IsFrame};
     ghost use Rattle.ep_packet.specs.Payloads.{ether_payload_in, extensions_len_source, payload_ether_type_in};
     ghost use Rattle.ep_packet.specs.VlanTags.{outer_tags, vlan_ids_in, vlan_slices};
     ghost use Rattle.ep_packet.specs.Refusals.{RefusesFrame};
+    ghost use Rattle.ep_packet.specs.ShownBytes.{ShowsBytes};
 
     /// The greatest number of link extensions that are taken. A further one is left as payload.
     pub const LINK_EXTS_CAP: usize = 3;
@@ -55,7 +55,9 @@ impl<'a> SlicedPacket<'a> {
     /// The packet that begins with an Ethernet II header.
     pub fn from_ethernet(slice: &'a [u8]) -> Result<SlicedPacket<'a>, SliceError>
         ensures ok { IfOk result (λ packet. IsFrame ethernet slice.now (layers_of packet)) }
-        ensures only { (layers : Layers) → IsFrame ethernet slice.now layers → IsOkAnd result (λ packet. layers_of packet ≡ layers) }
+        ensures only { (layers : Layers) → IsFrame ethernet slice.now layers
+            → IsOkAnd result (λ packet. layers_of packet ≡ layers) }
+        ensures bytes { IfOk result (ShowsBytes slice.now) }
         ensures err { IfErr result (RefusesFrame ethernet slice.now) }
     {
         let frame = match Ethernet2Slice::from_slice_without_fcs(slice) {
@@ -75,7 +77,9 @@ impl<'a> SlicedPacket<'a> {
     /// The packet that begins with the header of a Linux cooked capture (SLL v1).
     pub fn from_linux_sll(slice: &'a [u8]) -> Result<SlicedPacket<'a>, SliceError>
         ensures ok { IfOk result (λ packet. IsFrame linux_sll slice.now (layers_of packet)) }
-        ensures only { (layers : Layers) → IsFrame linux_sll slice.now layers → IsOkAnd result (λ packet. layers_of packet ≡ layers) }
+        ensures only { (layers : Layers) → IsFrame linux_sll slice.now layers
+            → IsOkAnd result (λ packet. layers_of packet ≡ layers) }
+        ensures bytes { IfOk result (ShowsBytes slice.now) }
         ensures err { IfErr result (RefusesFrame linux_sll slice.now) }
     {
         let frame = match LinuxSllSlice::from_slice(slice) {
@@ -101,7 +105,9 @@ impl<'a> SlicedPacket<'a> {
         slice: &'a [u8],
     ) -> Result<SlicedPacket<'a>, SliceError>
         ensures ok { IfOk result (λ packet. IsFrame (of_type ether_type) slice.now (layers_of packet)) }
-        ensures only { (layers : Layers) → IsFrame (of_type ether_type) slice.now layers → IsOkAnd result (λ packet. layers_of packet ≡ layers) }
+        ensures only { (layers : Layers) → IsFrame (of_type ether_type) slice.now layers
+            → IsOkAnd result (λ packet. layers_of packet ≡ layers) }
+        ensures bytes { IfOk result (ShowsBytes slice.now) }
         ensures err { IfErr result (RefusesFrame (of_type ether_type) slice.now) }
     {
         let link = LinkSlice::EtherPayload(EtherPayloadSlice {
@@ -216,13 +222,8 @@ fn slice_behind<'a>(
     slice: &'a [u8],
 ) -> Result<SlicedPacket<'a>, SliceError>
     requires { offset + length slice.now < 2 ^ 64 }
-    ensures ok { IfOk result (λ packet. let layers = layers_of packet in (layers.link ≡ Some (link_layer_of link.entry))
-        × IsInside most_link_exts ether_type slice.now layers.link_exts layers.net layers.transport) }
-    ensures only { (extensions : List LinkExtension) (net : Option NetLayer) (transport : Option TransportLayer)
-        → IsInside most_link_exts ether_type slice.now extensions net transport
-        → IsOkAnd result (λ packet. layers_of packet
-        ≡ record { link = Some (link_layer_of link.entry); link_exts = extensions; net = net; transport = transport }) }
-    ensures err { IfErr result (RefusesInside most_link_exts offset ether_type slice.now) }
+    ensures ok { IfOk result (HoldsBehind link.entry ether_type slice.now) }
+    ensures err { IfErr result (RefusesInside slices most_link_exts offset ether_type slice.now) }
 {
     let mut link_exts = ArrayVec::new();
     let (net, transport) = slice_inside(&mut link_exts, offset, ether_type, slice)?;
@@ -243,16 +244,11 @@ fn slice_inside<'a>(
     slice: &'a [u8],
 ) -> Result<(Option<NetSlice<'a>>, Option<TransportSlice<'a>>), SliceError>
     requires { offset + length slice.now < 2 ^ 64 }
-    ensures ok { IfOk result (λ parts. (extensions : List LinkExtension)
-        × (map link_extension_of link_exts.new.items ≡ map link_extension_of link_exts.old.items ++ extensions)
-        × IsInside (most_link_exts - length link_exts.old.items) ether_type slice.now extensions
-        (option_map net_layer_of parts.0) (option_map transport_layer_of parts.1)) }
-    ensures only { (extensions : List LinkExtension) (net : Option NetLayer) (transport : Option TransportLayer)
-        → IsInside (most_link_exts - length link_exts.old.items) ether_type slice.now extensions net transport
-        → IsOkAnd result (λ parts.
-        (map link_extension_of link_exts.new.items ≡ map link_extension_of link_exts.old.items ++ extensions)
-        × (option_map net_layer_of parts.0 ≡ net) × (option_map transport_layer_of parts.1 ≡ transport)) }
-    ensures err { IfErr result (RefusesInside (most_link_exts - length link_exts.old.items) offset ether_type slice.now) }
+    ensures ok { IfOk result (λ parts.
+        AppendsInside (most_link_exts - length link_exts.old.items) ether_type slice.now
+        link_exts.old.items link_exts.new.items parts.0 parts.1) }
+    ensures err { IfErr result
+        (RefusesInside slices (most_link_exts - length link_exts.old.items) offset ether_type slice.now) }
 {
     let Some(ether_type) = ether_type else {
         return Ok((None, None));
@@ -260,47 +256,19 @@ fn slice_inside<'a>(
     if link_exts.is_full() {
         return slice_net(offset, ether_type, slice);
     }
-    let Some(extension) = slice_link_ext(offset, ether_type, slice)? else {
-        return slice_net(offset, ether_type, slice);
+    let extension = match LinkExtSlice::from_ether_type(ether_type, slice) {
+        Ok(Some(extension)) => extension,
+        Ok(None) => return slice_net(offset, ether_type, slice),
+        Err(macsec::HeaderSliceError::Len(error)) => return Err(SliceError::Len(error.add_offset(
+            offset,
+        ))),
+        Err(macsec::HeaderSliceError::Content(error)) => return Err(SliceError::Macsec(error)),
     };
     let offset = offset + extension.header_len();
     let ether_type = extension.next_ether_type();
     let payload = extension.payload_slice();
     link_exts.push(extension);
     slice_inside(link_exts, offset, ether_type, payload)
-}
-
-/// The link extension that bytes of a type are, where the type begins one. The bytes lie `offset` bytes behind the packet's
-/// start.
-fn slice_link_ext(
-    offset: usize,
-    ether_type: EtherType,
-    slice: &[u8],
-) -> Result<Option<LinkExtSlice<'_>>, SliceError>
-    requires { offset + length slice.now < 2 ^ 64 }
-    ensures none { IfOk result (λ found. IfNone found (¬ BeginsLinkExtension ether_type)) }
-    ensures some { IfOk result (λ found. IfSome found (λ extension. (left : List ℕ)
-        × IsLinkExtension ether_type slice.now (link_extension_of extension) left)) }
-    ensures only { (extension : LinkExtension) (left : List ℕ) → IsLinkExtension ether_type slice.now extension left
-        → IsOkAnd result (λ found. option_map link_extension_of found ≡ Some extension) }
-    ensures err { IfErr result (RefusesLinkExtension offset ether_type slice.now) }
-{
-    match ether_type {
-        ether_type::VLAN_TAGGED_FRAME
-        | ether_type::PROVIDER_BRIDGING
-        | ether_type::VLAN_DOUBLE_TAGGED_FRAME => match SingleVlanSlice::from_slice(slice) {
-            Ok(tag) => Ok(Some(LinkExtSlice::Vlan(tag))),
-            Err(error) => Err(SliceError::Len(error.add_offset(offset))),
-        },
-        ether_type::MACSEC => match MacsecSlice::from_slice(slice) {
-            Ok(packet) => Ok(Some(LinkExtSlice::Macsec(packet))),
-            Err(macsec::HeaderSliceError::Len(error)) => Err(SliceError::Len(error.add_offset(
-                offset,
-            ))),
-            Err(macsec::HeaderSliceError::Content(error)) => Err(SliceError::Macsec(error)),
-        },
-        _ => Ok(None),
-    }
 }
 
 /// The net layer that bytes of a type are, and the transport layer in it. The bytes lie `offset` bytes behind the
@@ -311,10 +279,8 @@ fn slice_net(
     slice: &[u8],
 ) -> Result<(Option<NetSlice<'_>>, Option<TransportSlice<'_>>), SliceError>
     requires { offset + length slice.now < 2 ^ 64 }
-    ensures ok { IfOk result (λ parts. IsNetPart ether_type slice.now (option_map net_layer_of parts.0) (option_map transport_layer_of parts.1)) }
-    ensures only { (net : Option NetLayer) (transport : Option TransportLayer) → IsNetPart ether_type slice.now net transport
-        → IsOkAnd result (λ parts. (option_map net_layer_of parts.0 ≡ net) × (option_map transport_layer_of parts.1 ≡ transport)) }
-    ensures err { IfErr result (RefusesNetPart offset ether_type slice.now) }
+    ensures ok { IfOk result (λ parts. HoldsNet ether_type slice.now parts.0 parts.1) }
+    ensures err { IfErr result (RefusesNetPart slices offset ether_type slice.now) }
 {
     match ether_type {
         ether_type::IPV4 => slice_ipv4(offset, slice),
@@ -329,10 +295,8 @@ fn slice_ipv4(
     slice: &[u8],
 ) -> Result<(Option<NetSlice<'_>>, Option<TransportSlice<'_>>), SliceError>
     requires { offset + length slice.now < 2 ^ 64 }
-    ensures ok { IfOk result (λ parts. IsNetPart ipv4_type slice.now (option_map net_layer_of parts.0) (option_map transport_layer_of parts.1)) }
-    ensures only { (net : Option NetLayer) (transport : Option TransportLayer) → IsNetPart ipv4_type slice.now net transport
-        → IsOkAnd result (λ parts. (option_map net_layer_of parts.0 ≡ net) × (option_map transport_layer_of parts.1 ≡ transport)) }
-    ensures err { IfErr result (RefusesNetPart offset ipv4_type slice.now) }
+    ensures ok { IfOk result (λ parts. HoldsNet (record { 0 = ipv4_type }) slice.now parts.0 parts.1) }
+    ensures err { IfErr result (RefusesNetPart slices offset (record { 0 = ipv4_type }) slice.now) }
 {
     let packet = match Ipv4Slice::from_slice(slice) {
         Ok(packet) => packet,
@@ -350,10 +314,8 @@ fn slice_arp(
     slice: &[u8],
 ) -> Result<(Option<NetSlice<'_>>, Option<TransportSlice<'_>>), SliceError>
     requires { offset + length slice.now < 2 ^ 64 }
-    ensures ok { IfOk result (λ parts. IsNetPart arp_type slice.now (option_map net_layer_of parts.0) (option_map transport_layer_of parts.1)) }
-    ensures only { (net : Option NetLayer) (transport : Option TransportLayer) → IsNetPart arp_type slice.now net transport
-        → IsOkAnd result (λ parts. (option_map net_layer_of parts.0 ≡ net) × (option_map transport_layer_of parts.1 ≡ transport)) }
-    ensures err { IfErr result (RefusesNetPart offset arp_type slice.now) }
+    ensures ok { IfOk result (λ parts. HoldsNet (record { 0 = arp_type }) slice.now parts.0 parts.1) }
+    ensures err { IfErr result (RefusesNetPart slices offset (record { 0 = arp_type }) slice.now) }
 {
     match ArpPacketSlice::from_slice(slice) {
         Ok(packet) => Ok((Some(NetSlice::Arp(packet)), None)),
@@ -367,17 +329,19 @@ fn slice_transport<'a>(
     payload: &IpPayloadSlice<'a>,
 ) -> Result<Option<TransportSlice<'a>>, SliceError>
     requires { offset < 2 ^ 64 }
-    ensures ok { IfOk result (λ transport. IsTransportPart (ip_payload_of payload.now) (option_map transport_layer_of transport)) }
-    ensures only { (transport : Option TransportLayer) → IsTransportPart (ip_payload_of payload.now) transport
-        → IsOkAnd result (λ shown. option_map transport_layer_of shown ≡ transport) }
-    ensures err { IfErr result (RefusesTransportPart offset (ip_payload_of payload.now)) }
+    ensures ok { IfOk result (λ transport.
+        IsTransportIn slices (ip_payload_of payload.now) (option_map transport_layer_of transport)) }
+    ensures bytes { IfOk result (ShowsTransport payload.now.payload.now) }
+    ensures err { IfErr result (RefusesTransportIn slices offset (ip_payload_of payload.now)) }
 {
-    if payload.fragmented || payload.ip_number != IpNumber::UDP {
-        return Ok(None);
-    }
-    match UdpSlice::from_slice(payload.payload) {
-        Ok(datagram) => Ok(Some(TransportSlice::Udp(datagram))),
-        Err(error) => Err(SliceError::Len(transport_error(offset, &payload.len_source, error))),
+    match TransportSlice::from_ip_number(payload.ip_number, payload.fragmented, payload.payload) {
+        Ok(transport) => Ok(transport),
+        Err(tcp::HeaderSliceError::Len(error)) => Err(SliceError::Len(transport_error(
+            offset,
+            &payload.len_source,
+            error,
+        ))),
+        Err(tcp::HeaderSliceError::Content(error)) => Err(SliceError::Tcp(error)),
     }
 }
 

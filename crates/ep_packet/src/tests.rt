@@ -1,8 +1,13 @@
 //! Packets that are read through the public calls, and headers that are written and read back.
 
+ghost use Rattle.std.specs.Prelude.{◌≡◌, IfSome, Some};
+ghost use Rattle.ep_transport.specs.TransportParts.{TransportLayer, transport_payload as payload_of};
+ghost use Rattle.ep_packet.specs.Frame.{IsFrame};
+ghost use Rattle.ep_packet.specs.Layers.{ethernet, Layers};
+
 use super::*;
 use crate::err::SliceError;
-use ep_base::err::{LenError, ipv4, linux_sll, macsec};
+use ep_base::err::{LenError, ipv4, linux_sll, macsec, tcp};
 use ep_link::Ethernet2Header;
 use ep_transport::UdpHeader;
 use std::test::Fail;
@@ -19,27 +24,32 @@ const FRAME: [u8; 50] = [
 /// The UDP payload of the frame.
 const PAYLOAD: [u8; 8] = [1, 2, 3, 4, 5, 6, 7, 8];
 
-fn udp_payload<'a>(packet: &SlicedPacket<'a>) -> &'a [u8] {
-    match &packet.transport {
-        Some(TransportSlice::Udp(datagram)) => datagram.payload(),
-        None => &[],
+/// The payload of the transport layer in an Ethernet II frame.
+fn transport_payload(frame: &[u8]) -> Option<&[u8]>
+    ensures { IfSome result (λ payload. (layers : Layers) × IsFrame ethernet frame.now layers
+        × (transport : TransportLayer) × (layers.transport ≡ Some transport)
+        × (payload.now ≡ payload_of transport)) }
+{
+    let Ok(packet) = SlicedPacket::from_ethernet(frame) else {
+        return None;
+    };
+    match packet.transport {
+        Some(transport) => Some(transport.payload()),
+        None => None,
     }
 }
 
 #[test]
 fn entries(rt: HostRuntime) -> Result<(), Fail> {
+    assert_eq!(rt; transport_payload(&FRAME), Some(PAYLOAD.as_slice()));
     let packet = SlicedPacket::from_ethernet(&FRAME)?;
-    assert_eq!(rt; udp_payload(&packet), PAYLOAD.as_slice());
-    assert!(rt; matches!(packet.link, Some(LinkSlice::Ethernet2(_))));
-    assert!(rt; !packet.is_ip_payload_fragmented());
     let ip_payload = packet.ip_payload().ok_or("the net layer is IPv4")?;
     assert_eq!(rt; ip_payload.ip_number, IpNumber::UDP);
     assert_eq!(rt; ip_payload.payload.len(), 16);
     let packet = SlicedPacket::from_ether_type(EtherType::IPV4, &FRAME[14..])?;
-    assert_eq!(rt; udp_payload(&packet), PAYLOAD.as_slice());
+    assert!(rt; packet.transport.is_some());
     let packet = SlicedPacket::from_ether_type(EtherType::IPV6, &FRAME[14..])?;
     assert!(rt; packet.net.is_none());
-    assert!(rt; packet.ip_payload().is_none());
     Ok(())
 }
 
@@ -91,6 +101,10 @@ fn texts(rt: HostRuntime) -> Result<(), Fail> {
         (
             SliceError::Macsec(macsec::HeaderError::UnexpectedVersion),
             "UnexpectedVersion",
+        ),
+        (
+            SliceError::Tcp(tcp::HeaderError::DataOffsetTooSmall { data_offset: 4 }),
+            "DataOffsetTooSmall 4",
         ),
     ];
     for (error, text) in texts {

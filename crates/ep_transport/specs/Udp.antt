@@ -1,8 +1,9 @@
 -- UDP (RFC 768).
-use Rattle.std.specs.Prelude.{◌≡◌, ℕ, ◌+◌, ◌<◌, ◌≤◌, ◌^◌, ◌⊎◌, List, [], ◌++◌, length}
+use Rattle.std.specs.Prelude.{◌≡◌, ℕ, ◌+◌, ◌<◌, ◌^◌, ◌⊎◌, ◌&&◌, nat_lt, List, [], ◌∷◌, ◌++◌, length, drop, Bool}
 use Rattle.std.specs.Int.{w16, to_be_bytes}
 use Rattle.ep_base.specs.Bytes.{word_at}
 use Rattle.ep_base.specs.Layer.{len_error}
+use Rattle.ep_base.specs.Tables.{Refuses, Parts}
 use Rattle.ep_base.specs.declared.err.len_error.LenError.{LenError}
 use Rattle.ep_base.specs.declared.err.layer.Layer.TheVariants as layer
 use Rattle.ep_base.specs.declared.len_source.LenSource.TheVariants as source
@@ -21,28 +22,19 @@ udp_bytes header =
     to_be_bytes w16 header.source_port ++ to_be_bytes w16 header.destination_port
     ++ to_be_bytes w16 header.length ++ to_be_bytes w16 header.checksum
 
+-- ---- the header alone
+
 -- the bytes are a header, and then the rest
-pub record IsUdpHeader (bytes : List ℕ) (header : UdpHeader) (rest : List ℕ) : Type 0 where
-  pub fits : FitsUdp header
-  pub parts : bytes ≡ udp_bytes header ++ rest
+pub record IsUdpHeader (bytes : List ℕ) (read : UdpHeader × List ℕ) : Type 0 where
+  pub fits : FitsUdp read.0
+  pub parts : bytes ≡ udp_bytes read.0 ++ read.1
 
 -- why bytes begin with no header
+abbrev pub udp_header_rows : List ℕ → List (Bool × LenError)
+udp_header_rows bytes = (nat_lt (length bytes) 8, len_error 8 (length bytes) source.Slice layer.UdpHeader) ∷ []
+
 abbrev pub RefusesUdpHeader : List ℕ → LenError → Type 0
-RefusesUdpHeader bytes error =
-    (length bytes < 8) × (error ≡ len_error 8 (length bytes) source.Slice layer.UdpHeader)
-
--- The bytes are a datagram and what its length field leaves behind it. The number 0 leaves nothing.
-pub record IsUdp (bytes : List ℕ) (header : UdpHeader) (payload left : List ℕ) : Type 0 where
-  pub fits : FitsUdp header
-  pub parts : bytes ≡ (udp_bytes header ++ payload) ++ left
-  pub cut : (header.length ≡ 8 + length payload) ⊎ ((header.length ≡ 0) × (left ≡ []))
-
--- why bytes begin with no datagram
-abbrev pub RefusesUdp : List ℕ → LenError → Type 0
-RefusesUdp bytes error =
-    RefusesUdpHeader bytes error
-    ⊎ ((8 ≤ length bytes) × (0 < word_at bytes 4) × (word_at bytes 4 < 8) × (error ≡ len_error 8 (word_at bytes 4) source.UdpHeaderLen layer.UdpHeader))
-    ⊎ ((8 ≤ length bytes) × (8 ≤ word_at bytes 4) × (length bytes < word_at bytes 4) × (error ≡ len_error (word_at bytes 4) (length bytes) source.Slice layer.UdpPayload))
+RefusesUdpHeader bytes = Refuses (udp_header_rows bytes)
 
 -- the header that stands at the front of 8 bytes and more
 abbrev pub udp_header_of : List ℕ → UdpHeader
@@ -52,3 +44,28 @@ udp_header_of bytes = record {
   length = word_at bytes 4;
   checksum = word_at bytes 6;
 }
+
+-- ---- datagrams
+
+-- The bytes are a datagram and what its length field leaves behind it. The number 0 leaves nothing.
+pub record IsUdp (bytes : List ℕ) (datagram : Parts UdpHeader) : Type 0 where
+  pub fits : FitsUdp datagram.header
+  pub parts : bytes ≡ (udp_bytes datagram.header ++ datagram.payload) ++ datagram.left
+  pub cut : (datagram.header.length ≡ 8 + length datagram.payload)
+      ⊎ ((datagram.header.length ≡ 0) × (datagram.left ≡ []))
+
+-- why bytes begin with no datagram
+abbrev pub udp_rows : List ℕ → List (Bool × LenError)
+udp_rows bytes =
+    let field = word_at bytes 4 in
+    (nat_lt (length bytes) 8, len_error 8 (length bytes) source.Slice layer.UdpHeader)
+    ∷ (nat_lt 0 field && nat_lt field 8, len_error 8 field source.UdpHeaderLen layer.UdpHeader)
+    ∷ (nat_lt (length bytes) field, len_error field (length bytes) source.Slice layer.UdpPayload)
+    ∷ []
+
+abbrev pub RefusesUdp : List ℕ → LenError → Type 0
+RefusesUdp bytes = Refuses (udp_rows bytes)
+
+-- the datagram that bytes are, and what its cut left
+abbrev pub udp_parts : List ℕ → List ℕ → Parts UdpHeader
+udp_parts bytes left = record { header = udp_header_of bytes; payload = drop 8 bytes; left = left }

@@ -1,10 +1,76 @@
-//! The transport layer of a sliced packet.
+//! The transport layer of an IP payload.
 
 use crate::udp_slice::UdpSlice;
+use ep_base::IpNumber;
+use ep_base::err::tcp;
 
-/// The transport layer of a sliced packet.
+/// The transport layer of an IP payload, in a slice.
 #[derive(Clone, Debug, PartialEq, Eq, Drop)]
 pub enum TransportSlice<'a> {
     /// A UDP datagram.
     Udp(UdpSlice<'a>),
+}
+
+impl<'a> TransportSlice<'a> {
+    ghost use Rattle.std.specs.Prelude.{◌≡◌, ◌++◌, IfOk, IfErr, IfSome, IsOkAnd, List, ℕ, Option};
+    ghost use Rattle.std.specs.Option.{option_map};
+    ghost use Rattle.ep_base.specs.Layer.{slices};
+    ghost use Rattle.ep_transport.specs.TransportParts.{TransportLayer, IsTransportPart, RefusesTransportPart, transport_layer_of, transport_slice_bytes, transport_payload, transport_header_len};
+
+    /// The transport layer at the front of an IP payload of this protocol number. There is none in a fragment, nor
+    /// where the number is none whose header is read.
+    pub fn from_ip_number(
+        number: IpNumber,
+        fragmented: bool,
+        slice: &'a [u8],
+    ) -> Result<Option<TransportSlice<'a>>, tcp::HeaderSliceError>
+        ensures ok { IfOk result (λ part.
+            IsTransportPart slices number.0 fragmented slice.now (option_map transport_layer_of part)) }
+        ensures only { (part : Option TransportLayer) → IsTransportPart slices number.0 fragmented slice.now part
+            → IsOkAnd result (λ shown. option_map transport_layer_of shown ≡ part) }
+        ensures bytes { IfOk result (λ part. IfSome part (λ shown.
+            (left : List ℕ) × (slice.now ≡ transport_slice_bytes shown ++ left))) }
+        ensures err { IfErr result (RefusesTransportPart slices number.0 fragmented slice.now) }
+    {
+        if fragmented {
+            return Ok(None);
+        }
+        if number == IpNumber::UDP {
+            return match UdpSlice::from_slice(slice) {
+                Ok(datagram) => Ok(Some(TransportSlice::Udp(datagram))),
+                Err(error) => Err(tcp::HeaderSliceError::Len(error)),
+            };
+        }
+        Ok(None)
+    }
+
+    /// The bytes of header and payload.
+    #[inline]
+    pub fn slice(&self) -> &'a [u8]
+        ensures { result.now ≡ transport_slice_bytes self.now }
+    {
+        match self {
+            TransportSlice::Udp(datagram) => datagram.slice(),
+        }
+    }
+
+    /// The bytes behind the header.
+    #[inline]
+    pub fn payload(&self) -> &'a [u8]
+        ensures { result.now ≡ transport_payload (transport_layer_of self.now) }
+    {
+        match self {
+            TransportSlice::Udp(datagram) => datagram.payload(),
+        }
+    }
+
+    /// The number of bytes of the header.
+    #[inline]
+    pub fn header_len(&self) -> usize
+        ensures { result ≡ transport_header_len (transport_layer_of self.now) }
+    {
+        match self {
+            TransportSlice::Udp(datagram) => datagram.header_len(),
+        }
+    }
 }

@@ -1,10 +1,15 @@
 //! The header of UDP (RFC 768).
 
-ghost use Rattle.std.specs.Prelude.{◌≡◌, ◌++◌, IfOk, IfErr, OnOk, OnErr, IsOkAnd, List, ℕ};
+ghost use Rattle.std.specs.Prelude.{◌≡◌, ◌%◌, ◌<◌, ◌≤◌, ◌++◌, IfOk, IfErr, OnOk, OnErr, IsOkAnd, MatchResult, List, ℕ, length};
+ghost use Rattle.ep_base.specs.Checksum.{ones_sum, checksum_of, no_zero};
+ghost use Rattle.ep_base.specs.declared.err.value_type.ValueType.TheVariants as value_type;
+ghost use Rattle.ep_transport.specs.PseudoHeaders.{udp_message, udp_checksum_ipv4, udp_checksum_ipv6};
 ghost use Rattle.ep_transport.specs.Udp.{udp_bytes, IsUdpHeader, RefusesUdpHeader};
 
-use ep_base::LenSource;
-use ep_base::err::{Layer, LenError};
+use crate::pseudo_header;
+use ep_base::checksum::Sum16BitWords;
+use ep_base::err::{Layer, LenError, ValueTooBigError, ValueType};
+use ep_base::{IpNumber, LenSource};
 use std::alloc::AllocError;
 
 /// The header of a UDP datagram (RFC 768): four numbers of 16 bits, 8 bytes.
@@ -27,19 +32,18 @@ impl UdpHeader {
     /// The header at the front of the slice, and the bytes behind it, whatever its length field says.
     #[inline]
     pub fn from_slice(slice: &[u8]) -> Result<(UdpHeader, &[u8]), LenError>
-        ensures ok { IfOk result (λ read. IsUdpHeader slice.now read.0 read.1.now) }
-        ensures only { (header : UdpHeader) (rest : List ℕ) → IsUdpHeader slice.now header rest
+        ensures ok { IfOk result (λ read. IsUdpHeader slice.now (read.0, read.1.now)) }
+        ensures only { (header : UdpHeader) (rest : List ℕ) → IsUdpHeader slice.now (header, rest)
             → IsOkAnd result (λ read. (read.0 ≡ header) × (read.1.now ≡ rest)) }
         ensures err { IfErr result (RefusesUdpHeader slice.now) }
     {
         if slice.len() < UdpHeader::LEN {
-            return Err(LenError {
-                required_len: UdpHeader::LEN,
-                len: slice.len(),
-                len_source: LenSource::Slice,
-                layer: Layer::UdpHeader,
-                layer_start_offset: 0,
-            });
+            return Err(LenError::at_start(
+                UdpHeader::LEN,
+                slice.len(),
+                LenSource::Slice,
+                Layer::UdpHeader,
+            ));
         }
         let header = UdpHeader {
             source_port: u16::from_be_bytes([slice[0], slice[1]]),
@@ -85,5 +89,76 @@ impl UdpHeader {
         ensures err { OnErr result (buf.new.items ≡ buf.old.items) }
     {
         buf.extend_from_slice(&self.to_bytes())
+    }
+
+    /// The checksum over IPv4, with these addresses, whatever checksum the header holds. A payload above 65527 bytes is
+    /// refused.
+    pub fn calc_checksum_ipv4_raw(
+        &self,
+        source: [u8; 4],
+        destination: [u8; 4],
+        payload: &[u8],
+    ) -> Result<u16, ValueTooBigError<usize>>
+        ensures { MatchResult result
+            (λ sum. (length payload.now ≤ 65527) × (sum ≡ udp_checksum_ipv4 source destination self.now payload.now))
+            (λ error. (65527 < length payload.now) × (error ≡ record {
+              actual = length payload.now;
+              max_allowed = 65527;
+              value_type = value_type.UdpPayloadLengthIpv4;
+            })) }
+    {
+        const MAX_PAYLOAD_LEN: usize = 65527;
+        if payload.len() > MAX_PAYLOAD_LEN {
+            return Err(ValueTooBigError {
+                actual: payload.len(),
+                max_allowed: MAX_PAYLOAD_LEN,
+                value_type: ValueType::UdpPayloadLengthIpv4,
+            });
+        }
+        let sum = pseudo_header::sum_ipv4(source, destination, IpNumber::UDP, self.length);
+        Ok(self.checksum_behind(&sum, payload))
+    }
+
+    /// The checksum over IPv6, with these addresses, whatever checksum the header holds. A payload above 4294967287
+    /// bytes is refused.
+    pub fn calc_checksum_ipv6_raw(
+        &self,
+        source: [u8; 16],
+        destination: [u8; 16],
+        payload: &[u8],
+    ) -> Result<u16, ValueTooBigError<usize>>
+        ensures { MatchResult result
+            (λ sum. (length payload.now ≤ 4294967287)
+            × (sum ≡ udp_checksum_ipv6 source destination self.now payload.now))
+            (λ error. (4294967287 < length payload.now) × (error ≡ record {
+              actual = length payload.now;
+              max_allowed = 4294967287;
+              value_type = value_type.UdpPayloadLengthIpv6;
+            })) }
+    {
+        const MAX_PAYLOAD_LEN: usize = 4294967287;
+        if payload.len() > MAX_PAYLOAD_LEN {
+            return Err(ValueTooBigError {
+                actual: payload.len(),
+                max_allowed: MAX_PAYLOAD_LEN,
+                value_type: ValueType::UdpPayloadLengthIpv6,
+            });
+        }
+        let sum = pseudo_header::sum_ipv6(source, destination, IpNumber::UDP, self.length as u32);
+        Ok(self.checksum_behind(&sum, payload))
+    }
+
+    /// The checksum of header and payload behind a pseudo header of this sum.
+    fn checksum_behind(&self, pseudo_header: &Sum16BitWords, payload: &[u8]) -> u16
+        ensures { (front : List ℕ) → length front % 2 ≡ 0 → pseudo_header.now ≡ ones_sum front
+            → result ≡ no_zero (checksum_of (front ++ udp_message self.now payload.now)) }
+    {
+        pseudo_header
+            .add_2bytes(self.source_port.to_be_bytes())
+            .add_2bytes(self.destination_port.to_be_bytes())
+            .add_2bytes(self.length.to_be_bytes())
+            .add_2bytes([0, 0])
+            .add_slice(payload)
+            .ones_complement_with_no_zero()
     }
 }

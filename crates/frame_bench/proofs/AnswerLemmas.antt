@@ -7,12 +7,11 @@ use Rattle.hex.specs.declared.error.FromHexError.{FromHexError}
 use Rattle.hex.proofs.HexLemmas.{decode_of-ok, decode_of-same}
 use Rattle.frame_bench.specs.Answers.{AreAnswers, IsAnswer, IsAnswered}
 use Rattle.ep_base.specs.Bytes.{AreBytes}
-use Rattle.ep_packet.specs.Decided.{IsExactlyOne}
+use Rattle.ep_base.specs.Tables.{IsDecided}
 use Rattle.ep_packet.specs.Frame.{IsFrame}
-use Rattle.ep_packet.specs.Layers.{Entry as FrameEntry, Layers}
-use Rattle.ep_packet.specs.declared.err.slice_error.SliceError.{SliceError}
+use Rattle.ep_packet.specs.Layers.{Entry as FrameEntry}
 use Rattle.ep_packet.specs.Refusals.{RefusesFrame}
-use Rattle.frame_bench.specs.Replies.{IsReply, frame_entry, layers_text, refusal_text}
+use Rattle.frame_bench.specs.Replies.{IsReply, IsSliceReply, frame_entry, layers_text, refusal_text}
 use Rattle.frame_bench.specs.Lines.{line_feed, lines_of, space}
 use Rattle.frame_bench.specs.Requests.{Asks, IsHex, entry_word}
 use Rattle.frame_bench.specs.declared.requests.Entry.{Entry}
@@ -21,31 +20,35 @@ use Rattle.frame_bench.specs.declared.requests.Request.{Request}
 use Rattle.frame_bench.specs.declared.requests.Request.TheVariants.{Slice}
 use Rattle.frame_bench.proofs.RequestLemmas.{asked_again}
 
--- a request has one reply
-pub record IsReplied (request : Request) (bytes : List ℕ) : Type 0 where
-  pub some : (answer : List ℕ) × IsReply request bytes answer
-  pub one : (answer other : List ℕ) → IsReply request bytes answer → IsReply request bytes other → answer ≡ other
+-- behind some lines, a request has one reply
+pub record IsReplied (before : List (List ℕ)) (request : Request) (bytes : List ℕ) : Type 0 where
+  pub some : (answer : List ℕ) × IsReply before request bytes answer
+  pub one : (answer other : List ℕ) → IsReply before request bytes answer → IsReply before request bytes other
+      → answer ≡ other
 
 -- the reply is the text of the one value or error
-one_reply : (entry : FrameEntry) (bytes : List ℕ) → IsExactlyOne (IsFrame entry bytes) (RefusesFrame entry bytes) → (reply other : List ℕ)
-    → ((layers : Layers) × IsFrame entry bytes layers × (reply ≡ layers_text layers)) ⊎ ((error : SliceError) × RefusesFrame entry bytes error × (reply ≡ refusal_text error))
-    → ((layers : Layers) × IsFrame entry bytes layers × (other ≡ layers_text layers)) ⊎ ((error : SliceError) × RefusesFrame entry bytes error × (other ≡ refusal_text error))
-    → reply ≡ other
-one_reply entry bytes frame reply other (inl x) (inl y) = x.2 ∙ ap layers_text (frame.one_value x.0 y.0 x.1 y.1) ∙ sym y.2
+one_reply : (entry : Entry) (bytes : List ℕ)
+    → IsDecided (IsFrame (frame_entry entry) bytes) (RefusesFrame (frame_entry entry) bytes)
+    → (reply other : List ℕ) → IsSliceReply entry bytes reply → IsSliceReply entry bytes other → reply ≡ other
+one_reply entry bytes frame reply other (inl x) (inl y) =
+    x.2 ∙ ap layers_text (frame.one_value x.0 y.0 x.1 y.1) ∙ sym y.2
 one_reply entry bytes frame reply other (inl x) (inr y) = absurd (frame.not_both x.0 y.0 x.1 y.1)
 one_reply entry bytes frame reply other (inr x) (inl y) = absurd (frame.not_both y.0 x.0 y.1 x.1)
-one_reply entry bytes frame reply other (inr x) (inr y) = x.2 ∙ ap refusal_text (frame.one_error x.0 y.0 x.1 y.1) ∙ sym y.2
+one_reply entry bytes frame reply other (inr x) (inr y) =
+    x.2 ∙ ap refusal_text (frame.one_error x.0 y.0 x.1 y.1) ∙ sym y.2
 
 -- bytes that are one frame, or refused with one error, have one reply
-pub IsReplied-frame : (request : Request) (bytes : List ℕ) → ((entry : FrameEntry) → IsExactlyOne (IsFrame entry bytes) (RefusesFrame entry bytes)) → IsReplied request bytes
-IsReplied-frame (Slice entry) bytes decided =
+pub IsReplied-frame : (before : List (List ℕ)) (request : Request) (bytes : List ℕ)
+    → ((entry : FrameEntry) → IsDecided (IsFrame entry bytes) (RefusesFrame entry bytes))
+    → IsReplied before request bytes
+IsReplied-frame before (Slice entry) bytes decided =
     let frame = decided (frame_entry entry) in record {
       some =
           elim frame.some [
             | inl layers ↦ (layers_text layers.0, inl (layers.0, layers.1, refl))
             | inr error ↦ (refusal_text error.0, inr (error.0, error.1, refl))
           ];
-      one = λ reply other x y. one_reply (frame_entry entry) bytes frame reply other x y;
+      one = λ reply other x y. one_reply entry bytes frame reply other x y;
     }
 
 -- a text begins with a word or does not
@@ -75,7 +78,8 @@ dash_cases (x ∷ y ∷ text) = inr (λ e. cc e)
 -- a text that is not `-` says bytes or does not
 digits_cases : (text : List ℕ) (decoded : Result (List ℕ) FromHexError) → text ≢ codes "-" → decode_of text ≡ decoded
     → ((bytes : List ℕ) × IsHex text bytes) ⊎ ((bytes : List ℕ) → IsHex text bytes → ⊥)
-digits_cases [] decoded other is = inr (λ bytes. λ h. elim h [ inl dash ↦ other dash.0 | inr digits ↦ absurd (omega (arith, digits.0)) ])
+digits_cases [] decoded other is =
+    inr (λ bytes. λ h. elim h [ inl dash ↦ other dash.0 | inr digits ↦ absurd (omega (arith, digits.0)) ])
 digits_cases (x ∷ text) (Ok bytes) other is = inl (bytes, inr (omega arith, is))
 digits_cases (x ∷ text) (Err error) other is =
     inr (λ bytes. λ h. elim h [ inl dash ↦ other dash.0 | inr digits ↦ (cc (digits.1, is)) ])
@@ -105,7 +109,8 @@ abbrev slice_front : Entry → List ℕ
 slice_front entry = codes "slice" ++ space ∷ (entry_word entry ++ space ∷ [])
 
 -- the front of such a line, and what follows it
-front_of : (line rest : List ℕ) (entry : Entry) → line ≡ codes "slice" ++ space ∷ (entry_word entry ++ space ∷ rest) → line ≡ slice_front entry ++ rest
+front_of : (line rest : List ℕ) (entry : Entry) → line ≡ codes "slice" ++ space ∷ (entry_word entry ++ space ∷ rest)
+    → line ≡ slice_front entry ++ rest
 front_of line rest Ethernet parts = parts
 front_of line rest LinuxSll parts = parts
 
@@ -114,23 +119,32 @@ no_ask : (line : List ℕ) → ((entry : Entry) (rest : List ℕ) → line ≢ s
     → (request : Request) (bytes : List ℕ) → Asks line request bytes → ⊥
 no_ask line other (Slice entry) bytes asks = other entry asks.0 (front_of line asks.0 entry asks.1)
 
+-- a line asks something, or it asks nothing
+abbrev AsksOrNot : List ℕ → Type 0
+AsksOrNot line =
+    ((request : Request) × (bytes : List ℕ) × Asks line request bytes)
+    ⊎ ((request : Request) (bytes : List ℕ) → Asks line request bytes → ⊥)
+
 -- a line that begins with an entry's words asks something or nothing
 ask_behind : (line rest : List ℕ) (entry : Entry) → line ≡ codes "slice" ++ space ∷ (entry_word entry ++ space ∷ rest)
-    → ((request : Request) × (bytes : List ℕ) × Asks line request bytes) ⊎ ((request : Request) (bytes : List ℕ) → Asks line request bytes → ⊥)
+    → AsksOrNot line
 ask_behind line rest entry parts =
     elim (hex_cases rest) [
       | inl said ↦ inl (Slice entry, said.0, (rest, parts, said.1))
-      | inr none ↦ inr (λ request bytes asks. none bytes (asked_again line (entry_word entry ++ space ∷ rest) rest entry parts refl request bytes asks).1)
+      | inr none ↦
+          let again = asked_again line (entry_word entry ++ space ∷ rest) rest entry parts refl in
+          inr (λ request bytes asks. none bytes (again request bytes asks).1)
     ]
 
 -- and with no entry's words, where it begins with neither
-no_entry : (line : List ℕ) → ((rest : List ℕ) → line ≢ slice_front Ethernet ++ rest) → ((rest : List ℕ) → line ≢ slice_front LinuxSll ++ rest)
+no_entry : (line : List ℕ) → ((rest : List ℕ) → line ≢ slice_front Ethernet ++ rest)
+    → ((rest : List ℕ) → line ≢ slice_front LinuxSll ++ rest)
     → (entry : Entry) (rest : List ℕ) → line ≢ slice_front entry ++ rest
 no_entry line no_ethernet no_linux_sll Ethernet = no_ethernet
 no_entry line no_ethernet no_linux_sll LinuxSll = no_linux_sll
 
 -- a line asks something or nothing
-ask_cases : (line : List ℕ) → ((request : Request) × (bytes : List ℕ) × Asks line request bytes) ⊎ ((request : Request) (bytes : List ℕ) → Asks line request bytes → ⊥)
+ask_cases : (line : List ℕ) → AsksOrNot line
 ask_cases line =
     elim (front_cases (slice_front Ethernet) line) [
       | inl found ↦ ask_behind line found.0 Ethernet found.1
@@ -150,43 +164,50 @@ ask_one line (Slice entry) s a b x y =
     let again = asked_again line (entry_word entry ++ space ∷ x.0) x.0 entry x.1 refl s b y in
     (again.0, hex_one x.0 a b x.2 again.1)
 
-module _ (replied : (request : Request) (bytes : List ℕ) → AreBytes bytes → IsReplied request bytes) where
+module _ (replied : (before : List (List ℕ)) (request : Request) (bytes : List ℕ) → AreBytes bytes
+    → IsReplied before request bytes) where
   -- a line has an answer
-  answer_some : (line : List ℕ) → (answer : List ℕ) × IsAnswer line answer
-  answer_some line =
+  answer_some : (before : List (List ℕ)) (line : List ℕ) → (answer : List ℕ) × IsAnswer before line answer
+  answer_some before line =
       elim (ask_cases line) [
         | inl asked ↦
-            let reply = (replied asked.0 asked.1 (ask_bytes line asked.0 asked.1 asked.2)).some in
+            let reply = (replied before asked.0 asked.1 (ask_bytes line asked.0 asked.1 asked.2)).some in
             (reply.0, inl (asked.0, asked.1, asked.2, reply.1))
         | inr none ↦ (codes "err line", inr (none, refl))
       ]
 
   -- a line has no other answer
-  answer_one : (line a b : List ℕ) → IsAnswer line a → IsAnswer line b → a ≡ b
-  answer_one line a b (inl x) (inl y) =
+  answer_one : (before : List (List ℕ)) (line a b : List ℕ) → IsAnswer before line a → IsAnswer before line b → a ≡ b
+  answer_one before line a b (inl x) (inl y) =
       let same = ask_one line x.0 y.0 x.1 y.1 x.2 y.2 in
-      let reply = subst (λ (r : Request). IsReply r x.1 b) (sym same.0) (subst (λ (t : List ℕ). IsReply y.0 t b) (sym same.1) y.3) in
-      (replied x.0 x.1 (ask_bytes line x.0 x.1 x.2)).one a b x.3 reply
-  answer_one line a b (inl x) (inr y) = absurd (y.0 x.0 x.1 x.2)
-  answer_one line a b (inr x) (inl y) = absurd (x.0 y.0 y.1 y.2)
-  answer_one line a b (inr x) (inr y) = x.1 ∙ sym y.1
+      let reply =
+      subst (λ (r : Request). IsReply before r x.1 b) (sym same.0)
+      (subst (λ (t : List ℕ). IsReply before y.0 t b) (sym same.1) y.3) in
+      (replied before x.0 x.1 (ask_bytes line x.0 x.1 x.2)).one a b x.3 reply
+  answer_one before line a b (inl x) (inr y) = absurd (y.0 x.0 x.1 x.2)
+  answer_one before line a b (inr x) (inl y) = absurd (x.0 y.0 y.1 y.2)
+  answer_one before line a b (inr x) (inr y) = x.1 ∙ sym y.1
 
   -- lines have answers
-  answers_some : (lines : List (List ℕ)) → (text : List ℕ) × AreAnswers lines text
-  answers_some [] = ([], refl)
-  answers_some (line ∷ lines) =
-      let first = answer_some line in
-      let rest = answers_some lines in
+  answers_some : (before lines : List (List ℕ)) → (text : List ℕ) × AreAnswers before lines text
+  answers_some before [] = ([], refl)
+  answers_some before (line ∷ lines) =
+      let first = answer_some before line in
+      let rest = answers_some (before ++ (line ∷ [])) lines in
       (first.0 ++ line_feed ∷ rest.0, (first.0, rest.0, first.1, refl, rest.1))
 
   -- lines have no other answers
-  answers_one : (lines : List (List ℕ)) (a b : List ℕ) → AreAnswers lines a → AreAnswers lines b → a ≡ b
-  answers_one [] a b x y = x ∙ sym y
-  answers_one (line ∷ lines) a b x y =
-      let first = answer_one line x.0 y.0 x.2 y.2 in
-      let rest = answers_one lines x.1 y.1 x.4 y.4 in
+  answers_one : (before lines : List (List ℕ)) (a b : List ℕ) → AreAnswers before lines a → AreAnswers before lines b
+      → a ≡ b
+  answers_one before [] a b x y = x ∙ sym y
+  answers_one before (line ∷ lines) a b x y =
+      let first = answer_one before line x.0 y.0 x.2 y.2 in
+      let rest = answers_one (before ++ (line ∷ [])) lines x.1 y.1 x.4 y.4 in
       x.3 ∙ rw (first, rest) (sym y.3)
 
   -- an input has one output
-  pub answered : (input : List ℕ) → IsAnswered input
-  answered input = record { some = answers_some (lines_of input); one = answers_one (lines_of input) }
+  pub answered : (before : List (List ℕ)) (input : List ℕ) → IsAnswered before input
+  answered before input = record {
+    some = answers_some before (lines_of input);
+    one = answers_one before (lines_of input);
+  }

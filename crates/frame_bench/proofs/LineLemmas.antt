@@ -8,11 +8,13 @@ not_ended : (byte : ℕ) → byte ≢ line_feed → (byte == line_feed) ≡ fals
 not_ended byte other = grind (arith)
 
 -- a byte that ends no line stands in the first line
-pub lines_of-onto_first : (byte : ℕ) (rest : List ℕ) → byte ≢ line_feed → lines_of (byte ∷ rest) ≡ onto_first byte (lines_of rest)
+pub lines_of-onto_first : (byte : ℕ) (rest : List ℕ) → byte ≢ line_feed
+    → lines_of (byte ∷ rest) ≡ onto_first byte (lines_of rest)
 lines_of-onto_first byte rest other = rw (not_ended byte other) refl
 
 -- a line feed ends the line in front of it
-pub lines_of-ended : (line rest : List ℕ) → IsWithinLine line → lines_of (line ++ line_feed ∷ rest) ≡ line ∷ lines_of rest
+pub lines_of-ended : (line rest : List ℕ) → IsWithinLine line
+    → lines_of (line ++ line_feed ∷ rest) ≡ line ∷ lines_of rest
 lines_of-ended [] rest within = refl
 lines_of-ended (byte ∷ line) rest within =
     let other : byte ≢ line_feed = All-head (λ x. x ≢ line_feed) byte line within in
@@ -20,7 +22,8 @@ lines_of-ended (byte ∷ line) rest within =
     lines_of-onto_first byte (line ++ line_feed ∷ rest) other ∙ ap (onto_first byte) (lines_of-ended line rest tail)
 
 -- a text that isn't empty and has no line feed is one line
-pub lines_of-within : (byte : ℕ) (line : List ℕ) → IsWithinLine (byte ∷ line) → lines_of (byte ∷ line) ≡ (byte ∷ line) ∷ []
+pub lines_of-within : (byte : ℕ) (line : List ℕ) → IsWithinLine (byte ∷ line)
+    → lines_of (byte ∷ line) ≡ (byte ∷ line) ∷ []
 lines_of-within byte [] within = lines_of-onto_first byte [] (All-head (λ x. x ≢ line_feed) byte [] within)
 lines_of-within byte (next ∷ line) within =
     let other : byte ≢ line_feed = All-head (λ x. x ≢ line_feed) byte (next ∷ line) within in

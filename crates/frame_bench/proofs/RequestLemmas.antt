@@ -19,7 +19,8 @@ behind_word text word rest None parts refused =
     (tt, λ r e. refused r (append_cancel_left word rest (space ∷ r) (sym parts ∙ e)))
 
 -- a text begins with the word of one entry
-same_entry : (entry other : Entry) (text rest : List ℕ) → entry_word entry ++ space ∷ text ≡ entry_word other ++ space ∷ rest
+same_entry : (entry other : Entry) (text rest : List ℕ)
+    → entry_word entry ++ space ∷ text ≡ entry_word other ++ space ∷ rest
     → (entry ≡ other) × (text ≡ rest)
 same_entry Ethernet Ethernet text rest same = (refl, append_cancel_left (codes "eth" ++ space ∷ []) text rest same)
 same_entry LinuxSll LinuxSll text rest same = (refl, append_cancel_left (codes "sll" ++ space ∷ []) text rest same)
@@ -29,10 +30,12 @@ same_entry LinuxSll Ethernet text rest same =
     let head : 115 ≡ 101 = ap (λ t. get_or t 0 0) same in absurd (omega (arith, head))
 
 -- a line that begins with these words asks nothing else
-pub asked_again : (line rest text : List ℕ) (entry : Entry) → line ≡ codes "slice" ++ space ∷ rest → rest ≡ entry_word entry ++ space ∷ text
+pub asked_again : (line rest text : List ℕ) (entry : Entry) → line ≡ codes "slice" ++ space ∷ rest
+    → rest ≡ entry_word entry ++ space ∷ text
     → (request : Request) (said : List ℕ) → Asks line request said → (Slice entry ≡ request) × IsHex text said
 asked_again line rest text entry slice word (Slice other) said (again, parts, is) =
     let same = same_entry entry other text again
-    (append_cancel_left (codes "slice" ++ space ∷ []) (entry_word entry ++ space ∷ text) (entry_word other ++ space ∷ again)
+    (append_cancel_left (codes "slice" ++ space ∷ []) (entry_word entry ++ space ∷ text)
+    (entry_word other ++ space ∷ again)
     (ap (λ t. codes "slice" ++ space ∷ t) (sym word) ∙ sym slice ∙ parts)) in
     (ap (λ (e : Entry). Slice e) same.0, rw (same.1) is)

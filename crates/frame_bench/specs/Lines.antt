@@ -14,7 +14,7 @@ abbrev pub onto_first : ℕ → List (List ℕ) → List (List ℕ)
 onto_first byte [] = (byte ∷ []) ∷ []
 onto_first byte (line ∷ lines) = (byte ∷ line) ∷ lines
 
--- the lines of a text, without the line feed that ends each; a last one that no line feed ends counts if it is not empty
+-- the lines of a text, without the line feed that ends each; a last one that no line feed ends counts if it isn't empty
 abbrev pub lines_of : List ℕ → List (List ℕ)
 lines_of [] = []
 lines_of (byte ∷ rest) = if byte == line_feed then [] ∷ lines_of rest else onto_first byte (lines_of rest)

@@ -9,9 +9,10 @@ use Rattle.ep_base.specs.declared.err.linux_sll.HeaderError.TheVariants as linux
 use Rattle.ep_base.specs.declared.err.macsec.HeaderError.TheVariants as macsec_error
 use Rattle.ep_link.specs.LinkExtensions.{LinkExtension, vlan, macsec}
 use Rattle.ep_link.specs.LinkSlices.{LinkLayer, ethernet2, linux_sll as sll, ether_payload, linux_sll_payload}
-use Rattle.ep_transport.specs.TransportSlices.{TransportLayer, udp}
+use Rattle.ep_transport.specs.TransportParts.{TransportLayer, udp}
+use Rattle.ep_base.specs.declared.err.tcp.HeaderError.TheVariants as tcp_error
 use Rattle.ep_packet.specs.declared.err.slice_error.SliceError.{SliceError}
-use Rattle.ep_packet.specs.declared.err.slice_error.SliceError.TheVariants.{Len, LinuxSll, Macsec, Ipv4, Ipv4Exts}
+use Rattle.ep_packet.specs.declared.err.slice_error.SliceError.TheVariants.{Len, LinuxSll, Macsec, Ipv4, Ipv4Exts, Tcp}
 use Rattle.ep_packet.specs.Frame.{IsFrame}
 use Rattle.ep_packet.specs.FrameBytes.{last_payload}
 use Rattle.ep_packet.specs.Layers.{Entry as FrameEntry, ethernet, linux_sll, Layers, NetLayer, ipv4, arp}
@@ -85,16 +86,26 @@ abbrev pub refusal_text : SliceError → List ℕ
 refusal_text (Len error) =
     words (codes "err" ∷ codes "len" ∷ decimal error.required_len ∷ decimal error.len ∷ len_source_name error.len_source
     ∷ layer_name error.layer ∷ decimal error.layer_start_offset ∷ [])
-refusal_text (LinuxSll (linux_sll_error.UnsupportedPacketTypeField number)) = words (codes "err" ∷ codes "sll-packet-type" ∷ decimal number ∷ [])
-refusal_text (LinuxSll (linux_sll_error.UnsupportedArpHardwareId number)) = words (codes "err" ∷ codes "sll-arp-hardware" ∷ decimal number ∷ [])
+refusal_text (LinuxSll (linux_sll_error.UnsupportedPacketTypeField number)) =
+    words (codes "err" ∷ codes "sll-packet-type" ∷ decimal number ∷ [])
+refusal_text (LinuxSll (linux_sll_error.UnsupportedArpHardwareId number)) =
+    words (codes "err" ∷ codes "sll-arp-hardware" ∷ decimal number ∷ [])
 refusal_text (Macsec macsec_error.UnexpectedVersion) = words (codes "err" ∷ codes "macsec-version" ∷ [])
 refusal_text (Macsec macsec_error.InvalidUnmodifiedShortLen) = words (codes "err" ∷ codes "macsec-short-length" ∷ [])
-refusal_text (Ipv4 (ipv4_error.UnexpectedVersion version)) = words (codes "err" ∷ codes "ipv4-version" ∷ decimal version ∷ [])
-refusal_text (Ipv4 (ipv4_error.HeaderLengthSmallerThanHeader ihl)) = words (codes "err" ∷ codes "ipv4-ihl" ∷ decimal ihl ∷ [])
+refusal_text (Ipv4 (ipv4_error.UnexpectedVersion version)) =
+    words (codes "err" ∷ codes "ipv4-version" ∷ decimal version ∷ [])
+refusal_text (Ipv4 (ipv4_error.HeaderLengthSmallerThanHeader ihl)) =
+    words (codes "err" ∷ codes "ipv4-ihl" ∷ decimal ihl ∷ [])
 refusal_text (Ipv4Exts auth_error.ZeroPayloadLen) = words (codes "err" ∷ codes "ipv4-auth-zero" ∷ [])
+refusal_text (Tcp (tcp_error.DataOffsetTooSmall data_offset)) =
+    words (codes "err" ∷ codes "tcp-data-offset" ∷ decimal data_offset ∷ [])
 
--- the reply to a request about these bytes: the layers of the frame that they are, or why they are none
-abbrev pub IsReply : Request → List ℕ → List ℕ → Type 0
-IsReply (Slice entry) bytes reply =
+-- the reply about bytes from an entry on: the layers of the frame that they are, or why they are none
+abbrev pub IsSliceReply : Entry → List ℕ → List ℕ → Type 0
+IsSliceReply entry bytes reply =
     ((layers : Layers) × IsFrame (frame_entry entry) bytes layers × (reply ≡ layers_text layers))
     ⊎ ((error : SliceError) × RefusesFrame (frame_entry entry) bytes error × (reply ≡ refusal_text error))
+
+-- the reply to a request about these bytes, behind some lines, of which a frame's layers need none
+abbrev pub IsReply : List (List ℕ) → Request → List ℕ → List ℕ → Type 0
+IsReply before (Slice entry) bytes reply = IsSliceReply entry bytes reply

@@ -1,5 +1,5 @@
--- The texts of errors.
-use Rattle.std.specs.Prelude.{ℕ, List, codes}
+-- How the program ends, and the texts of errors.
+use Rattle.std.specs.Prelude.{ℕ, List, Option, Some, None, Result, Ok, Err, codes}
 use Rattle.frame_bench.specs.declared.run_error.RunError.{RunError}
 use Rattle.frame_bench.specs.declared.run_error.RunError.TheVariants.{Read, Write, OutOfMemory}
 
@@ -8,3 +8,13 @@ abbrev pub run_error_text : RunError → List ℕ
 run_error_text Read = codes "frame_bench: read failed"
 run_error_text Write = codes "frame_bench: write failed"
 run_error_text OutOfMemory = codes "frame_bench: out of memory"
+
+-- the status that the program ends with: 0 after a whole run, and 1 after an error
+abbrev pub status_of : {T : Type 0} → Result T RunError → ℕ
+status_of (Ok done) = 0
+status_of (Err error) = 1
+
+-- what it says on standard error: the text of an error, and nothing after a whole run
+abbrev pub complaint_of : {T : Type 0} → Result T RunError → Option (List ℕ)
+complaint_of (Ok done) = None
+complaint_of (Err error) = Some (run_error_text error)

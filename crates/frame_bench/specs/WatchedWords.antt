@@ -23,6 +23,10 @@ is_at_end watched = watched.at_end
 abbrev pub has_ended : {T : Type 0} → Watched T → Bool
 has_ended watched = is_at_end watched || (reads_left watched == 0)
 
+-- the reads that may still be made, and whether one came to the end, are as they were
+abbrev pub KeepsReads : {T : Type 0} → Watched T → Watched T → Type 0
+KeepsReads old new = (reads_left new ≡ reads_left old) × (is_at_end new ≡ is_at_end old)
+
 -- known bytes grow by a front of these
 abbrev pub AppendsFront : Option (List ℕ) → Option (List ℕ) → List ℕ → Type 0
 AppendsFront held holds bytes = (front rest : List ℕ) × Appends held holds front × (bytes ≡ front ++ rest)

@@ -1,11 +1,11 @@
 //! From the lines of a reader to their answers in a writer.
 
-ghost use Rattle.std.specs.Prelude.{◌≡◌, ◌⊎◌, ◌<◌, ◌∷◌, ◌++◌, ◌+◌, ◌↔◌, [], false, true, length, IfNone, IfOk, IfSome, OnErr, OnOk};
+ghost use Rattle.std.specs.Prelude.{ℕ, List, ◌≡◌, ◌⊎◌, ◌<◌, ◌∷◌, ◌++◌, ◌+◌, ◌↔◌, [], false, true, length, IfNone, IfOk, IfSome, OnErr, OnOk};
 ghost use Rattle.std.specs.Io.KnownBytes.{IsAtEnd};
-ghost use Rattle.frame_bench.specs.Answers.{AnswersTo, BeginsAnswersTo};
+ghost use Rattle.frame_bench.specs.Answers.{AnswersAfter, AnswersTo, BeginsAnswersTo};
 ghost use Rattle.frame_bench.specs.Lines.{IsWithinLine, line_feed};
 ghost use Rattle.frame_bench.specs.Streams.{Advances, BeginsAnswers, Transfers};
-ghost use Rattle.frame_bench.specs.WatchedWords.{has_ended, has_failed, inner_of, is_at_end, reads_left};
+ghost use Rattle.frame_bench.specs.WatchedWords.{KeepsReads, has_ended, has_failed, inner_of, is_at_end, reads_left};
 
 use crate::laws;
 use crate::replies::push_line;
@@ -17,11 +17,11 @@ use std::io::{Read, Write};
 /// How many bytes are read at a time, at most.
 const PIECE_LEN: usize = 65_536;
 
-/// Writes the answer to each line of the reader, in a line of its own, until the reader has ended. Neither may have failed
-/// before, nor the reader have ended.
+/// Writes the answer to each line of the reader, in a line of its own, until the reader has ended. Neither may have
+/// failed before, nor the reader have ended.
 ///
-/// The reader is read in pieces of 64 KiB, at most `u64::MAX` times, and what answers the lines that ended in a piece is
-/// written before the next is read. The first failure of a read or a write ends the run.
+/// The reader is read in pieces of 64 KiB, at most `u64::MAX` times, and what answers the lines that ended in a piece
+/// is written before the next is read. The first failure of a read or a write ends the run.
 pub fn run<R: Read, W: Write>(
     alloc: Global,
     reader: &mut Watched<R>,
@@ -32,12 +32,17 @@ pub fn run<R: Read, W: Write>(
     requires writer_sound { has_failed writer.old ≡ false }
 
     // What was written answers what was read, and at an error begins the answer to it.
-    ensures ok { OnOk result (Transfers AnswersTo R.remaining reader.old reader.new W.contents writer.old writer.new) }
-    ensures err { OnErr result (Transfers BeginsAnswersTo R.remaining reader.old reader.new W.contents writer.old writer.new) }
+    ensures ok { OnOk result (Transfers AnswersTo R.remaining reader.old reader.new
+        W.contents writer.old writer.new) }
+    ensures err { OnErr result (Transfers BeginsAnswersTo R.remaining reader.old reader.new
+        W.contents writer.old writer.new) }
 
     // All is read, but of a reader that still gives bytes after that many reads.
     ensures ended { OnOk result (has_ended reader.new ≡ true) }
     ensures whole { OnOk result (IsAtEnd (R.remaining (inner_of reader.new)) ⊎ (reads_left reader.new ≡ 0)) }
+
+    // The writer is not read.
+    ensures writer_reads { KeepsReads writer.old writer.new }
 
     // The error says which of the two failed.
     ensures read { (result ≡ Err RunError.Read) ↔ (has_failed reader.new ≡ true) }
@@ -88,7 +93,8 @@ impl Session {
     /// Takes the next piece of input, and puts together the answers to the lines that end in it.
     fn take(&mut self, piece: &[u8]) -> Result<(), AllocError>
         requires { IsWithinLine self.old.line.items }
-        ensures { OnOk result (Advances self.old.line.items piece.now self.new.output.items self.new.line.items) }
+        ensures { OnOk result ((before : List (List ℕ)) →
+            Advances before self.old.line.items piece.now self.new.output.items self.new.line.items) }
     {
         self.output.clear();
         let mut rest = piece;
@@ -105,7 +111,8 @@ impl Session {
     /// Puts together the answer to a last line that no line feed ended.
     fn finish(&mut self) -> Result<(), AllocError>
         requires { IsWithinLine self.old.line.items }
-        ensures { OnOk result (AnswersTo self.old.line.items self.new.output.items) }
+        ensures { OnOk result ((before : List (List ℕ)) →
+            AnswersAfter before self.old.line.items self.new.output.items) }
     {
         self.output.clear();
         if !self.line.is_empty() {
@@ -117,7 +124,8 @@ impl Session {
 
 /// What stands in front of the first line feed, and behind it.
 fn split_line(text: &[u8]) -> Option<(&[u8], &[u8])>
-    ensures some { IfSome result (λ parts. IsWithinLine parts.0.now × (text.now ≡ parts.0.now ++ line_feed ∷ parts.1.now)) }
+    ensures some { IfSome result (λ parts. IsWithinLine parts.0.now
+        × (text.now ≡ parts.0.now ++ line_feed ∷ parts.1.now)) }
     ensures none { IfNone result (IsWithinLine text.now) }
 {
     let end = text.iter().position(|byte| *byte == b'\n')?;
@@ -136,8 +144,12 @@ fn step<R: Read, W: Write>(
     requires reader_open { has_ended reader.old ≡ false }
     requires writer_sound { has_failed writer.old ≡ false }
     requires room { 0 < length piece.old }
-    ensures ok { OnOk result (Transfers (λ read written. Advances session.old.line.items read written session.new.line.items) R.remaining reader.old reader.new W.contents writer.old writer.new) }
-    ensures err { OnErr result (Transfers (BeginsAnswers session.old.line.items) R.remaining reader.old reader.new W.contents writer.old writer.new) }
+    ensures ok { OnOk result ((before : List (List ℕ)) → Transfers
+        (λ read written. Advances before session.old.line.items read written session.new.line.items)
+        R.remaining reader.old reader.new W.contents writer.old writer.new) }
+    ensures err { OnErr result ((before : List (List ℕ)) → Transfers (BeginsAnswers before session.old.line.items)
+        R.remaining reader.old reader.new W.contents writer.old writer.new) }
+    ensures writer_reads { KeepsReads writer.old writer.new }
     ensures counted { reads_left reader.old ≡ reads_left reader.new + 1 }
     ensures end { is_at_end reader.new ≡ true → IsAtEnd (R.remaining (inner_of reader.new)) }
     ensures read { (result ≡ Err RunError.Read) ↔ (has_failed reader.new ≡ true) }

@@ -30,14 +30,9 @@ pub fn push(output: &mut Vec<u8>, bytes: &[u8]) -> Result<(), AllocError>
         return Ok(output.push(b'-')?);
     }
     let start = output.len();
-    let Some(end) = bytes
-        .len()
-        .checked_mul(2)
-        .and_then(|len| len.checked_add(start))
-    else {
-        return Err(AllocError);
-    };
-    output.resize(end, 0)?;
+    let len = 2 * bytes.len();
+    output.reserve(len)?;
+    output.resize(start + len, 0)?;
     hex::encode_to_slice(bytes, &mut output.as_mut_slice()[start..]).unwrap();
     Ok(())
 }

@@ -3,9 +3,9 @@
 ghost use Rattle.std.specs.Prelude.{ℕ, List};
 ghost use Rattle.frame_bench.specs.Answers.{IsAnswered};
 
-/// An input has an output, and one only. It follows from the law of frames.
+/// Behind any lines, an input has an output, and one only. It follows from the law of frames.
 pub fn answers()
-    ensures { (input : List ℕ) → IsAnswered input }
+    ensures { (before : List (List ℕ)) (input : List ℕ) → IsAnswered before input }
 {
     ep_packet::laws::frames();
 }

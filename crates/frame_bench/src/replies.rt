@@ -9,9 +9,10 @@ use crate::requests::{Request, parse};
 use crate::slicing::push_slice;
 use std::alloc::AllocError;
 
-/// Appends the answer to a line, and a line feed. What `bytes` holds is overwritten.
+/// Appends the answer to a line behind any others, and a line feed. What `bytes` holds is overwritten.
 pub fn push_line(output: &mut Vec<u8>, line: &[u8], bytes: &mut Vec<u8>) -> Result<(), AllocError>
-    ensures { OnOk result ((answer : List ℕ) × IsAnswer line.now answer × (output.new.items ≡ output.old.items ++ (answer ++ line_feed ∷ []))) }
+    ensures { OnOk result ((before : List (List ℕ)) → (answer : List ℕ) × IsAnswer before line.now answer
+        × (output.new.items ≡ output.old.items ++ (answer ++ line_feed ∷ []))) }
 {
     push_answer(output, line, bytes)?;
     output.push(b'\n')?;
@@ -20,7 +21,8 @@ pub fn push_line(output: &mut Vec<u8>, line: &[u8], bytes: &mut Vec<u8>) -> Resu
 
 /// Appends the answer to a line.
 fn push_answer(output: &mut Vec<u8>, line: &[u8], bytes: &mut Vec<u8>) -> Result<(), AllocError>
-    ensures { OnOk result ((answer : List ℕ) × IsAnswer line.now answer × (output.new.items ≡ output.old.items ++ answer)) }
+    ensures { OnOk result ((before : List (List ℕ)) → (answer : List ℕ) × IsAnswer before line.now answer
+        × (output.new.items ≡ output.old.items ++ answer)) }
 {
     match parse(line, bytes)? {
         Some(request) => push_reply(output, request, bytes.as_slice()),
@@ -30,7 +32,8 @@ fn push_answer(output: &mut Vec<u8>, line: &[u8], bytes: &mut Vec<u8>) -> Result
 
 /// Appends the reply to a request.
 fn push_reply(output: &mut Vec<u8>, request: Request, bytes: &[u8]) -> Result<(), AllocError>
-    ensures { OnOk result ((reply : List ℕ) × IsReply request bytes.now reply × (output.new.items ≡ output.old.items ++ reply)) }
+    ensures { OnOk result ((before : List (List ℕ)) → (reply : List ℕ) × IsReply before request bytes.now reply
+        × (output.new.items ≡ output.old.items ++ reply)) }
 {
     match request {
         Request::Slice(entry) => push_slice(output, entry, bytes),

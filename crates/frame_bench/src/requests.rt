@@ -28,7 +28,8 @@ pub enum Request {
 /// What a line asks, where it does. The bytes that it says are then left in `bytes`.
 pub fn parse(line: &[u8], bytes: &mut Vec<u8>) -> Result<Option<Request>, AllocError>
     ensures some { IfOk result (λ found. IfSome found (λ request. Asks line.now request bytes.new.items)) }
-    ensures none { IfOk result (λ found. IfNone found ((request : Request) (said : List ℕ) → Asks line.now request said → ⊥)) }
+    ensures none { IfOk result (λ found. IfNone found
+        ((request : Request) (said : List ℕ) → Asks line.now request said → ⊥)) }
 {
     let Some(rest) = behind(line, b"slice") else {
         return Ok(None);

@@ -8,13 +8,12 @@ ghost use Rattle.ep_packet.specs.Frame.{IsFrame};
 ghost use Rattle.ep_packet.specs.FrameBytes.{last_payload, link_payload, payload_behind};
 ghost use Rattle.ep_packet.specs.Layers.{layers_of, net_layer_of};
 ghost use Rattle.ep_packet.specs.Refusals.{RefusesFrame};
-ghost use Rattle.ep_transport.specs.TransportSlices.{transport_layer_of};
-ghost use Rattle.frame_bench.specs.Replies.{IsReply, frame_entry, extension_text, extensions_word, layers_text, link_word, net_word, refusal_text, transport_word};
-ghost use Rattle.frame_bench.specs.declared.requests.Request.TheVariants.{Slice};
+ghost use Rattle.ep_transport.specs.TransportParts.{transport_layer_of};
+ghost use Rattle.frame_bench.specs.Replies.{IsSliceReply, frame_entry, extension_text, extensions_word, layers_text, link_word, net_word, refusal_text, transport_word};
 
 use crate::hex_text;
 use crate::requests::Entry;
-use ep_base::err::{LenError, ip_auth, ipv4, linux_sll, macsec};
+use ep_base::err::{LenError, ip_auth, ipv4, linux_sll, macsec, tcp};
 use ep_link::{LinkExtSlice, LinkSlice};
 use ep_packet::err::SliceError;
 use ep_packet::{NetSlice, SlicedPacket};
@@ -24,7 +23,8 @@ use std::io::Write;
 
 /// Appends the text of the frame's layers, or why the bytes are no frame.
 pub fn push_slice(output: &mut Vec<u8>, entry: Entry, bytes: &[u8]) -> Result<(), AllocError>
-    ensures { OnOk result ((reply : List ℕ) × IsReply (Slice entry) bytes.now reply × (output.new.items ≡ output.old.items ++ reply)) }
+    ensures { OnOk result ((reply : List ℕ) × IsSliceReply entry bytes.now reply
+        × (output.new.items ≡ output.old.items ++ reply)) }
 {
     match slice_at(entry, bytes) {
         Ok(packet) => push_layers(output, &packet),
@@ -69,7 +69,8 @@ fn link_word(link: &Option<LinkSlice<'_>>) -> &'static str
 
 /// Appends the link extensions with a comma between two, or `-` for none.
 fn push_extensions(output: &mut Vec<u8>, extensions: &[LinkExtSlice<'_>]) -> Result<(), AllocError>
-    ensures { OnOk result (output.new.items ≡ output.old.items ++ extensions_word (map link_extension_of extensions.now)) }
+    ensures { OnOk result (output.new.items
+        ≡ output.old.items ++ extensions_word (map link_extension_of extensions.now)) }
 {
     let Some((first, others)) = extensions.split_first() else {
         return output.extend_from_slice(b"-");
@@ -132,7 +133,8 @@ fn innermost_payload<'a>(packet: &SlicedPacket<'a>) -> &'a [u8]
 
 /// The bytes behind the last link extension, or else behind the link header.
 fn open_payload<'a>(packet: &SlicedPacket<'a>) -> &'a [u8]
-    ensures { let layers = layers_of packet.now in result.now ≡ payload_behind (link_payload layers.link) layers.link_exts }
+    ensures { let layers = layers_of packet.now in
+        result.now ≡ payload_behind (link_payload layers.link) layers.link_exts }
 {
     if let Some(extension) = packet.link_exts.last() {
         return extension.payload_slice();
@@ -168,6 +170,9 @@ fn push_refusal(output: &mut Vec<u8>, error: &SliceError) -> Result<(), AllocErr
         }
         SliceError::Ipv4Exts(ip_auth::HeaderError::ZeroPayloadLen) => {
             output.extend_from_slice(b"err ipv4-auth-zero")
+        }
+        SliceError::Tcp(tcp::HeaderError::DataOffsetTooSmall { data_offset }) => {
+            write!(output, "err tcp-data-offset {data_offset}").map_err(|_| AllocError)
         }
     }
 }

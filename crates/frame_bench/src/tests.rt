@@ -1,17 +1,18 @@
 //! What no contract says: answers from outside, and readers and writers that move little or fail.
 
+ghost use Rattle.std.specs.Prelude.{◌≤◌, IfOk};
+
 use crate::engine::run;
-use crate::laws;
 use crate::run_error::RunError;
 use crate::watched::Watched;
 use std::alloc::Global;
 use std::io;
-use std::io::{Read, Write};
+use std::io::{ErrorKind, Read, Write};
 use std::process::Abort;
 use std::test::Fail;
 
 /// Lines and their answers.
-const ROWS: [(&str, &str); 56] = [
+const ROWS: [(&str, &str); 58] = [
     // The whole frame, and with padding behind the packet.
     (
         "slice eth 0708090a0b0c010203040506080045000024000040001411e375c0a80101c0a80102001504d20010677f0102030405060708",
@@ -195,8 +196,19 @@ const ROWS: [(&str, &str); 56] = [
     ("slice sll  -", "err line"),
     ("slice ether -", "err line"),
     ("slice ip -", "err line"),
+    // A carriage return before the line feed.
+    ("slice eth -\r", "err line"),
+    ("slice eth 0708090A0B0C0102030405061234\r", "err line"),
     ("frag eth 1 0 -", "err line"),
     ("drop 3", "err line"),
+];
+
+/// Texts whose lines are empty or do not end, and their answers.
+const TEXTS: [(&str, &str); 4] = [
+    ("", ""),
+    ("\n", "err line\n"),
+    ("\n\nslice", "err line\nerr line\nerr line\n"),
+    ("slice eth -", "err len 14 0 Slice Ethernet2Header 0\n"),
 ];
 
 /// Runs over memory, and compares what is written.
@@ -204,7 +216,6 @@ fn assert_answers(rt: &impl Abort, alloc: Global, input: &[u8], wanted: &[u8]) -
     let mut output = Vec::new(alloc);
     let mut reader = Watched::new(input);
     let mut writer = Watched::new(&mut output);
-    assert!(rt; !reader.failed() && !reader.ended() && !writer.failed());
     run(alloc, &mut reader, &mut writer)?;
     assert!(rt; reader.ended() && !reader.failed() && !writer.failed());
     assert_eq!(rt; output.as_slice(), wanted);
@@ -224,23 +235,12 @@ fn all_rows(alloc: Global) -> Result<(Vec<u8>, Vec<u8>), Fail> {
 
 #[test]
 fn answers_each_row(rt: HostRuntime) -> Result<(), Fail> {
-    laws::answers();
     let (input, wanted) = all_rows(rt.alloc())?;
     assert_answers(&rt, rt.alloc(), input.as_slice(), wanted.as_slice())?;
-    assert_answers(&rt, rt.alloc(), b"", b"")?;
-    assert_answers(&rt, rt.alloc(), b"\n", b"err line\n")?;
-    assert_answers(
-        &rt,
-        rt.alloc(),
-        b"\n\nslice",
-        b"err line\nerr line\nerr line\n",
-    )?;
-    assert_answers(
-        &rt,
-        rt.alloc(),
-        b"slice eth -",
-        b"err len 14 0 Slice Ethernet2Header 0\n",
-    )
+    for (input, wanted) in TEXTS {
+        assert_answers(&rt, rt.alloc(), input.as_bytes(), wanted.as_bytes())?;
+    }
+    Ok(())
 }
 
 /// The layers that a frame has to have, by the bytes that are there: up to so many, so many are needed for the layer at this
@@ -336,49 +336,87 @@ fn refuses_each_cut(rt: HostRuntime) -> Result<(), Fail> {
     Ok(())
 }
 
-/// A reader or a writer that moves one byte a call, and fails once it moved so many.
+#[test]
+fn answers_long_lines(rt: HostRuntime) -> Result<(), Fail> {
+    // Three lines of more than 240,000 digits, each over four pieces, behind lines that end in CR LF.
+    let digits = vec![in rt.alloc(); b'a'; 240_000]?;
+    let mut input = Vec::new(rt.alloc());
+    let mut wanted = Vec::new(rt.alloc());
+    for entry in ["eth", "sll", "ip"] {
+        writeln!(input, "slice {entry} -\r")?;
+        write!(input, "slice {entry} 00000001000000000000000000001234")?;
+        input.extend_from_slice(digits.as_slice())?;
+        input.push(b'\n')?;
+    }
+    wanted.extend_from_slice(b"err line\nok eth - - - 1234")?;
+    wanted.extend_from_slice(digits.as_slice())?;
+    wanted.extend_from_slice(b"\nerr line\nok sll - - - ")?;
+    wanted.extend_from_slice(digits.as_slice())?;
+    wanted.extend_from_slice(b"\nerr line\nerr line\n")?;
+    assert_answers(&rt, rt.alloc(), input.as_slice(), wanted.as_slice())
+}
+
+/// What a call of a reader or a writer does.
+#[derive(Clone, Copy)]
+enum Turn {
+    /// It moves so many bytes, or as many as there are and have room.
+    Moves(usize),
+    /// It fails.
+    Fails(ErrorKind),
+}
+
+/// The turns of a reader or a writer, of which the last one comes again and again.
 #[derive(Drop)]
-struct Slow {
-    bytes: Vec<u8>,
-    moved: usize,
-    fails_at: usize,
+struct Turns {
+    turns: &'static [Turn],
+    calls: usize,
 }
 
-impl Slow {
-    fn new(bytes: Vec<u8>, fails_at: usize) -> Slow {
-        Slow {
-            bytes,
-            moved: 0,
-            fails_at,
+impl Turns {
+    /// How many bytes the next call moves, of so many.
+    fn next(&mut self, len: usize) -> io::Result<usize>
+        ensures { IfOk result (λ count. count ≤ len) }
+    {
+        let last = self.turns.len().saturating_sub(1);
+        let turn = self.turns.get(self.calls.min(last));
+        self.calls = self.calls.saturating_add(1);
+        match turn {
+            Some(Turn::Moves(most)) => Ok(len.min(*most)),
+            Some(Turn::Fails(kind)) => Err((*kind).into()),
+            None => Ok(0),
         }
     }
 }
 
-impl Read for Slow {
+/// A reader that goes by turns.
+#[derive(Drop)]
+struct Source<'a> {
+    rest: &'a [u8],
+    turns: Turns,
+}
+
+impl Read for Source<'_> {
     fn read(&mut self, piece: &mut [u8]) -> io::Result<usize> {
-        if self.moved >= self.fails_at {
-            return Err(io::Error::other("no more"));
-        }
-        if self.moved >= self.bytes.len() || piece.is_empty() {
-            return Ok(0);
-        }
-        piece[0] = self.bytes[self.moved];
-        self.moved += 1;
-        Ok(1)
+        let count = self.turns.next(self.rest.len().min(piece.len()))?;
+        let (front, rest) = self.rest.split_at(count);
+        piece[..count].copy_from_slice(front);
+        self.rest = rest;
+        Ok(count)
     }
 }
 
-impl Write for Slow {
+/// A writer that goes by turns.
+#[derive(Drop)]
+struct Target {
+    bytes: Vec<u8>,
+    turns: Turns,
+}
+
+impl Write for Target {
     fn write(&mut self, part: &[u8]) -> io::Result<usize> {
-        if self.moved >= self.fails_at {
-            return Ok(0);
-        }
-        if part.is_empty() {
-            return Ok(0);
-        }
-        self.bytes.push(part[0])?;
-        self.moved = self.bytes.len();
-        Ok(1)
+        let count = self.turns.next(part.len())?;
+        self.bytes.extend_from_slice(&part[..count])?;
+        Ok(count)
     }
 
     fn flush(&mut self) -> io::Result<()> {
@@ -386,32 +424,192 @@ impl Write for Slow {
     }
 }
 
+/// A reader and a writer by their turns, why their run ends, how often each is called, and how much is written.
+#[derive(Drop)]
+struct Streams {
+    reading: &'static [Turn],
+    writing: &'static [Turn],
+    error: Option<RunError>,
+    calls: (usize, usize),
+    written: usize,
+}
+
+/// Runs between the two, and compares the result, the calls and what is written.
+fn assert_streams(
+    rt: &impl Abort,
+    alloc: Global,
+    streams: &Streams,
+    input: &[u8],
+    wanted: &[u8],
+) -> Result<(), Fail> {
+    let mut source = Source {
+        rest: input,
+        turns: Turns {
+            turns: streams.reading,
+            calls: 0,
+        },
+    };
+    let mut target = Target {
+        bytes: Vec::new(alloc),
+        turns: Turns {
+            turns: streams.writing,
+            calls: 0,
+        },
+    };
+    let mut reader = Watched::new(&mut source);
+    let mut writer = Watched::new(&mut target);
+    let error = run(alloc, &mut reader, &mut writer).err();
+    assert_eq!(rt; error, streams.error);
+    assert_eq!(rt; (source.turns.calls, target.turns.calls), streams.calls);
+    assert!(rt; streams.written <= wanted.len());
+    assert_eq!(rt; target.bytes.as_slice(), &wanted[..streams.written]);
+    Ok(())
+}
+
+/// Each call moves all that is there.
+const WHOLE: &[Turn] = &[Turn::Moves(usize::MAX)];
+
+/// Each call moves one byte.
+const SINGLE: &[Turn] = &[Turn::Moves(1)];
+
+/// Three lines, the last without its line feed.
+const LINES: &[u8] = b"a\nslice eth -\nb";
+
+/// Their answers.
+const ANSWERS: &[u8] = b"err line\nerr len 14 0 Slice Ethernet2Header 0\nerr line\n";
+
+/// Readers and writers of these lines and answers.
+const STREAMS: [Streams; 13] = [
+    Streams {
+        reading: WHOLE,
+        writing: WHOLE,
+        error: None,
+        calls: (2, 2),
+        written: 55,
+    },
+    Streams {
+        reading: WHOLE,
+        writing: SINGLE,
+        error: None,
+        calls: (2, 55),
+        written: 55,
+    },
+    Streams {
+        reading: SINGLE,
+        writing: WHOLE,
+        error: None,
+        calls: (16, 3),
+        written: 55,
+    },
+    // A reader that fails for good, once at its first call, and once in its midst.
+    Streams {
+        reading: &[Turn::Fails(ErrorKind::Other)],
+        writing: WHOLE,
+        error: Some(RunError::Read),
+        calls: (1, 0),
+        written: 0,
+    },
+    Streams {
+        reading: &[Turn::Fails(ErrorKind::Interrupted), Turn::Moves(usize::MAX)],
+        writing: WHOLE,
+        error: Some(RunError::Read),
+        calls: (1, 0),
+        written: 0,
+    },
+    Streams {
+        reading: &[
+            Turn::Moves(14),
+            Turn::Fails(ErrorKind::WouldBlock),
+            Turn::Moves(usize::MAX),
+        ],
+        writing: WHOLE,
+        error: Some(RunError::Read),
+        calls: (2, 1),
+        written: 46,
+    },
+    // A reader that gives nothing once, at its first call and before the end of a line.
+    Streams {
+        reading: &[Turn::Moves(0), Turn::Moves(usize::MAX)],
+        writing: WHOLE,
+        error: None,
+        calls: (1, 0),
+        written: 0,
+    },
+    Streams {
+        reading: &[Turn::Moves(13), Turn::Moves(0), Turn::Moves(usize::MAX)],
+        writing: WHOLE,
+        error: None,
+        calls: (2, 2),
+        written: 46,
+    },
+    // A writer that fails for good, once at its first call, in its midst, and at the last line.
+    Streams {
+        reading: WHOLE,
+        writing: &[Turn::Fails(ErrorKind::Other)],
+        error: Some(RunError::Write),
+        calls: (1, 1),
+        written: 0,
+    },
+    Streams {
+        reading: WHOLE,
+        writing: &[Turn::Fails(ErrorKind::Interrupted), Turn::Moves(usize::MAX)],
+        error: Some(RunError::Write),
+        calls: (1, 1),
+        written: 0,
+    },
+    Streams {
+        reading: WHOLE,
+        writing: &[
+            Turn::Moves(20),
+            Turn::Fails(ErrorKind::WouldBlock),
+            Turn::Moves(usize::MAX),
+        ],
+        error: Some(RunError::Write),
+        calls: (1, 2),
+        written: 20,
+    },
+    Streams {
+        reading: WHOLE,
+        writing: &[
+            Turn::Moves(46),
+            Turn::Fails(ErrorKind::Other),
+            Turn::Moves(usize::MAX),
+        ],
+        error: Some(RunError::Write),
+        calls: (2, 2),
+        written: 46,
+    },
+    // A writer that takes nothing once.
+    Streams {
+        reading: WHOLE,
+        writing: &[Turn::Moves(45), Turn::Moves(0), Turn::Moves(usize::MAX)],
+        error: Some(RunError::Write),
+        calls: (1, 2),
+        written: 45,
+    },
+];
+
 #[test]
 fn moves_little_or_fails(rt: HostRuntime) -> Result<(), Fail> {
-    let (input, wanted) = all_rows(rt.alloc())?;
-    let all = usize::MAX;
-    // How much is read and written before a failure, what is answered, and how much was written.
-    let cases = [
-        (all, all, Ok(()), wanted.len()),
-        (0, all, Err(RunError::Read), 0),
-        (300, all, Err(RunError::Read), 70),
-        (all, 0, Err(RunError::Write), 0),
-        (all, 50, Err(RunError::Write), 50),
-    ];
-    for (read, written, result, front) in cases {
-        let mut source = Slow::new(input.clone()?, read);
-        let mut target = Slow::new(Vec::new(rt.alloc()), written);
-        let mut reader = Watched::new(&mut source);
-        let mut writer = Watched::new(&mut target);
-        let answer = run(rt.alloc(), &mut reader, &mut writer);
-        assert_eq!(rt; answer, result);
-        assert_eq!(rt; reader.failed(), answer == Err(RunError::Read));
-        assert_eq!(rt; writer.failed(), answer == Err(RunError::Write));
-        assert_eq!(rt; reader.ended(), answer.is_ok());
-        assert!(rt; front <= wanted.len());
-        assert_eq!(rt; target.bytes.as_slice(), &wanted[..front]);
+    for streams in &STREAMS {
+        assert_streams(&rt, rt.alloc(), streams, LINES, ANSWERS)?;
     }
-    Ok(())
+    // Each row, a byte at a time.
+    let (input, wanted) = all_rows(rt.alloc())?;
+    let streams = Streams {
+        reading: SINGLE,
+        writing: SINGLE,
+        error: None,
+        calls: (input.len().saturating_add(1), wanted.len()),
+        written: wanted.len(),
+    };
+    assert_streams(
+        &rt,
+        rt.alloc(),
+        &streams,
+        input.as_slice(),
+        wanted.as_slice(),
+    )
 }
 
 #[test]

@@ -1,8 +1,8 @@
 //! A reader or a writer that remembers how its calls went.
 
-ghost use Rattle.std.specs.Prelude.{◌≡◌, ◌==◌, ◌+◌, ◌-◌, ◌^◌, ◌<◌, ◌≤◌, length, true, false, is_err, IfOk, IfErr, OnOk, OnErr};
+ghost use Rattle.std.specs.Prelude.{◌≡◌, ◌==◌, ◌+◌, ◌-◌, ◌^◌, ◌<◌, ◌≤◌, length, true, false, is_err, IfOk, IfErr, MatchResult, OnOk, OnErr};
 ghost use Rattle.std.specs.Io.KnownBytes.{Appends, IsAtEnd, ReadConsumes, WriteAppends};
-ghost use Rattle.frame_bench.specs.WatchedWords.{AppendsFront, has_ended, has_failed, inner_of, is_at_end, reads_left};
+ghost use Rattle.frame_bench.specs.WatchedWords.{AppendsFront, KeepsReads, has_ended, has_failed, inner_of, is_at_end, reads_left};
 
 use crate::run_error::RunError;
 use std::io::{Read, Write};
@@ -57,10 +57,12 @@ impl<R: Read> Watched<R> {
         requires open { has_ended self.old ≡ false }
         requires room { 0 < length piece.old }
         ensures bound { IfOk result (λ count. count ≤ length piece.new) }
-        ensures bytes { ReadConsumes (R.remaining (inner_of self.old)) (R.remaining (inner_of self.new)) result piece.new }
+        ensures bytes { ReadConsumes (R.remaining (inner_of self.old)) (R.remaining (inner_of self.new)) result
+            piece.new }
         ensures failed { has_failed self.new ≡ is_err result }
         ensures error { IfErr result (λ error. error ≡ RunError.Read) }
-        ensures at_end { IfOk result (λ count. is_at_end self.new ≡ (count == 0)) }
+        ensures at_end { MatchResult result (λ count. is_at_end self.new ≡ (count == 0))
+            (λ _. is_at_end self.new ≡ false) }
         ensures end { is_at_end self.new ≡ true → IsAtEnd (R.remaining (inner_of self.new)) }
         ensures counted { reads_left self.old ≡ reads_left self.new + 1 }
     {
@@ -84,7 +86,9 @@ impl<W: Write> Watched<W> {
         requires sound { has_failed self.old ≡ false }
         requires some { 0 < length part.now }
         ensures count { IfOk result (λ count. (0 < count) × (count ≤ length part.now)) }
-        ensures bytes { WriteAppends (W.contents (inner_of self.old)) (W.contents (inner_of self.new)) result part.now }
+        ensures bytes { WriteAppends (W.contents (inner_of self.old)) (W.contents (inner_of self.new)) result
+            part.now }
+        ensures reads { KeepsReads self.old self.new }
         ensures failed { has_failed self.new ≡ is_err result }
         ensures error { IfErr result (λ error. error ≡ RunError.Write) }
     {
@@ -100,8 +104,11 @@ impl<W: Write> Watched<W> {
     /// Writes all bytes, in as many writes as it takes. At an error a front of them was written.
     pub(crate) fn write_all(&mut self, bytes: &[u8]) -> Result<(), RunError>
         requires { has_failed self.old ≡ false }
-        ensures all { OnOk result (Appends (W.contents (inner_of self.old)) (W.contents (inner_of self.new)) bytes.now) }
-        ensures front { OnErr result (AppendsFront (W.contents (inner_of self.old)) (W.contents (inner_of self.new)) bytes.now) }
+        ensures all { OnOk result (Appends (W.contents (inner_of self.old)) (W.contents (inner_of self.new))
+            bytes.now) }
+        ensures front { OnErr result (AppendsFront (W.contents (inner_of self.old)) (W.contents (inner_of self.new))
+            bytes.now) }
+        ensures reads { KeepsReads self.old self.new }
         ensures failed { has_failed self.new ≡ is_err result }
         ensures error { IfErr result (λ error. error ≡ RunError.Write) }
     {

@@ -1,9 +1,8 @@
 //! The text of each error.
 
-use super::above;
 use crate::err::{
-    Layer, LenError, ValueType, ip, ip_auth, ip_exts, ipv4, ipv4_exts, ipv6, ipv6_exts, linux_sll,
-    macsec, tcp,
+    Layer, LenError, ValueTooBigError, ValueType, ip, ip_auth, ip_exts, ipv4, ipv4_exts, ipv6,
+    ipv6_exts, linux_sll, macsec, tcp,
 };
 use crate::{IpNumber, LenSource};
 use std::alloc::Global;
@@ -18,6 +17,14 @@ fn check_texts<E: Display>(rt: &impl Abort, alloc: Global, rows: &[(E, &str)]) -
         assert_eq!(rt; shown.as_str(), *text);
     }
     Ok(())
+}
+
+fn above<T>(actual: T, max_allowed: T, value_type: ValueType) -> ValueTooBigError<T> {
+    ValueTooBigError {
+        actual,
+        max_allowed,
+        value_type,
+    }
 }
 
 fn len_error() -> LenError {
@@ -299,6 +306,30 @@ fn texts_of_walk_errors(rt: HostRuntime) -> Result<(), Fail> {
                 }),
                 "ExtNotReferenced 44",
             ),
+        ],
+    )?;
+    check_texts(
+        &rt,
+        rt.alloc(),
+        &[
+            (
+                ipv4_exts::HeaderWriteError::Content(ipv4_exts::ExtsWalkError::ExtNotReferenced {
+                    missing_ext: IpNumber::AUTHENTICATION_HEADER,
+                }),
+                "ExtNotReferenced 51",
+            ),
+            (ipv4_exts::HeaderWriteError::OutOfMemory, "out of memory"),
+        ],
+    )?;
+    check_texts(
+        &rt,
+        rt.alloc(),
+        &[
+            (
+                ipv6_exts::HeaderWriteError::Content(ipv6_exts::ExtsWalkError::HopByHopNotAtStart),
+                "HopByHopNotAtStart",
+            ),
+            (ipv6_exts::HeaderWriteError::OutOfMemory, "out of memory"),
         ],
     )
 }

@@ -1,102 +1,76 @@
 //! Tags between the link header and the net layer.
 
-use crate::{
-    EtherPayloadSlice, EtherType, LenSource, LinkExtHeader, LinkExtSlice, MacsecSlice,
-    SingleVlanHeader, SingleVlanSlice, VlanId, VlanPcp,
-};
+use crate::err::macsec::{HeaderError, HeaderSliceError};
+use crate::{EtherType, Layer, LenError, LenSource, LinkExtSlice};
 use std::test::Fail;
 
 /// A VLAN tag, and 2 bytes of IPv4.
 const VLAN: &[u8] = b"\xa1\x23\x08\x00\x45\x00";
 
-/// A MACsec tag of an unmodified payload of 3 bytes, whose short length leaves the last 2 bytes.
-const UNMODIFIED: &[u8] = b"\x00\x05\x00\x00\x00\x01\x81\x00\x00\x01\x81\xaa\xbb";
+/// A MACsec tag with secure channel identifier, of an unmodified payload of 3 bytes, whose short length leaves the
+/// last 2 bytes.
+const UNMODIFIED: &[u8] =
+    b"\x20\x05\x00\x00\x00\x01\x01\x02\x03\x04\x05\x06\x07\x08\x81\x00\x00\x01\x81\xaa\xbb";
 
 /// A MACsec tag of a modified payload of 2 bytes.
 const MODIFIED: &[u8] = b"\x0c\x02\x00\x00\x00\x01\xaa\xbb";
 
 #[test]
-fn headers(rt: HostRuntime) -> Result<(), Fail> {
-    let vlan = SingleVlanSlice::from_slice(VLAN)?.to_header();
-    let unmodified = MacsecSlice::from_slice(UNMODIFIED)?.to_header();
-    let modified = MacsecSlice::from_slice(MODIFIED)?.to_header();
-    let rows: [(LinkExtHeader, &[u8], Option<EtherType>); 3] = [
-        (LinkExtHeader::Vlan(vlan), &VLAN[..4], Some(EtherType::IPV4)),
+fn shows_extensions(rt: HostRuntime) -> Result<(), Fail> {
+    let rows: [(u16, &[u8], usize, Option<EtherType>, &[u8]); 5] = [
+        (0x8100, VLAN, 4, Some(EtherType(0x0800)), b"\x45\x00"),
+        (0x88a8, VLAN, 4, Some(EtherType(0x0800)), b"\x45\x00"),
+        (0x9100, VLAN, 4, Some(EtherType(0x0800)), b"\x45\x00"),
         (
-            LinkExtHeader::Macsec(unmodified),
-            &UNMODIFIED[..8],
-            Some(EtherType::VLAN_TAGGED_FRAME),
+            0x88e5,
+            UNMODIFIED,
+            16,
+            Some(EtherType(0x8100)),
+            b"\x00\x01\x81",
         ),
-        (LinkExtHeader::Macsec(modified), &MODIFIED[..6], None),
+        (0x88e5, MODIFIED, 6, None, b"\xaa\xbb"),
     ];
-    for (header, bytes, ether_type) in &rows {
-        assert_eq!(rt; header.clone()?, *header);
-        assert_eq!(rt; header.header_len(), bytes.len());
-        assert_eq!(rt; header.next_ether_type(), *ether_type);
-        assert_eq!(rt; header.to_bytes().as_slice(), *bytes);
+    for (ether_type, bytes, header_len, next, payload) in &rows {
+        let Ok(Some(extension)) = LinkExtSlice::from_ether_type(EtherType(*ether_type), bytes)
+        else {
+            return Err("no extension".into());
+        };
+        assert_eq!(rt; extension.clone()?, extension);
+        assert_eq!(rt; extension.next_ether_type(), *next);
+        assert_eq!(rt; extension.payload_slice(), *payload);
+        let header = extension.to_header();
+        assert_eq!(rt; header.next_ether_type(), *next);
         let mut written = vec![in rt.alloc(); 7]?;
-        assert_eq!(rt; header.write(&mut written), Ok(()));
-        assert_eq!(rt; written.len(), 1 + bytes.len());
-        assert_eq!(rt; &written[1..], *bytes);
+        header.clone()?.write(&mut written)?;
+        assert!(rt; *header_len <= bytes.len());
+        let mut expected = vec![in rt.alloc(); 7]?;
+        expected.extend_from_slice(&bytes[..*header_len])?;
+        assert_eq!(rt; written, expected);
     }
-    Ok(())
-}
-
-#[test]
-fn slices(rt: HostRuntime) -> Result<(), Fail> {
-    let vlan = SingleVlanSlice::from_slice(VLAN)?;
-    let unmodified = MacsecSlice::from_slice(UNMODIFIED)?;
-    let modified = MacsecSlice::from_slice(MODIFIED)?;
-    let rows = [
-        (
-            LinkExtHeader::Vlan(vlan.to_header()),
-            LinkExtSlice::Vlan(vlan),
-            EtherPayloadSlice {
-                ether_type: EtherType::IPV4,
-                len_source: LenSource::Slice,
-                payload: &VLAN[4..],
-            },
-        ),
-        (
-            LinkExtHeader::Macsec(unmodified.to_header()),
-            LinkExtSlice::Macsec(unmodified),
-            EtherPayloadSlice {
-                ether_type: EtherType::VLAN_TAGGED_FRAME,
-                len_source: LenSource::MacsecShortLength,
-                payload: &UNMODIFIED[8..11],
-            },
-        ),
-    ];
-    for (header, extension, payload) in &rows {
-        assert_eq!(rt; extension.clone()?, *extension);
-        assert_eq!(rt; extension.header_len(), header.header_len());
-        assert_eq!(rt; extension.to_header(), *header);
-        assert_eq!(rt; extension.next_ether_type(), Some(payload.ether_type));
-        assert_eq!(rt; extension.payload_slice(), payload.payload);
-        assert_eq!(rt; extension.ether_payload().as_ref(), Some(payload));
-    }
-    let hidden = LinkExtSlice::Macsec(modified);
-    assert_eq!(rt; hidden.header_len(), 6);
-    assert_eq!(rt; hidden.next_ether_type(), None);
-    assert_eq!(rt; hidden.payload_slice(), b"\xaa\xbb".as_slice());
-    assert_eq!(rt; hidden.ether_payload(), None);
-    Ok(())
-}
-
-#[test]
-fn defaults_are_vlan_tags_of_zeros(rt: HostRuntime) {
-    let header = LinkExtHeader::default();
-    assert_eq!(rt; header.to_bytes().as_slice(), [0; 4].as_slice());
     assert_eq!(rt;
-        header,
-        LinkExtHeader::Vlan(SingleVlanHeader {
-            pcp: VlanPcp::ZERO,
-            drop_eligible_indicator: false,
-            vlan_id: VlanId::ZERO,
-            ether_type: EtherType(0),
-        })
+        LinkExtSlice::from_ether_type(EtherType(0x0800), VLAN),
+        Ok(None)
     );
-    let extension = LinkExtSlice::default();
-    assert_eq!(rt; extension.to_header(), header);
-    assert_eq!(rt; extension.payload_slice().len(), 0);
+    Ok(())
+}
+
+#[test]
+fn refuses_extensions(rt: HostRuntime) {
+    let vlan = HeaderSliceError::Len(LenError {
+        required_len: 4,
+        len: 3,
+        len_source: LenSource::Slice,
+        layer: Layer::VlanHeader,
+        layer_start_offset: 0,
+    });
+    let version = HeaderSliceError::Content(HeaderError::UnexpectedVersion);
+    for (ether_type, bytes, error) in [
+        (0x8100, &VLAN[..3], vlan),
+        (0x88e5, b"\x80\x00\x00\x00\x00\x00".as_slice(), version),
+    ] {
+        assert_eq!(rt;
+            LinkExtSlice::from_ether_type(EtherType(ether_type), bytes),
+            Err(error)
+        );
+    }
 }

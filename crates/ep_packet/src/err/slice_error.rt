@@ -1,6 +1,6 @@
 //! Why no packet could be sliced.
 
-use ep_base::err::{LenError, ip_auth, ipv4, linux_sll, macsec};
+use ep_base::err::{LenError, ip_auth, ipv4, linux_sll, macsec, tcp};
 use thiserror::Error;
 
 /// Why no packet could be sliced: the refusal of the first layer that does not stand.
@@ -21,4 +21,7 @@ pub enum SliceError {
     /// The bytes are no extension header of IPv4.
     #[error(transparent)]
     Ipv4Exts(ip_auth::HeaderError),
+    /// The bytes are no TCP header.
+    #[error(transparent)]
+    Tcp(tcp::HeaderError),
 }

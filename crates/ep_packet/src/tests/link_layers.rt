@@ -1,10 +1,10 @@
 //! Link extensions, ARP, and Linux cooked captures.
 
-use super::{FRAME, PAYLOAD, udp_payload};
+use super::{FRAME, PAYLOAD};
 use crate::err::SliceError;
 use crate::{
     EtherPayloadSlice, EtherType, Layer, LenError, LenSource, LinkExtSlice, LinkSlice,
-    MacsecPayloadSlice, NetSlice, SlicedPacket, VlanSlice,
+    MacsecPayloadSlice, NetSlice, SlicedPacket, TransportSlice, VlanSlice,
 };
 use std::alloc::{AllocError, Allocator};
 use std::test::Fail;
@@ -111,7 +111,6 @@ fn payloads_behind_extensions(rt: HostRuntime) -> Result<(), Fail> {
 
 #[test]
 fn outer_tags_and_modified_payload(rt: HostRuntime) -> Result<(), Fail> {
-    assert_eq!(rt; SlicedPacket::LINK_EXTS_CAP, 3);
     let frame = ethernet(rt.alloc(), FOUR_TAGS)?;
     let packet = SlicedPacket::from_ethernet(&frame)?;
     let Some(VlanSlice::DoubleVlan(tags)) = packet.vlan() else {
@@ -144,7 +143,10 @@ fn cooked_captures(rt: HostRuntime) -> Result<(), Fail> {
     bytes.extend_from_slice(&FRAME[14..])?;
     let packet = SlicedPacket::from_linux_sll(&bytes)?;
     assert!(rt; matches!(packet.link, Some(LinkSlice::LinuxSll(_))));
-    assert_eq!(rt; udp_payload(&packet), PAYLOAD.as_slice());
+    let Some(TransportSlice::Udp(datagram)) = &packet.transport else {
+        return Err("a datagram".into());
+    };
+    assert_eq!(rt; datagram.payload(), PAYLOAD.as_slice());
     assert_eq!(rt; packet.payload_ether_type(), None);
     let payload = EtherPayloadSlice {
         ether_type: EtherType::IPV4,
@@ -170,10 +172,6 @@ fn arp(rt: HostRuntime) -> Result<(), Fail> {
     assert!(rt; packet.transport.is_none());
     let net = packet.net.ok_or("a net layer")?;
     assert!(rt; matches!(&net, NetSlice::Arp(_)));
-    assert!(rt; net.is_arp());
-    assert!(rt; !net.is_ip());
-    assert!(rt; net.ipv4_ref().is_none());
-    assert!(rt; net.ip_payload_ref().is_none());
     let shown = net.arp_ref().ok_or("an ARP packet")?;
     assert_eq!(rt; shown.slice(), &ARP[2..]);
     Ok(())

@@ -7,4 +7,5 @@ pub returns-clause-complete : goal.returns-clause-complete
 returns-clause-complete c payload cuts all = complete_cuts payload cuts (recursion_from_All (IsCut payload) cuts all)
 
 pub returns-clause-payload : goal.returns-clause-payload
-returns-clause-payload c payload cuts all complete = assembled-cuts payload cuts (recursion_from_All (IsCut payload) cuts all) complete
+returns-clause-payload c payload cuts all complete =
+    assembled-cuts payload cuts (recursion_from_All (IsCut payload) cuts all) complete

@@ -1,10 +1,6 @@
-use Rattle.ep_ip.proofs.Ipv4Lemmas.{packet_some, packet_one_value, packet_one_error, packet_not_both}
+use Rattle.ep_base.proofs.TableLemmas.{decided}
+use Rattle.ep_ip.proofs.Ipv4Lemmas.{ipv4_is_read}
 use Rattle.ep_ip.proofs.laws.ipv4.Goals as goal
 
 pub returns : goal.returns
-returns c bytes fits = record {
-  some = packet_some bytes fits;
-  one_value = packet_one_value bytes;
-  one_error = packet_one_error bytes;
-  not_both = packet_not_both bytes;
-}
+returns c = decided ipv4_is_read

@@ -1,10 +1,6 @@
-use Rattle.ep_ip.proofs.Ipv4Lemmas.{alone_some, alone_one_value, header_one_error, alone_not_both}
+use Rattle.ep_base.proofs.TableLemmas.{decided}
+use Rattle.ep_ip.proofs.Ipv4Lemmas.{ipv4_header_is_read}
 use Rattle.ep_ip.proofs.laws.ipv4_header.Goals as goal
 
 pub returns : goal.returns
-returns c bytes fits = record {
-  some = alone_some bytes fits;
-  one_value = alone_one_value bytes;
-  one_error = header_one_error bytes;
-  not_both = alone_not_both bytes;
-}
+returns c = decided ipv4_header_is_read

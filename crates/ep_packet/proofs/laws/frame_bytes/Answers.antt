@@ -2,4 +2,18 @@ use Rattle.ep_packet.proofs.FrameBytesLemmas.{frame_in_order}
 use Rattle.ep_packet.proofs.laws.frame_bytes.Goals as goal
 
 pub returns : goal.returns
-returns c = frame_in_order
+returns c = frame_in_order (record {
+  ethernet2 = c.ethernet2.ensures;
+  linux_sll = c.linux_sll.ensures;
+  extension = record {
+    cases = c.link_extension.ensures.cases;
+    decided = c.link_extension.ensures.decided;
+    begins = c.link_extension.ensures.begins;
+    refused = c.link_extension.ensures.refused;
+    bytes = c.link_extension_bytes.ensures;
+  };
+  arp = c.arp.ensures;
+  ipv4 = c.ipv4.ensures;
+  transport = c.transport.ensures;
+  transport_bytes = c.transport_bytes.ensures;
+})

@@ -1,13 +1,22 @@
+use Rattle.ep_base.specs.Layer.{slices}
 use Rattle.ep_packet.proofs.FrameLemmas.{frames_decided}
 use Rattle.ep_packet.proofs.laws.frames.Goals as goal
 
 pub returns : goal.returns
-returns c = frames_decided (record {
-  ethernet2 = c.ethernet2.ensures;
-  linux_sll = c.linux_sll.ensures;
-  vlan = c.vlan.ensures;
-  macsec = c.macsec.ensures;
-  arp = c.arp.ensures;
-  ipv4 = c.ipv4.ensures;
-  udp = c.udp.ensures;
-})
+returns c =
+    let laws = frames_decided (record {
+      ethernet2 = c.ethernet2.ensures;
+      linux_sll = c.linux_sll.ensures;
+      extension = record {
+        cases = c.link_extension.ensures.cases;
+        decided = c.link_extension.ensures.decided;
+        begins = c.link_extension.ensures.begins;
+        refused = c.link_extension.ensures.refused;
+        bytes = c.link_extension_bytes.ensures;
+      };
+      arp = c.arp.ensures;
+      ipv4 = c.ipv4.ensures;
+      transport = c.transport.ensures;
+      transport_bytes = c.transport_bytes.ensures;
+    }) in
+    record { slices = laws slices; readings = laws }

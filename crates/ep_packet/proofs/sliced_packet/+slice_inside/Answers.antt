@@ -1,66 +1,84 @@
-use Rattle.std.proofs.Common.{rules, tests, ◌≡◌, ◌+◌, ◌-◌, ℕ, suc, List, [], ◌∷◌, ◌++◌, map, length, length-append, Option, Some, arith, inl, inr, sym, ap, subst, ◌∙◌}
+use Rattle.std.proofs.Common.{rules, tests, ◌≡◌, ◌+◌, ◌-◌, ℕ, suc, length, length-append, ap, subst, arith, inl, inr}
 use Rattle.std.proofs.lemmas.Grind.{common_steps}
-use Rattle.std.proofs.lemmas.List.{map-append}
 use Rattle.std.proofs.lemmas.Result.{IfOk-weaker, IfErr-weaker}
-use Rattle.std.specs.Option.{option_map}
-use Rattle.std.specs.Prelude.{IfSome}
-use Rattle.ep_base.specs.declared.ether_type.EtherType.{EtherType}
-use Rattle.ep_link.specs.declared.link_ext_slice.LinkExtSlice.{LinkExtSlice}
-use Rattle.ep_link.specs.LinkExtensions.{LinkExtension, IsLinkExtension, link_extension_of, extension_payload, extension_type}
-use Rattle.ep_packet.specs.Frame.{IsInside, most_link_exts}
+use Rattle.ep_base.specs.Layer.{slices}
+use Rattle.ep_link.specs.declared.link_ext.link_ext_slice.LinkExtSlice.{LinkExtSlice}
+use Rattle.ep_link.specs.LinkExtensions.{link_extension_of, extension_payload, extension_type}
+use Rattle.ep_link.proofs.LinkExtensionLemmas.{extension_len}
+use Rattle.ep_packet.specs.Frame.{most_link_exts}
 use Rattle.ep_packet.specs.Refusals.{RefusesInside}
-use Rattle.ep_packet.proofs.InsideWalkLemmas.{IsOkAnd-weaker, ends, steps_only, steps_refused, one_more}
+use Rattle.ep_packet.specs.Walk.{AppendsInside}
+use Rattle.ep_packet.proofs.WalkLemmas.{along, appends_no_more, appends_one, found_there, none_there, refused_behind}
 use Rattle.ep_packet.proofs.sliced_packet.+slice_inside.Goals as goal
 
 pub returns-then-is_full-clause-ok : goal.returns-then-is_full-clause-ok
 returns-then-is_full-clause-ok t c =
     IfOk-weaker c.slice_net.result _ _
-    (λ parts part. ends (most_link_exts - length c.args.link_exts.now.items) c.args.ether_type c.in-Some.ether_type c.args.slice.now
-    (map link_extension_of c.args.link_exts.now.items) (search (rules, tests)) (inl (grind (arith, common_steps))) _ _ part)
+    (λ parts holds. appends_no_more (most_link_exts - length c.args.link_exts.now.items) c.args.ether_type
+    c.in-Some.ether_type c.args.slice.now c.args.link_exts.now.items (search (rules, tests))
+    (inl (grind (arith, common_steps))) parts.0 parts.1 holds)
     c.slice_net.ensures.ok
 
-pub returns-in_default-2-clause-ok : goal.returns-in_default-2-clause-ok
-returns-in_default-2-clause-ok t c =
-    IfOk-weaker c.slice_net-in_default-2.result _ _
-    (λ parts part. ends (most_link_exts - length c.args.link_exts.now.items) c.args.ether_type c.in-Some.ether_type c.args.slice.now
-    (map link_extension_of c.args.link_exts.now.items) (search (rules, tests)) (inr (search (rules, tests))) _ _ part)
-    c.slice_net-in_default-2.ensures.ok
+pub returns-in-Ok-None-clause-ok : goal.returns-in-Ok-None-clause-ok
+returns-in-Ok-None-clause-ok t c =
+    let none = none_there c.in-Some.ether_type c.in-Ok-None.field-0 c.in-Ok-None.field-0-is c.in-Ok-None.ensures.none in
+    IfOk-weaker c.slice_net-in-Ok-None.result _ _
+    (λ parts holds. appends_no_more (most_link_exts - length c.args.link_exts.now.items) c.args.ether_type
+    c.in-Some.ether_type c.args.slice.now c.args.link_exts.now.items (search (rules, tests))
+    (inr none) parts.0 parts.1 holds)
+    c.slice_net-in-Ok-None.ensures.ok
 
-pub returns-clause-only : goal.returns-clause-only
-returns-clause-only t c extensions net transport part =
-    let found = link_extension_of c.in-Some-2.extension in
-    let some : (left : List ℕ) × IsLinkExtension c.in-Some.ether_type c.args.slice.now found left =
-    subst (λ (o : Option LinkExtSlice). IfSome o (λ e. (left : List ℕ) × IsLinkExtension c.in-Some.ether_type c.args.slice.now (link_extension_of e) left)) c.in-Some-2.is c.in_ok-extension.ensures.some in
-    let only : (e : LinkExtension) (l : List ℕ) → IsLinkExtension c.in-Some.ether_type c.args.slice.now e l → Some found ≡ Some e =
-    λ e l is. subst (λ (o : Option LinkExtSlice). option_map link_extension_of o ≡ Some e) c.in-Some-2.is (c.in_ok-extension.ensures.only e l is) in
-    let more : most_link_exts - length c.args.link_exts.now.items ≡ suc (most_link_exts - length c.push.new.self.items) =
+pub overflow_add-offset : goal.overflow_add-offset
+overflow_add-offset t c =
+    let found = c.in-Ok-Some.extension in
+    let there = found_there c.in-Some.ether_type c.args.slice.now c.in-Ok-Some.field-0 found c.in-Ok-Some.field-0-is c.in-Ok-Some.ensures.ok in
+    let len = extension_len c.in-Some.ether_type c.args.slice.now (link_extension_of found, there.0) there.2 in
+    omega (arith, len, c.header_len.ensures)
+
+pub slice_inside-requires : goal.slice_inside-requires
+slice_inside-requires t c =
+    let found = c.in-Ok-Some.extension in
+    let there = found_there c.in-Some.ether_type c.args.slice.now c.in-Ok-Some.field-0 found c.in-Ok-Some.field-0-is c.in-Ok-Some.ensures.ok in
+    let len = extension_len c.in-Some.ether_type c.args.slice.now (link_extension_of found, there.0) there.2 in (
+      grind (arith, common_steps, ap length c.push.ensures.items, length-append {A = LinkExtSlice}),
+      omega (arith, len, c.header_len.ensures, ap length c.payload_slice-payload.ensures),
+    )
+
+pub returns-clause-ok : goal.returns-clause-ok
+returns-clause-ok t c =
+    let found = c.in-Ok-Some.extension in
+    let old = c.args.link_exts.now.items in
+    let pushed = c.push.new.self.items in
+    let there = found_there c.in-Some.ether_type c.args.slice.now c.in-Ok-Some.field-0 found c.in-Ok-Some.field-0-is c.in-Ok-Some.ensures.ok in
+    let more : most_link_exts - length old ≡ suc (most_link_exts - length pushed) =
     grind (arith, common_steps, ap length c.push.ensures.items, length-append {A = LinkExtSlice}) in
-    let inside = steps_only _ _ c.args.ether_type c.in-Some.ether_type c.args.slice.now found some.0 more (search (rules, tests)) some.1 only extensions net transport part in
-    let behind : IsInside (most_link_exts - length c.push.new.self.items) c.next_ether_type-ether_type.result c.payload_slice-payload.result.now inside.0 net transport =
-    subst (λ (o : Option EtherType). IsInside (most_link_exts - length c.push.new.self.items) o c.payload_slice-payload.result.now inside.0 net transport) (sym c.next_ether_type-ether_type.ensures)
-    (subst (λ (b : List ℕ). IsInside (most_link_exts - length c.push.new.self.items) (extension_type found) b inside.0 net transport) (sym c.payload_slice-payload.ensures) inside.2) in
-    let appended : map link_extension_of c.push.new.self.items ≡ map link_extension_of c.args.link_exts.now.items ++ found ∷ [] =
-    ap (map link_extension_of) c.push.ensures.items ∙ map-append link_extension_of c.args.link_exts.now.items (c.in-Some-2.extension ∷ []) in
-    IsOkAnd-weaker c.slice_inside.result _ _
-    (λ parts shown. (
-      shown.0 ∙ ap (λ (e : List LinkExtension). e ++ inside.0) appended
-          ∙ one_more (map link_extension_of c.args.link_exts.now.items) found extensions inside.0 inside.1,
-      shown.1,
-      shown.2,
-    ))
-    (c.slice_inside.ensures.only inside.0 net transport behind)
+    IfOk-weaker c.slice_inside.result _ _
+    (λ parts behind. appends_one (most_link_exts - length old) (most_link_exts - length pushed) c.args.ether_type
+    c.in-Some.ether_type c.args.slice.now there.0 old pushed c.slice_inside.new.link_exts.items found parts.0 parts.1
+    more (search (rules, tests)) (there.0, there.1) there.2 c.push.ensures.items
+    (along (λ type bytes. AppendsInside (most_link_exts - length pushed) type bytes pushed
+    c.slice_inside.new.link_exts.items parts.0 parts.1)
+    c.next_ether_type-ether_type.result (extension_type (link_extension_of found))
+    c.payload_slice-payload.result.now (extension_payload (link_extension_of found))
+    c.next_ether_type-ether_type.ensures c.payload_slice-payload.ensures behind))
+    c.slice_inside.ensures.ok
 
 pub returns-clause-err : goal.returns-clause-err
 returns-clause-err t c =
-    let found = link_extension_of c.in-Some-2.extension in
-    let some : (left : List ℕ) × IsLinkExtension c.in-Some.ether_type c.args.slice.now found left =
-    subst (λ (o : Option LinkExtSlice). IfSome o (λ e. (left : List ℕ) × IsLinkExtension c.in-Some.ether_type c.args.slice.now (link_extension_of e) left)) c.in-Some-2.is c.in_ok-extension.ensures.some in
-    let more : most_link_exts - length c.args.link_exts.now.items ≡ suc (most_link_exts - length c.push.new.self.items) =
+    let found = link_extension_of c.in-Ok-Some.extension in
+    let old = c.args.link_exts.now.items in
+    let pushed = c.push.new.self.items in
+    let there = found_there c.in-Some.ether_type c.args.slice.now c.in-Ok-Some.field-0 c.in-Ok-Some.extension
+    c.in-Ok-Some.field-0-is c.in-Ok-Some.ensures.ok in
+    let more : most_link_exts - length old ≡ suc (most_link_exts - length pushed) =
     grind (arith, common_steps, ap length c.push.ensures.items, length-append {A = LinkExtSlice}) in
-    let rest = most_link_exts - length c.push.new.self.items in
     IfErr-weaker c.slice_inside.result _ _
-    (λ error refused. steps_refused _ rest c.args.offset c.args.ether_type c.in-Some.ether_type c.args.slice.now found some.0 more (search (rules, tests)) some.1 error
-    (subst (λ (n : ℕ). RefusesInside rest (c.args.offset + n) (extension_type found) (extension_payload found) error) c.header_len.ensures
-    (subst (λ (o : Option EtherType). RefusesInside rest (c.args.offset + c.header_len.result) o (extension_payload found) error) c.next_ether_type-ether_type.ensures
-    (subst (λ (b : List ℕ). RefusesInside rest (c.args.offset + c.header_len.result) c.next_ether_type-ether_type.result b error) c.payload_slice-payload.ensures refused))))
+    (λ error refused. refused_behind (most_link_exts - length old) (most_link_exts - length pushed) c.args.offset
+    c.args.ether_type c.in-Some.ether_type c.args.slice.now there.0 found more (search (rules, tests)) there.2 error
+    (subst (λ (n : ℕ). RefusesInside slices (most_link_exts - length pushed) (c.args.offset + n)
+    (extension_type found) (extension_payload found) error) c.header_len.ensures
+    (along (λ type bytes. RefusesInside slices (most_link_exts - length pushed) (c.args.offset + c.header_len.result)
+    type bytes error)
+    c.next_ether_type-ether_type.result (extension_type found) c.payload_slice-payload.result.now (extension_payload found)
+    c.next_ether_type-ether_type.ensures c.payload_slice-payload.ensures refused)))
     c.slice_inside.ensures.err

@@ -1,4 +1,4 @@
-use Rattle.std.proofs.Common.{rules, ◌≡◌, Bool, true, false, refl}
+use Rattle.std.proofs.Common.{rules, ◌≡◌, ◌∙◌, [], Bool, true, false, refl}
 use Rattle.std.proofs.lemmas.Result.{on_err_weaker, on_ok_weaker}
 use Rattle.std.specs.Io.KnownBytes.{Appends}
 use Rattle.frame_bench.specs.WatchedWords.{AppendsFront, inner_of}
@@ -13,16 +13,19 @@ false_from false refuted = refl
 pub pieces-preserved : goal.pieces-preserved
 pieces-preserved g c =
     let remaining = g.R.Read.remaining in
-    let contents = g.W.Write.contents in (
+    let contents = g.W.Write.contents in
+    let kept = c.in_ok-step.ensures.writer_reads in (
       Moves-advanced c.pieces.session.line.items c.step.new.session.line.items
-          (remaining (inner_of c.args.reader.now)) (remaining (inner_of c.pieces.reader)) (remaining (inner_of c.step.new.reader))
-          (contents (inner_of c.args.writer.now)) (contents (inner_of c.pieces.writer)) (contents (inner_of c.step.new.writer))
+          (remaining (inner_of c.args.reader.now)) (remaining (inner_of c.pieces.reader))
+          (remaining (inner_of c.step.new.reader)) (contents (inner_of c.args.writer.now))
+          (contents (inner_of c.pieces.writer)) (contents (inner_of c.step.new.writer))
           c.pieces.invariant.0 c.in_ok-step.ensures.ok,
-      c.in_ok-step.ensures.ok.4.within,
+      (c.in_ok-step.ensures.ok []).4.within,
       false_from c.step.new.reader.failed (λ t. cc (c.in_ok-step.ensures.read.1 t)),
       false_from c.step.new.writer.failed (λ t. cc (c.in_ok-step.ensures.write.1 t)),
       search rules,
       c.in_ok-step.ensures.end,
+      (kept.0 ∙ c.pieces.invariant.6.0, kept.1 ∙ c.pieces.invariant.6.1),
     )
 
 pub returns-in_err-step-clause-err : goal.returns-in_err-step-clause-err
@@ -30,39 +33,42 @@ returns-in_err-step-clause-err g c =
     let remaining = g.R.Read.remaining in
     let contents = g.W.Write.contents in
     at_exit c.from_residual-in_err-step.result
-    (Moves-begun c.pieces.session.line.items
-    (remaining (inner_of c.args.reader.now)) (remaining (inner_of c.pieces.reader)) (remaining (inner_of c.step.new.reader))
-    (contents (inner_of c.args.writer.now)) (contents (inner_of c.pieces.writer)) (contents (inner_of c.step.new.writer))
-    c.pieces.invariant.0 c.in_err-step.ensures.err)
+    (Moves-begun c.pieces.session.line.items (remaining (inner_of c.args.reader.now))
+    (remaining (inner_of c.pieces.reader)) (remaining (inner_of c.step.new.reader))
+    (contents (inner_of c.args.writer.now)) (contents (inner_of c.pieces.writer))
+    (contents (inner_of c.step.new.writer)) c.pieces.invariant.0 c.in_err-step.ensures.err)
 
 pub returns-in_err-finish-clause-err : goal.returns-in_err-finish-clause-err
 returns-in_err-finish-clause-err g c =
     let remaining = g.R.Read.remaining in
     let contents = g.W.Write.contents in
     at_exit c.from_residual-in_err-finish.result
-    (Moves-part c.answers.ensures c.pieces.session.line.items
-    (remaining (inner_of c.args.reader.now)) (remaining (inner_of c.pieces.reader))
-    (contents (inner_of c.args.writer.now)) (contents (inner_of c.pieces.writer))
-    c.pieces.invariant.0)
+    (Moves-part c.answers.ensures c.pieces.session.line.items (remaining (inner_of c.args.reader.now))
+    (remaining (inner_of c.pieces.reader)) (contents (inner_of c.args.writer.now))
+    (contents (inner_of c.pieces.writer)) c.pieces.invariant.0)
 
 pub returns-clause-ok : goal.returns-clause-ok
 returns-clause-ok g c =
     let remaining = g.R.Read.remaining in
     let contents = g.W.Write.contents in
-    let all = λ (a : Appends (contents (inner_of c.pieces.writer)) (contents (inner_of c.write_all.new.self)) c.as_slice.result.now).
-    Moves-ended c.pieces.session.line.items c.as_slice.result.now
-    (remaining (inner_of c.args.reader.now)) (remaining (inner_of c.pieces.reader))
-    (contents (inner_of c.args.writer.now)) (contents (inner_of c.pieces.writer)) (contents (inner_of c.write_all.new.self))
-    c.pieces.invariant.0 (rw c.as_slice.ensures.value c.in_ok-finish.ensures) a in
+    let holds = contents (inner_of c.pieces.writer) in
+    let then_holds = contents (inner_of c.write_all.new.self) in
+    let last = c.as_slice.result.now in
+    let all = λ (more : Appends holds then_holds last).
+    Moves-ended c.pieces.session.line.items last (remaining (inner_of c.args.reader.now))
+    (remaining (inner_of c.pieces.reader)) (contents (inner_of c.args.writer.now)) holds then_holds
+    c.pieces.invariant.0 (rw c.as_slice.ensures.value c.in_ok-finish.ensures) more in
     on_ok_weaker c.write_all.result all c.write_all.ensures.all
 
 pub returns-clause-err : goal.returns-clause-err
 returns-clause-err g c =
     let remaining = g.R.Read.remaining in
     let contents = g.W.Write.contents in
-    let front = λ (a : AppendsFront (contents (inner_of c.pieces.writer)) (contents (inner_of c.write_all.new.self)) c.as_slice.result.now).
-    Moves-ended_front c.pieces.session.line.items c.as_slice.result.now
-    (remaining (inner_of c.args.reader.now)) (remaining (inner_of c.pieces.reader))
-    (contents (inner_of c.args.writer.now)) (contents (inner_of c.pieces.writer)) (contents (inner_of c.write_all.new.self))
-    c.pieces.invariant.0 (rw c.as_slice.ensures.value c.in_ok-finish.ensures) a in
+    let holds = contents (inner_of c.pieces.writer) in
+    let then_holds = contents (inner_of c.write_all.new.self) in
+    let last = c.as_slice.result.now in
+    let front = λ (more : AppendsFront holds then_holds last).
+    Moves-ended_front c.pieces.session.line.items last (remaining (inner_of c.args.reader.now))
+    (remaining (inner_of c.pieces.reader)) (contents (inner_of c.args.writer.now)) holds then_holds
+    c.pieces.invariant.0 (rw c.as_slice.ensures.value c.in_ok-finish.ensures) more in
     on_err_weaker c.write_all.result front c.write_all.ensures.front

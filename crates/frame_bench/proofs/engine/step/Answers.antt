@@ -1,4 +1,4 @@
-use Rattle.std.proofs.Common.{subst, take}
+use Rattle.std.proofs.Common.{subst, take, ℕ, List}
 use Rattle.std.proofs.lemmas.Result.{on_err_weaker}
 use Rattle.frame_bench.specs.WatchedWords.{AppendsFront, inner_of}
 use Rattle.frame_bench.proofs.StreamLemmas.{at_exit, Moves-front, Moves-kept, Moves-read}
@@ -7,23 +7,31 @@ use Rattle.frame_bench.proofs.engine.step.Goals as goal
 pub returns-in_err-count-clause-err : goal.returns-in_err-count-clause-err
 returns-in_err-count-clause-err g c =
     let held = g.W.Write.contents (inner_of c.args.writer.now) in
+    let had = g.R.Read.remaining (inner_of c.args.reader.now) in
+    let has = g.R.Read.remaining (inner_of c.read.new.self) in
     at_exit c.from_residual.result
-    (Moves-kept c.answers.ensures c.args.session.now.line.items (g.R.Read.remaining (inner_of c.args.reader.now)) (g.R.Read.remaining (inner_of c.read.new.self)) held
-    c.in_err-count.ensures.bytes)
+    (λ (before : List (List ℕ)).
+    Moves-kept c.answers.ensures before c.args.session.now.line.items had has held c.in_err-count.ensures.bytes)
 
 pub returns-in_err-take-clause-err : goal.returns-in_err-take-clause-err
 returns-in_err-take-clause-err g c =
     let held = g.W.Write.contents (inner_of c.args.writer.now) in
+    let had = g.R.Read.remaining (inner_of c.args.reader.now) in
+    let has = g.R.Read.remaining (inner_of c.read.new.self) in
+    let piece = take c.in_ok-count.count c.read.new.piece in
     at_exit c.from_residual-in_err-take.result
-    (Moves-read c.answers.ensures c.args.session.now.line.items (take c.in_ok-count.count c.read.new.piece) (g.R.Read.remaining (inner_of c.args.reader.now)) (g.R.Read.remaining (inner_of c.read.new.self)) held
-    c.in_ok-count.ensures.bytes.0)
+    (λ (before : List (List ℕ)).
+    Moves-read c.answers.ensures before c.args.session.now.line.items piece had has held c.in_ok-count.ensures.bytes.0)
 
 pub returns-clause-err : goal.returns-clause-err
 returns-clause-err g c =
     let held = g.W.Write.contents (inner_of c.args.writer.now) in
     let holds = g.W.Write.contents (inner_of c.write_all.new.self) in
-    let front = λ (f : AppendsFront held holds c.as_slice.result.now).
-    Moves-front c.answers.ensures c.args.session.now.line.items (take c.in_ok-count.count c.read.new.piece) c.take.new.self.output.items c.take.new.self.line.items
-    (g.R.Read.remaining (inner_of c.args.reader.now)) (g.R.Read.remaining (inner_of c.read.new.self)) held holds
-    c.in_ok-count.ensures.bytes.0 c.in_ok-take.ensures (subst (AppendsFront held holds) c.as_slice.ensures.value f) in
+    let had = g.R.Read.remaining (inner_of c.args.reader.now) in
+    let has = g.R.Read.remaining (inner_of c.read.new.self) in
+    let piece = take c.in_ok-count.count c.read.new.piece in
+    let front = λ (f : AppendsFront held holds c.as_slice.result.now) (before : List (List ℕ)).
+    Moves-front c.answers.ensures before c.args.session.now.line.items piece c.take.new.self.output.items
+    c.take.new.self.line.items had has held holds c.in_ok-count.ensures.bytes.0 (c.in_ok-take.ensures before)
+    (subst (AppendsFront held holds) c.as_slice.ensures.value f) in
     on_err_weaker c.write_all.result front c.write_all.ensures.front

@@ -12,7 +12,10 @@ returns-in_err-strip_prefix-clause-none c =
 
 pub returns : goal.returns
 returns c =
-    let word = strip_prefix_is Decides-eqb c.args.text.now c.args.word.now (Some c.in_ok-strip_prefix.field-0) c.in_ok-strip_prefix.ensures.cases in
-    let next = strip_prefix_is Decides-eqb c.in_ok-strip_prefix.field-0.now (space ∷ []) c.strip_prefix-2.result c.strip_prefix-2.ensures.cases in
-    let both = behind_word c.args.text.now c.args.word.now c.in_ok-strip_prefix.field-0.now c.strip_prefix-2.result word next in
+    let text = c.args.text.now in
+    let rest = c.in_ok-strip_prefix.field-0 in
+    let found = c.strip_prefix-2.result in
+    let word = strip_prefix_is Decides-eqb text c.args.word.now (Some rest) c.in_ok-strip_prefix.ensures.cases in
+    let next = strip_prefix_is Decides-eqb rest.now (space ∷ []) found c.strip_prefix-2.ensures.cases in
+    let both = behind_word text c.args.word.now rest.now found word next in
     record { some = both.0; none = both.1 }

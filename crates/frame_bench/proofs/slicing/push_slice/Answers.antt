@@ -2,18 +2,20 @@ use Rattle.std.proofs.Common.{◌≡◌, ◌++◌, ℕ, List, inl, refl}
 use Rattle.std.proofs.lemmas.Result.{on_ok_weaker}
 use Rattle.ep_packet.specs.Frame.{IsFrame}
 use Rattle.ep_packet.specs.Layers.{Layers, layers_of}
-use Rattle.frame_bench.specs.Replies.{IsReply, frame_entry, layers_text}
+use Rattle.frame_bench.specs.Replies.{IsSliceReply, frame_entry, layers_text}
 use Rattle.frame_bench.specs.declared.requests.Entry.{Entry}
-use Rattle.frame_bench.specs.declared.requests.Request.TheVariants.{Slice}
 use Rattle.frame_bench.proofs.slicing.push_slice.Goals as goal
 
 -- a frame's reply is the text of its layers
-layers_reply : (entry : Entry) (bytes old new : List ℕ) (layers : Layers) → IsFrame (frame_entry entry) bytes layers → new ≡ old ++ layers_text layers
-    → (reply : List ℕ) × IsReply (Slice entry) bytes reply × (new ≡ old ++ reply)
+layers_reply : (entry : Entry) (bytes old new : List ℕ) (layers : Layers)
+    → IsFrame (frame_entry entry) bytes layers → new ≡ old ++ layers_text layers
+    → (reply : List ℕ) × IsSliceReply entry bytes reply × (new ≡ old ++ reply)
 layers_reply entry bytes old new layers frame pushed = (layers_text layers, inl (layers, frame, refl), pushed)
 
 pub returns-in-Ok : goal.returns-in-Ok
 returns-in-Ok c =
+    let layers = layers_of c.in-Ok.packet in
+    let old = c.args.output.now.items in
+    let new = c.push_layers.new.output.items in
     on_ok_weaker c.push_layers.result
-    (layers_reply c.args.entry c.args.bytes.now c.args.output.now.items c.push_layers.new.output.items (layers_of c.in-Ok.packet) c.in-Ok.ensures.ok)
-    c.push_layers.ensures
+    (layers_reply c.args.entry c.args.bytes.now old new layers c.in-Ok.ensures.ok) c.push_layers.ensures

@@ -1,16 +1,40 @@
-use Rattle.std.proofs.Common.{rules}
+use Rattle.std.proofs.Common.{◌≡◌, ◌≤◌, length, ◌∙◌, ℕ, true, not, IsOk, sym, ap, inr, rules}
+use Rattle.std.specs.List.{list_any}
+use Rattle.std.proofs.lemmas.Bool.{false≢true}
+use Rattle.ep_defrag.specs.declared.ip_defrag_error.IpDefragError.TheVariants.{AllocationFailure}
+use Rattle.ep_defrag.specs.Ranges.{merges}
 use Rattle.ep_defrag.specs.Fragments.{fragment_with}
-use Rattle.ep_defrag.specs.Buffers.{IsUnchanged}
-use Rattle.ep_defrag.proofs.Held.{HoldsFragments-push, HoldsFragments-same}
+use Rattle.ep_defrag.specs.Buffers.{IsUnchanged, data_of, sections_of}
+use Rattle.ep_defrag.proofs.Held.{HoldsFragments-push, HoldsFragments-same, in_place_when_held}
 use Rattle.ep_defrag.proofs.ip_defrag_buf.IpDefragBuf.add.Goals as goal
 
 pub returns-clause-holds : goal.returns-clause-holds
 returns-clause-holds c accepted held =
-    HoldsFragments-push c.args.self.now c.accept.new.self accepted (fragment_with c.args.offset c.args.more_fragments c.args.payload.now) held
+    HoldsFragments-push c.args.self.now c.accept.new.self accepted
+    (fragment_with c.args.offset c.args.more_fragments c.args.payload.now) held
     (rw (← held.end) c.in_ok-range.ensures.answer)
     (search rules)
     (search rules)
     (search rules)
+
+pub returns-then-is_err-clause-refused : goal.returns-then-is_err-clause-refused
+returns-then-is_err-clause-refused c accepted held =
+    let fragment = fragment_with c.args.offset c.args.more_fragments c.args.payload.now in
+    let self = c.args.self.now in
+    let range = c.in_ok-range.range in
+    let taken : IsOk c.accept.result → ⊥ =
+    λ ok. false≢true (sym (c.is_err.ensures.negation ∙ ap not c.if-is_err.true) ∙ ok) in
+    inr (
+      (
+        rw (← held.end) c.in_ok-range.ensures.answer,
+        λ placed.
+            let found = in_place_when_held self accepted fragment held placed in
+            let within : range.end ≤ length (data_of self) = rw c.in_ok-range.ensures.ok found.0 in
+            let merging : list_any (merges range) (sections_of self) ≡ true = rw c.in_ok-range.ensures.ok found.1 in
+            taken (c.accept.ensures.in_place within merging),
+      ),
+      ap (λ (len : ℕ). AllocationFailure len) (c.from.ensures ∙ ap (λ range. range.end) c.in_ok-range.ensures.ok),
+    )
 
 pub returns-then-is_err-clause-keeps : goal.returns-then-is_err-clause-keeps
 returns-then-is_err-clause-keeps c accepted held =

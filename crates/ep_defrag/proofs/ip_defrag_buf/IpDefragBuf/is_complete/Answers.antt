@@ -5,5 +5,8 @@ use Rattle.ep_defrag.proofs.ip_defrag_buf.IpDefragBuf.is_complete.Goals as goal
 
 pub returns-clause-complete : goal.returns-clause-complete
 returns-clause-complete c accepted held =
-    let whole : c.is_whole.result ≡ (is_some (known_end_of c.args.self.now) && is_whole (sections_of c.args.self.now)) = c.is_whole.ensures ∙ ap (λ sections. is_some (known_end_of c.args.self.now) && is_whole sections) c.deref.ensures.value in
+    let whole : c.is_whole.result
+    ≡ (is_some (known_end_of c.args.self.now) && is_whole (sections_of c.args.self.now)) =
+    c.is_whole.ensures ∙ ap
+    (λ sections. is_some (known_end_of c.args.self.now) && is_whole sections) c.deref.ensures.value in
     rw whole (complete_when_held c.args.self.now accepted held)

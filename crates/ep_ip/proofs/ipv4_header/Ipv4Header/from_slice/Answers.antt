@@ -1,26 +1,25 @@
-use Rattle.std.proofs.Common.{◌-◌, List, ℕ, length, take, drop, sym, subst}
-use Rattle.ep_ip.specs.declared.ipv4_header.Ipv4Header.{Ipv4Header}
-use Rattle.ep_ip.specs.Ipv4.{IsIpv4Header, ipv4_header_of}
+use Rattle.std.proofs.Common.{◌≡◌, ◌-◌, length, take, drop, sym, subst}
 use Rattle.ep_base.proofs.BytesLemmas.{rest_of}
-use Rattle.ep_ip.proofs.Ipv4Lemmas.{header_one_value}
+use Rattle.ep_base.proofs.TableLemmas.{one_value}
+use Rattle.ep_ip.specs.Ipv4.{IsIpv4Header}
+use Rattle.ep_ip.proofs.Ipv4Lemmas.{ipv4_header_is_read}
 use Rattle.ep_ip.proofs.ipv4_header.Ipv4Header.from_slice.Goals as goal
 
-pub returns-clause-ok : goal.returns-clause-ok
-returns-clause-ok c =
+pub returns : goal.returns
+returns c =
     let bytes = c.args.slice.now in
+    let n = c.header_len.result in
     let ok = c.in_ok-header.ensures.ok in
-    let behind = take (length bytes - c.header_len.result) (drop c.header_len.result bytes) in
-    let same = rest_of bytes c.in_ok-header.header.slice.now ok.0 c.header_len.result ok.1 c.header_len.ensures.bytes in
-    let Rest : List ℕ → Type 0 = IsIpv4Header bytes (ipv4_header_of c.in_ok-header.header.slice.now) in
-    let Header : Ipv4Header → Type 0 = λ h. IsIpv4Header bytes h behind in
-    subst Header (sym c.to_header.ensures) (subst Rest (sym same) ok.2)
-
-pub returns-clause-only : goal.returns-clause-only
-returns-clause-only c =
-    let bytes = c.args.slice.now in
-    let ok = c.in_ok-header.ensures.ok in
-    let behind = take (length bytes - c.header_len.result) (drop c.header_len.result bytes) in
-    let same = rest_of bytes c.in_ok-header.header.slice.now ok.0 c.header_len.result ok.1 c.header_len.ensures.bytes in
-    let Rest : List ℕ → Type 0 = IsIpv4Header bytes (ipv4_header_of c.in_ok-header.header.slice.now) in
-    let Header : Ipv4Header → Type 0 = λ h. IsIpv4Header bytes h behind in
-    λ header rest is. header_one_value bytes _ header _ rest (subst Header (sym c.to_header.ensures) (subst Rest (sym same) ok.2)) is
+    let behind = take (length bytes - n) (drop n bytes) in
+    let front = c.in_ok-header.header.bytes.slice.now in
+    let rest : behind ≡ ok.0 = rest_of bytes front ok.0 n ok.1 c.header_len.ensures.bytes in
+    let header = sym c.to_header.ensures in
+    let is : IsIpv4Header bytes (c.to_header.result, behind) =
+    subst (IsIpv4Header bytes) (λ i. (header i, sym rest i)) ok.2 in
+    record {
+      ok = is;
+      only = λ h r other.
+          let same = one_value ipv4_header_is_read bytes (c.to_header.result, behind) (h, r) is other in
+          (λ i. (same i).0, λ i. (same i).1);
+      err = tt;
+    }

@@ -6,9 +6,10 @@ pub invariant_of-result : goal.invariant_of-result
 invariant_of-result c =
     let n = length c.args.slice.now in
     let zeros : List ℕ = replicate 40 0 in
-    let copied : length c.copy_from_slice.new.self ≡ n = ap length c.copy_from_slice.ensures.after in (
-      omega (arith, length-append c.copy_from_slice.new.self (drop n zeros), length-drop n zeros, copied, c.requires.bound),
+    let front = c.copy_from_slice.new.self in
+    let copied : length front ≡ n = ap length c.copy_from_slice.ensures.after in (
+      omega (arith, length-append front (drop n zeros), length-drop n zeros, copied, c.requires.bound),
       c.requires.bound,
       c.requires.words,
-      drop_at c.copy_from_slice.new.self (drop n zeros) n copied ∙ drop-replicate n 40 0,
+      drop_at front (drop n zeros) n copied ∙ drop-replicate n 40 0,
     )

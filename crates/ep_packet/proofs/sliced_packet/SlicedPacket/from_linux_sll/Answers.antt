@@ -1,25 +1,41 @@
-use Rattle.std.proofs.Common.{◌≡◌, ℕ, List, Option, Some, refl, sym, ap, subst, ◌∙◌}
-use Rattle.ep_base.specs.declared.ether_type.EtherType.{EtherType}
-use Rattle.ep_link.specs.declared.linux_sll_header.LinuxSllHeader.{LinuxSllHeader}
+use Rattle.std.proofs.Common.{arith, inl, sym, ap, ◌∙◌}
+use Rattle.std.specs.Prelude.{IfOk, IfErr}
+use Rattle.std.proofs.lemmas.Result.{IfOk-weaker, IfErr-weaker}
+use Rattle.ep_base.proofs.DecidedLemmas.{only_of}
 use Rattle.ep_link.specs.LinuxSll.{protocol_ether_type}
-use Rattle.ep_link.specs.LinuxSllSlices.{linux_sll_slice_header, linux_sll_slice_payload}
-use Rattle.ep_link.specs.LinkSlices.{linux_sll}
-use Rattle.ep_packet.specs.Frame.{IsInside, most_link_exts}
-use Rattle.ep_packet.proofs.InsideWalkLemmas.{IsOkAnd-weaker, same_layers}
+use Rattle.ep_packet.specs.declared.err.slice_error.SliceError.TheVariants.{Len}
+use Rattle.ep_link.specs.declared.link.link_slice.LinkSlice.TheVariants as link
+use Rattle.ep_packet.specs.declared.sliced_packet.SlicedPacket.{SlicedPacket}
+use Rattle.ep_packet.specs.Frame.{IsFrame}
+use Rattle.ep_packet.specs.Layers.{linux_sll, layers_of}
+use Rattle.ep_packet.specs.Refusals.{RefusesFrame, linux_sll_refusal}
+use Rattle.ep_packet.specs.Walk.{HoldsBehind}
+use Rattle.ep_packet.proofs.EntryLemmas.{linux_sll_holds, linux_sll_refused}
+use Rattle.ep_packet.proofs.LayerLaws.{frame_law}
 use Rattle.ep_packet.proofs.sliced_packet.SlicedPacket.from_linux_sll.Goals as goal
 
-pub returns-clause-only : goal.returns-clause-only
-returns-clause-only c layers (header, payload, left, is, link, inside) =
-    let same = c.in-Ok.ensures.only header payload left is in
-    let type : c.ether_type-ether_type.result ≡ protocol_ether_type header.protocol_type =
-    c.ether_type-ether_type.ensures ∙ ap protocol_ether_type (c.protocol_type.ensures ∙ ap (λ (h : LinuxSllHeader). h.protocol_type) same.0) in
-    let bytes : c.payload_slice-payload.result.now ≡ payload = c.payload_slice-payload.ensures ∙ same.1 in
-    let here : IsInside most_link_exts c.ether_type-ether_type.result c.payload_slice-payload.result.now layers.link_exts layers.net layers.transport =
-    subst (λ (t : Option EtherType). IsInside most_link_exts t c.payload_slice-payload.result.now layers.link_exts layers.net layers.transport) (sym type)
-    (subst (λ (b : List ℕ). IsInside most_link_exts (protocol_ether_type header.protocol_type) b layers.link_exts layers.net layers.transport) (sym bytes) inside) in
-    let shows : Some (linux_sll (linux_sll_slice_header c.in-Ok.frame) (linux_sll_slice_payload c.in-Ok.frame)) ≡ layers.link =
-    ap (λ (h : LinuxSllHeader). Some (linux_sll h (linux_sll_slice_payload c.in-Ok.frame))) same.0
-    ∙ ap (λ (b : List ℕ). Some (linux_sll header b)) same.1 ∙ sym link in
-    IsOkAnd-weaker c.slice_behind.result _ _
-    (λ packet shown. shown ∙ same_layers _ layers shows refl refl refl)
-    (c.slice_behind.ensures.only layers.link_exts layers.net layers.transport here)
+pub returns : goal.returns
+returns c =
+    let bytes = c.args.slice.now in
+    let parts = c.in-Ok.ensures.ok in
+    let type = c.ether_type-ether_type.ensures ∙ ap protocol_ether_type c.protocol_type.ensures in
+    let holds = λ (packet : SlicedPacket) (behind : HoldsBehind (link.LinuxSll c.in-Ok.frame) c.ether_type-ether_type.result c.payload_slice-payload.result.now packet). linux_sll_holds bytes parts.0 c.payload_slice-payload.result.now c.in-Ok.frame
+    c.ether_type-ether_type.result packet parts.1 parts.2 type c.payload_slice-payload.ensures behind in
+    let ok : IfOk c.slice_behind.result (λ packet. IsFrame linux_sll bytes (layers_of packet)) =
+    IfOk-weaker c.slice_behind.result _ _ (λ packet behind. (holds packet behind).0) c.slice_behind.ensures.ok in
+    let err : IfErr c.slice_behind.result (RefusesFrame linux_sll bytes) =
+    IfErr-weaker c.slice_behind.result _ _
+    (λ error refused. linux_sll_refused bytes parts.0 c.payload_slice-payload.result.now c.in-Ok.frame
+    c.ether_type-ether_type.result error parts.2 type c.payload_slice-payload.ensures refused)
+    c.slice_behind.ensures.err in
+    record {
+      ok = ok;
+      only = only_of layers_of (frame_law linux_sll bytes (λ i. omega (arith, c.type_inv.slice i))) c.slice_behind.result ok err;
+      bytes = IfOk-weaker c.slice_behind.result _ _ (λ packet behind. (holds packet behind).1) c.slice_behind.ensures.ok;
+      err = err;
+    }
+
+pub returns-in-Err-Len-clause-only : goal.returns-in-Err-Len-clause-only
+returns-in-Err-Len-clause-only c layers is =
+    (frame_law linux_sll c.args.slice.now (λ i. omega (arith, c.type_inv.slice i))).not_both layers (Len c.in-Err-Len.error) is
+    (inl (c.in-Err-Len.field-0, c.in-Err-Len.ensures.err, ap linux_sll_refusal (sym c.in-Err-Len.field-0-is)))

@@ -5,7 +5,7 @@ use Rattle.frame_bench.proofs.engine.Session.take.Given as goal
 abbrev pub invariant-lines : goal.invariant-lines
 invariant-lines l =
     (taken : List ℕ) × (l.fn.piece ≡ taken ++ l.rest)
-    × Advances l.fn.self.line.items taken l.self.output.items l.self.line.items
+    × ((before : List (List ℕ)) → Advances before l.fn.self.line.items taken l.self.output.items l.self.line.items)
 
 abbrev pub decreases-lines : goal.decreases-lines
 decreases-lines l = length l.rest

@@ -1,0 +1,113 @@
+-- That there is one value or one error, of relations that are made of others of which the same is known.
+use Rattle.std.proofs.Common.{◌≡◌, ◌⊎◌, Result, Ok, Err, refl, sym, ap, subst, ◌∙◌, inl, inr}
+use Rattle.std.specs.Prelude.{IfOk, IfErr, IsOkAnd}
+use Rattle.ep_base.specs.Tables.{IsDecided, RefusesAs}
+
+-- a relation holds of the images of what another holds of, and of nothing else
+pub record IsImage {V W : Type 0} (Of : V → Type 0) (Image : W → Type 0) (image : V → W) : Type 0 where
+  pub there : (value : V) → Of value → Image (image value)
+  pub back : (value : W) → Image value → (origin : V) × Of origin × (value ≡ image origin)
+
+-- a relation that holds of the same as another is its image
+pub same_image : {V : Type 0} {Of Image : V → Type 0} → ((value : V) → Of value → Image value)
+    → ((value : V) → Image value → Of value)
+    → IsImage Of Image (λ value. value)
+same_image there back = record { there = there; back = λ value holds. (value, back value holds, refl) }
+
+-- one value and no error
+pub decided_by : {V E : Type 0} {Is : V → Type 0} {Refuses : E → Type 0} → (value : V) → Is value
+    → ((other : V) → Is other → other ≡ value)
+    → ((error : E) → Refuses error → ⊥) → IsDecided Is Refuses
+decided_by value is only never = record {
+  some = inl (value, is);
+  one_value = λ v w a b. only v a ∙ sym (only w b);
+  one_error = λ e f a b. absurd (never e a);
+  not_both = λ v e a b. never e b;
+}
+
+-- the images of the value and of the error
+pub decided_as : {V W E F : Type 0} {Is : V → Type 0} {Refuses : E → Type 0} {IsImaged : W → Type 0} {RefusesImaged : F → Type 0}
+    → (value : V → W) → (error : E → F) → IsDecided Is Refuses → IsImage Is IsImaged value
+    → IsImage Refuses RefusesImaged error
+    → IsDecided IsImaged RefusesImaged
+decided_as value error decided values errors = record {
+  some = elim decided.some [
+    | inl found ↦ inl (value found.0, values.there found.0 found.1)
+    | inr refused ↦ inr (error refused.0, errors.there refused.0 refused.1)
+  ];
+  one_value = λ v w a b.
+      let x = values.back v a in
+      let y = values.back w b in
+      x.2 ∙ ap value (decided.one_value x.0 y.0 x.1 y.1) ∙ sym y.2;
+  one_error = λ e f a b.
+      let x = errors.back e a in
+      let y = errors.back f b in
+      x.2 ∙ ap error (decided.one_error x.0 y.0 x.1 y.1) ∙ sym y.2;
+  not_both = λ v e a b.
+      let x = values.back v a in
+      let y = errors.back e b in
+      decided.not_both x.0 y.0 x.1 y.1;
+}
+
+-- the same value, and the error under another name
+pub refused_as : {V E F : Type 0} {Is : V → Type 0} {Refuses : E → Type 0} → (name : E → F) → IsDecided Is Refuses
+    → IsDecided Is (RefusesAs name Refuses)
+refused_as name decided =
+    decided_as (λ value. value) name decided (same_image (λ value is. is) (λ value is. is))
+    (record { there = λ refusal refused. (refusal, refused, refl); back = λ error refused. refused })
+
+-- what holds of one value and of another that is looked for once the first is there
+abbrev pub IsBoth : {V W : Type 0} → (V → Type 0) → (V → W → Type 0) → V × W → Type 0
+IsBoth Is Next values = Is values.0 × Next values.0 values.1
+
+-- why there is no first value, or no other one
+abbrev pub RefusesEither : {V E : Type 0} → (V → Type 0) → (E → Type 0) → (V → E → Type 0) → E → Type 0
+RefusesEither {V = V} Is Refuses RefusesNext error = Refuses error ⊎ ((value : V) × Is value × RefusesNext value error)
+
+-- two steps have one error
+then_one_error : {V W E : Type 0} {Is : V → Type 0} {Refuses : E → Type 0} {Next : V → W → Type 0} {RefusesNext : V → E → Type 0}
+    → IsDecided Is Refuses → ((value : V) → Is value → IsDecided (Next value) (RefusesNext value))
+    → (e f : E) → RefusesEither Is Refuses RefusesNext e → RefusesEither Is Refuses RefusesNext f → e ≡ f
+then_one_error first next e f (inl a) (inl b) = first.one_error e f a b
+then_one_error first next e f (inl a) (inr b) = absurd (first.not_both b.0 e b.1 a)
+then_one_error first next e f (inr a) (inl b) = absurd (first.not_both a.0 f a.1 b)
+then_one_error {RefusesNext = RefusesNext} first next e f (inr a) (inr b) =
+    let same = first.one_value a.0 b.0 a.1 b.1 in
+    (next b.0 b.1).one_error e f (subst (λ v. RefusesNext v e) same a.2) b.2
+
+-- two steps are not taken and refused
+then_not_both : {V W E : Type 0} {Is : V → Type 0} {Refuses : E → Type 0} {Next : V → W → Type 0} {RefusesNext : V → E → Type 0}
+    → IsDecided Is Refuses → ((value : V) → Is value → IsDecided (Next value) (RefusesNext value))
+    → (values : V × W) (e : E) → IsBoth Is Next values → RefusesEither Is Refuses RefusesNext e → ⊥
+then_not_both first next values e a (inl b) = first.not_both values.0 e a.0 b
+then_not_both {Next = Next} first next values e a (inr b) =
+    let same = first.one_value values.0 b.0 a.0 b.1 in
+    (next b.0 b.1).not_both values.1 e (subst (λ v. Next v values.1) same a.1) b.2
+
+-- one step and then another
+pub decided_then : {V W E : Type 0} {Is : V → Type 0} {Refuses : E → Type 0} {Next : V → W → Type 0} {RefusesNext : V → E → Type 0}
+    → IsDecided Is Refuses → ((value : V) → Is value → IsDecided (Next value) (RefusesNext value))
+    → IsDecided (IsBoth Is Next) (RefusesEither Is Refuses RefusesNext)
+decided_then {V = V} {W = W} {Next = Next} first next = record {
+  some = elim first.some [
+    | inl found ↦ elim (next found.0 found.1).some [
+      | inl other ↦ inl ((found.0, other.0), (found.1, other.1))
+      | inr refused ↦ inr (refused.0, inr (found.0, found.1, refused.1))
+    ]
+    | inr refused ↦ inr (refused.0, inl refused.1)
+  ];
+  one_value = λ v w a b.
+      let same = first.one_value v.0 w.0 a.0 b.0 in
+      let next_is : Next w.0 v.1 = subst (λ x. Next x v.1) same a.1 in
+      let pair : V → W → V × W = λ x y. (x, y) in
+      ap (λ x. pair x v.1) same ∙ ap (pair w.0) ((next w.0 b.0).one_value v.1 w.1 next_is b.1);
+  one_error = then_one_error first next;
+  not_both = then_not_both first next;
+}
+
+-- an answer that is right where it is Ok and right where it is Err is Ok for the value that there is, and shows it
+pub only_of : {A V E : Type 0} {Is : V → Type 0} {Refuses : E → Type 0} (shown : A → V) → IsDecided Is Refuses
+    → (answer : Result A E) → IfOk answer (λ a. Is (shown a)) → IfErr answer Refuses
+    → (value : V) → Is value → IsOkAnd answer (λ a. shown a ≡ value)
+only_of shown decided (Ok a) ok err value is = decided.one_value (shown a) value ok is
+only_of shown decided (Err e) ok err value is = absurd (decided.not_both value e is err)

@@ -1,0 +1,20 @@
+-- The payload of an IP packet, as plain data.
+use Rattle.std.specs.Prelude.{ℕ, Bool, List}
+use Rattle.ep_base.specs.declared.len_source.LenSource.{LenSource}
+use Rattle.ep_base.specs.declared.ip_payload_slice.IpPayloadSlice.{IpPayloadSlice}
+
+-- what the payload is, whether it is a fragment of a longer one, what set its length, and its bytes
+pub record IpPayload : Type 0 where
+  pub number : ℕ
+  pub fragmented : Bool
+  pub source : LenSource
+  pub bytes : List ℕ
+
+-- the payload that a slice shows
+abbrev pub ip_payload_of : IpPayloadSlice → IpPayload
+ip_payload_of payload = record {
+  number = payload.ip_number.0;
+  fragmented = payload.fragmented;
+  source = payload.len_source;
+  bytes = payload.payload.now;
+}

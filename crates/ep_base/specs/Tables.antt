@@ -1,0 +1,37 @@
+-- Refusal tables, what bytes are where no row refuses them, and that this leaves nothing open.
+use Rattle.std.specs.Prelude.{◌≡◌, ℕ, Bool, if◌then◌else◌, List, [], ◌∷◌, Option, Some, None, ◌⊎◌}
+
+-- The rows of a refusal table, each a condition and its error: the error of the first row whose condition holds.
+abbrev pub first_row : {E : Type 0} → List (Bool × E) → Option E
+first_row [] = None
+first_row (row ∷ rows) = if row.0 then Some row.1 else first_row rows
+
+-- the table refuses with this error
+abbrev pub Refuses : {E : Type 0} → List (Bool × E) → E → Type 0
+Refuses rows error = first_row rows ≡ Some error
+
+-- the same rows, their errors under another name
+abbrev pub rows_as : {E F : Type 0} → (E → F) → List (Bool × E) → List (Bool × F)
+rows_as name [] = []
+rows_as name (row ∷ rows) = (row.0, name row.1) ∷ rows_as name rows
+
+-- refuses with the error that this one is under another name
+abbrev pub RefusesAs : {E F : Type 0} → (E → F) → (E → Type 0) → F → Type 0
+RefusesAs {E = E} name Refuses error = (refusal : E) × Refuses refusal × (error ≡ name refusal)
+
+-- what bytes are: a header, the payload behind it, and what the header's cut leaves behind that
+pub record Parts (H : Type 0) : Type 0 where
+  pub header : H
+  pub payload : List ℕ
+  pub left : List ℕ
+
+-- these parts
+abbrev pub parts_of : {H : Type 0} → H → List ℕ → List ℕ → Parts H
+parts_of header payload left = record { header = header; payload = payload; left = left }
+
+-- There is one value, or there is one error, and never both.
+pub record IsDecided {V E : Type 0} (Is : V → Type 0) (Refuses : E → Type 0) : Type 0 where
+  pub some : ((value : V) × Is value) ⊎ ((error : E) × Refuses error)
+  pub one_value : (value other : V) → Is value → Is other → value ≡ other
+  pub one_error : (error other : E) → Refuses error → Refuses other → error ≡ other
+  pub not_both : (value : V) (error : E) → Is value → Refuses error → ⊥

@@ -1,0 +1,11 @@
+pub mod ChainLemmas
+pub mod FragmentHeaderLemmas
+pub mod HeaderLaws
+pub mod IpAuthLemmas
+pub mod LinkLemmas
+pub mod PartLemmas
+pub mod RawExtensionLemmas
+pub mod ReadLemmas
+pub mod ShownLemmas
+pub mod ValueLemmas
+pub mod WalkLemmas

@@ -1,0 +1,233 @@
+-- How far a chain was read: its first headers, and what a chain or a refusal behind them means for the whole.
+use Rattle.std.proofs.Common.{◌≡◌, ◌⊎◌, ℕ, zero, suc, ◌+◌, ◌-◌, ◌≤◌, ◌<◌, ◌==◌, Bool, true, false, not, ◌||◌, List, [], ◌∷◌, ◌++◌, length, take, refl, sym, ap, subst, ◌∙◌, inl, inr, arith, append_assoc, length-append, add-zero}
+use Rattle.std.proofs.lemmas.Grind.{common_steps}
+use Rattle.std.proofs.lemmas.Bool.{eq-eqb, ne_eqb}
+use Rattle.std.proofs.lemmas.List.{append-nil, take_at}
+use Rattle.ep_ext.specs.ShownChains.{shown_parts}
+use Rattle.ep_ext.proofs.ShownLemmas.{front_shown}
+use Rattle.ep_base.specs.Layer.{Reading, slices, headers}
+use Rattle.ep_base.specs.declared.err.ipv6_exts.HeaderError.TheVariants as content
+use Rattle.ep_base.specs.declared.err.ipv6_exts.HeaderSliceError.{HeaderSliceError}
+use Rattle.ep_base.specs.declared.err.ipv6_exts.HeaderSliceError.TheVariants as header_error
+use Rattle.ep_ext.specs.ExtensionParts.{ExtensionPart, part_next, part_len, part_fragments, IsExtensionPart, RefusesExtensionPart}
+use Rattle.ep_ext.specs.Chains.{IpVersion, ipv6, ExtensionChain, chain_of, ends, takes, misplaced, demand_of, is_first, is_ipv6_extension, chain_fragments, IsChainBehind, IsExtensionChain, RefusesChainBehind, RefusesExtensionChain, further_in}
+use Rattle.ep_ext.proofs.PartLemmas.{part_cut}
+
+-- Bytes of a number begin with these headers, and then comes the rest of this number.
+pub record IsRead (version : IpVersion) (reading : Reading) (first : ℕ) (bytes : List ℕ) (taken : List ℕ)
+    (parts : List ExtensionPart) (number : ℕ) (rest : List ℕ) : Type 0 where
+  pub front : List ℕ
+  pub split : bytes ≡ front ++ rest
+  pub start : is_first taken ≡ (length front == 0)
+  pub chain : (more : List ExtensionPart) (last : ℕ) (behind : List ℕ)
+      → IsChainBehind version reading taken number rest more last behind
+      → IsExtensionChain version reading first bytes (chain_of (parts ++ more) last behind)
+  pub refused : (more : List ExtensionPart) (error : HeaderSliceError)
+      → RefusesChainBehind version reading taken (length front) number rest more error
+      → RefusesExtensionChain version reading first bytes error
+
+-- nothing was read
+pub read_nothing : (version : IpVersion) (reading : Reading) (first : ℕ) (bytes : List ℕ)
+    → IsRead version reading first bytes [] [] first bytes
+read_nothing version reading first bytes = record {
+  front = [];
+  split = refl;
+  start = refl;
+  chain = λ more last behind is. is;
+  refused = λ more error refused. (more, refused);
+}
+
+-- a header more
+pub read_part : (version : IpVersion) (reading : Reading) (first : ℕ) (bytes : List ℕ) (taken : List ℕ)
+    (parts : List ExtensionPart) (number : ℕ) (rest : List ℕ)
+    (part : ExtensionPart) (behind : List ℕ) → IsRead version reading first bytes taken parts number rest
+    → demand_of version reading taken number ≡ takes → IsExtensionPart number rest part behind
+    → IsRead version reading first bytes (number ∷ taken) (parts ++ part ∷ []) (part_next part) behind
+read_part version reading first bytes taken parts number rest part behind read demand is =
+    let cut = part_cut number rest part behind is in
+    let len : length (read.front ++ cut.front) ≡ length read.front + part_len part = omega
+    (arith, length-append read.front cut.front, cut.len_is) in
+    record {
+      front = read.front ++ cut.front;
+      split = read.split ∙ ap (λ (s : List ℕ). read.front ++ s) cut.parts
+          ∙ sym (append_assoc read.front cut.front behind);
+      start = not_start (length (read.front ++ cut.front)) (omega (arith, len, cut.least));
+      chain = λ more last after more_is. subst (λ
+          (all : List ExtensionPart). IsExtensionChain version reading first bytes (chain_of all last after))
+          (sym (append_assoc parts (part ∷ []) more)) (read.chain (part ∷ more) last after (
+            demand,
+            (behind, is, more_is),
+          ));
+      refused = λ more error refused. read.refused (part ∷ more) error (
+        demand,
+        (
+          behind,
+          is,
+          subst (λ (n : ℕ). RefusesChainBehind version reading (number ∷ taken) n
+              (part_next part) behind more error) len refused,
+        ),
+      );
+    }
+  where
+    not_start : (n : ℕ) → 0 < n → false ≡ (n == 0)
+    not_start n some = grind (arith, common_steps)
+
+-- the chain ends here
+pub read_all : (version : IpVersion) (reading : Reading) (first : ℕ) (bytes : List ℕ) (taken : List ℕ)
+    (parts : List ExtensionPart) (number : ℕ) (rest : List ℕ)
+    → IsRead version reading first bytes taken parts number rest → demand_of version reading taken number ≡ ends
+    → IsExtensionChain version reading first bytes (chain_of parts number rest)
+read_all version reading first bytes taken parts number rest read end =
+    subst (λ (all : List ExtensionPart). IsExtensionChain version reading first bytes (chain_of all number rest))
+    (append-nil parts)
+    (read.chain [] number rest (end, refl, refl))
+
+-- the next header is refused
+pub read_refused : (version : IpVersion) (reading : Reading) (first : ℕ) (bytes : List ℕ) (taken : List ℕ)
+    (parts : List ExtensionPart) (number : ℕ) (rest : List ℕ) (error : HeaderSliceError)
+    → (read : IsRead version reading first bytes taken parts number rest)
+    → demand_of version reading taken number ≡ takes
+    → RefusesExtensionPart number rest error → RefusesExtensionChain version reading first bytes (further_in
+    (length read.front) error)
+read_refused version reading first bytes taken parts number rest error read demand refused =
+    read.refused [] (further_in (length read.front) error) (inr (demand, (error, refused, refl)))
+
+-- hop by hop options come that must not
+pub read_misplaced : (version : IpVersion) (reading : Reading) (first : ℕ) (bytes : List ℕ) (taken : List ℕ)
+    (parts : List ExtensionPart) (number : ℕ) (rest : List ℕ)
+    → IsRead version reading first bytes taken parts number rest → demand_of version reading taken number ≡ misplaced
+    → RefusesExtensionChain version reading first bytes (header_error.Content content.HopByHopNotAtStart)
+read_misplaced version reading first bytes taken parts number rest read wrong =
+    read.refused [] (header_error.Content content.HopByHopNotAtStart) (inl (wrong, refl))
+
+-- how many bytes were read
+pub front_len : (bytes front rest : List ℕ) → bytes ≡ front ++ rest → length front ≡ length bytes - length rest
+front_len bytes front rest split = omega (arith, ap length split, length-append front rest)
+
+-- ---- what a number demands in the reading of slices
+
+pub slices_take : (taken : List ℕ) (number : ℕ) → is_ipv6_extension number ≡ true → (number ≡ 0
+    → is_first taken ≡ true) → demand_of ipv6 slices taken number ≡ takes
+slices_take taken number kind start = grind (arith, common_steps)
+
+pub slices_end : (taken : List ℕ) (number : ℕ) → is_ipv6_extension number ≡ false
+    → demand_of ipv6 slices taken number ≡ ends
+slices_end taken number none = grind (arith, common_steps)
+
+pub misplaced_0 : (reading : Reading) (taken : List ℕ) (number : ℕ) → number ≡ 0 → is_first taken ≡ false
+    → demand_of ipv6 reading taken number ≡ misplaced
+misplaced_0 reading taken number is start = grind (arith, common_steps)
+
+-- whether one more header fragments
+pub fragments_more : (parts : List ExtensionPart) (part : ExtensionPart)
+    → chain_fragments (parts ++ part ∷ []) ≡ (chain_fragments parts || part_fragments part)
+fragments_more [] part = grind (arith, common_steps)
+fragments_more (other ∷ parts) part = grind (arith, common_steps, fragments_more parts part)
+
+-- what the loop over slices has read: headers, and whether one of them fragments
+pub record SlicesRead (first : ℕ) (bytes : List ℕ) (number : ℕ) (rest : List ℕ) (fragmented : Bool) : Type 0 where
+  pub taken : List ℕ
+  pub parts : List ExtensionPart
+  pub read : IsRead ipv6 slices first bytes taken parts number rest
+  pub fragments : fragmented ≡ chain_fragments parts
+
+-- ---- where the reading stands
+
+-- nothing was read where no byte is before the rest
+pub at_start : (version : IpVersion) (reading : Reading) (first : ℕ) (bytes : List ℕ) (taken : List ℕ)
+    (parts : List ExtensionPart) (number : ℕ) (rest : List ℕ)
+    → IsRead version reading first bytes taken parts number rest → length bytes - length rest ≤ 0
+    → is_first taken ≡ true
+at_start version reading first bytes taken parts number rest read none =
+    read.start ∙ eq-eqb (length read.front) 0 (omega (arith, front_len bytes read.front rest read.split))
+
+-- something was read where bytes are before it
+pub past_start : (version : IpVersion) (reading : Reading) (first : ℕ) (bytes : List ℕ) (taken : List ℕ)
+    (parts : List ExtensionPart) (number : ℕ) (rest : List ℕ)
+    → IsRead version reading first bytes taken parts number rest → 0 < length bytes - length rest
+    → is_first taken ≡ false
+past_start version reading first bytes taken parts number rest read some =
+    read.start ∙ ne_eqb (length read.front) 0 (λ none. omega (arith, front_len bytes read.front rest read.split))
+
+-- the same under other names of the number and the rest
+pub read_as : (version : IpVersion) (reading : Reading) (first : ℕ) (bytes : List ℕ) (taken : List ℕ)
+    (parts : List ExtensionPart) (number other : ℕ) (rest after : List ℕ)
+    → IsRead version reading first bytes taken parts number rest → other ≡ number → after ≡ rest
+    → IsRead version reading first bytes taken parts other after
+read_as version reading first bytes taken parts number other rest after read same_number same_rest =
+    subst (λ (r : List ℕ). IsRead version reading first bytes taken parts other r) (sym same_rest)
+    (subst (λ (n : ℕ). IsRead version reading first bytes taken parts n rest) (sym same_number) read)
+
+-- the bytes before the rest
+pub read_front : (version : IpVersion) (reading : Reading) (first : ℕ) (bytes : List ℕ) (taken : List ℕ)
+    (parts : List ExtensionPart) (number : ℕ) (rest : List ℕ)
+    → (read : IsRead version reading first bytes taken parts number rest)
+    → take (length bytes - length rest) bytes ≡ read.front
+read_front version reading first bytes taken parts number rest read =
+    ap (take (length bytes - length rest)) read.split
+    ∙ take_at read.front rest (length bytes - length rest) (front_len bytes read.front rest read.split)
+
+-- a slice more
+pub slice_more : (first : ℕ) (bytes : List ℕ) (number : ℕ) (rest : List ℕ) (fragmented : Bool) (part : ExtensionPart)
+    (behind : List ℕ) (next : ℕ) (after : List ℕ) (fragments : Bool)
+    → (read : SlicesRead first bytes number rest fragmented) → is_ipv6_extension number ≡ true → (number ≡ 0
+    → length bytes - length rest ≤ 0) → IsExtensionPart number rest part behind
+    → next ≡ part_next part → after ≡ behind → fragments ≡ (fragmented || part_fragments part)
+    → SlicesRead first bytes next after fragments
+slice_more first bytes number rest fragmented part behind next after fragments read kind start is next_is after_is
+    fragments_is = record {
+      taken = number ∷ read.taken;
+      parts = read.parts ++ part ∷ [];
+      read = read_as ipv6 slices first bytes (number ∷ read.taken) (read.parts ++ part ∷ [])
+          (part_next part) next behind after
+          (read_part ipv6 slices first bytes read.taken read.parts number rest part behind read.read
+          (slices_take read.taken number kind (λ zero_is. at_start ipv6 slices first bytes read.taken read.parts number
+          rest read.read (start zero_is))) is)
+          next_is after_is;
+      fragments = fragments_is ∙ ap (λ (b : Bool). b || part_fragments part) read.fragments
+          ∙ sym (fragments_more read.parts part);
+    }
+
+-- the next slice is refused
+pub slice_refused : (first : ℕ) (bytes : List ℕ) (number : ℕ) (rest : List ℕ) (fragmented : Bool)
+    (error shown : HeaderSliceError)
+    → SlicesRead first bytes number rest fragmented → is_ipv6_extension number ≡ true → (number ≡ 0
+    → length bytes - length rest ≤ 0) → RefusesExtensionPart number rest error
+    → shown ≡ further_in (length bytes - length rest) error → RefusesExtensionChain ipv6 slices first bytes shown
+slice_refused first bytes number rest fragmented error shown read kind start refused same =
+    subst (RefusesExtensionChain ipv6 slices first bytes) (ap (λ (n : ℕ). further_in n error)
+    (front_len bytes read.read.front rest read.read.split) ∙ sym same)
+    (read_refused ipv6 slices first bytes read.taken read.parts number rest error read.read
+    (slices_take read.taken number kind (λ zero_is. at_start ipv6 slices first bytes read.taken read.parts number rest
+    read.read (start zero_is))) refused)
+
+-- hop by hop options that are not first
+pub slice_misplaced : (first : ℕ) (bytes : List ℕ) (number : ℕ) (rest : List ℕ) (fragmented : Bool)
+    → SlicesRead first bytes number rest fragmented → number ≡ 0 → 0 < length bytes - length rest
+    → RefusesExtensionChain ipv6 slices first bytes (header_error.Content content.HopByHopNotAtStart)
+slice_misplaced first bytes number rest fragmented read zero_is some =
+    read_misplaced ipv6 slices first bytes read.taken read.parts number rest read.read
+    (misplaced_0 slices read.taken number zero_is
+    (past_start ipv6 slices first bytes read.taken read.parts number rest read.read some))
+
+-- all slices
+pub record AllSlices (first : ℕ) (bytes : List ℕ) (number : ℕ) (rest front : List ℕ) (fragmented : Bool) : Type 0 where
+  pub split : bytes ≡ front ++ rest
+  pub chain : IsExtensionChain ipv6 slices first bytes (chain_of (shown_parts first front) number rest)
+  pub fragments : fragmented ≡ chain_fragments (shown_parts first front)
+
+pub all_slices : (first : ℕ) (bytes : List ℕ) (number : ℕ) (rest : List ℕ) (fragmented : Bool)
+    → SlicesRead first bytes number rest fragmented → is_ipv6_extension number ≡ false
+    → AllSlices first bytes number rest (take (length bytes - length rest) bytes) fragmented
+all_slices first bytes number rest fragmented read none =
+    let front_is = read_front ipv6 slices first bytes read.taken read.parts number rest read.read in
+    let chain = read_all ipv6 slices first bytes read.taken read.parts number rest read.read
+    (slices_end read.taken number none) in
+    let shown = ap (shown_parts first) front_is
+    ∙ front_shown first bytes read.read.front read.parts number rest chain read.read.split in
+    record {
+      split = read.read.split ∙ ap (λ (s : List ℕ). s ++ rest) (sym front_is);
+      chain = subst (λ (all : List ExtensionPart). IsExtensionChain ipv6 slices first bytes
+          (chain_of all number rest)) (sym shown) chain;
+      fragments = read.fragments ∙ ap chain_fragments (sym shown);
+    }

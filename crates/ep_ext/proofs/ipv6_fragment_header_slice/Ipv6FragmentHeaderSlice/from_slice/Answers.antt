@@ -1,0 +1,8 @@
+use Rattle.std.proofs.Common.{drop, take-append-drop, sym, refl, arith}
+use Rattle.ep_ext.proofs.FragmentHeaderLemmas.{front_is}
+use Rattle.ep_ext.proofs.ipv6_fragment_header_slice.Ipv6FragmentHeaderSlice.from_slice.Goals as goal
+
+pub returns-clause-ok : goal.returns-clause-ok
+returns-clause-ok c =
+    let bytes = c.args.slice.now in
+    (drop 8 bytes, sym (take-append-drop 8 bytes), front_is bytes 8 refl (λ i. omega (arith, c.type_inv.slice i)) (omega arith))

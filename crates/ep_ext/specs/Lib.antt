@@ -1,0 +1,13 @@
+pub mod Chains
+pub mod ExtensionParts
+pub mod FragmentHeader
+pub mod FragmentHeaderSlices
+pub mod IpAuth
+pub mod IpAuthSlices
+pub mod Ipv4Chains
+pub mod Ipv6Chains
+pub mod Ipv6Slices
+pub mod RawExtension
+pub mod RawExtensionSlices
+pub mod ShownChains
+pub mod Walks

@@ -1,0 +1,6 @@
+//! The errors of extension headers.
+
+pub mod ip_auth;
+pub mod ipv6_exts;
+
+pub use ep_base::err::{Layer, LenError, ipv4_exts};

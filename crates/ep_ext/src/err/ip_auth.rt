@@ -1,0 +1,6 @@
+//! Refusals of authentication headers (RFC 4302).
+
+mod icv_len_error;
+
+pub use ep_base::err::ip_auth::{HeaderError, HeaderSliceError};
+pub use icv_len_error::IcvLenError;

@@ -1,0 +1,6 @@
+//! Refusals of the extension headers of IPv6 (RFC 8200, 4).
+
+mod ext_payload_len_error;
+
+pub use ep_base::err::ipv6_exts::{ExtsWalkError, HeaderError, HeaderSliceError, HeaderWriteError};
+pub use ext_payload_len_error::ExtPayloadLenError;

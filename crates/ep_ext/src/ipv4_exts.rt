@@ -1,0 +1,108 @@
+//! The extension headers of IPv4 by value.
+
+ghost use Rattle.std.specs.Prelude.{◌≡◌, ◌≤◌, ◌++◌, ◌↔◌, ℕ, List, length, IfOk, IfErr, OnOk, OnErr, IsOkAnd, Ok, Err};
+ghost use Rattle.ep_base.specs.Layer.{headers};
+ghost use Rattle.ep_base.specs.declared.err.ipv4_exts.ExtsWalkError.{ExtsWalkError};
+ghost use Rattle.ep_base.specs.declared.err.ipv4_exts.HeaderWriteError.TheVariants as write_error;
+ghost use Rattle.ep_ext.specs.ExtensionParts.{auth_refusal};
+ghost use Rattle.ep_ext.specs.Chains.{ipv4, ExtensionChain, IsExtensionChain, RefusesExtensionChain, FitParts, chain_of, parts_bytes};
+ghost use Rattle.ep_ext.specs.Ipv4Chains.{ipv4_parts, ipv4_walk, ipv4_first, ipv4_linked};
+
+use crate::ip_auth_header::IpAuthHeader;
+use ep_base::err::ip_auth::HeaderSliceError;
+use ep_base::err::ipv4_exts::{ExtsWalkError, HeaderWriteError};
+use ep_base::{IpNumber, ip_number};
+
+/// The extension headers of an IPv4 packet: an authentication header (RFC 4302), or none.
+#[derive(Clone, Debug, PartialEq, Eq, Default, Drop)]
+pub struct Ipv4Extensions {
+    /// The authentication header.
+    pub auth: Option<IpAuthHeader>,
+}
+
+impl Ipv4Extensions {
+    /// The extension headers at the front of the slice, which begins with what the number says, the number of what
+    /// follows them, and the bytes behind them.
+    #[inline]
+    pub fn from_slice(
+        number: IpNumber,
+        slice: &[u8],
+    ) -> Result<(Ipv4Extensions, IpNumber, &[u8]), HeaderSliceError>
+        ensures ok { IfOk result (λ read. IsExtensionChain ipv4 headers number.0 slice.now
+            (chain_of (ipv4_parts read.0) read.1.0 read.2.now)) }
+        ensures only { (chain : ExtensionChain) → IsExtensionChain ipv4 headers number.0 slice.now chain
+            → IsOkAnd result (λ read. chain_of (ipv4_parts read.0) read.1.0 read.2.now ≡ chain) }
+        ensures err { IfErr result (λ error. RefusesExtensionChain ipv4 headers number.0 slice.now
+            (auth_refusal error)) }
+    {
+        if number != ip_number::AUTHENTICATION_HEADER {
+            return Ok((Ipv4Extensions { auth: None }, number, slice));
+        }
+        let (header, rest) = IpAuthHeader::from_slice(slice)?;
+        let next_header = header.next_header;
+        Ok((Ipv4Extensions { auth: Some(header) }, next_header, rest))
+    }
+
+    /// The number of bytes of the headers: at most 1028.
+    #[inline]
+    pub fn header_len(&self) -> usize
+        ensures bytes { result ≡ length (parts_bytes (ipv4_parts self.now)) }
+        ensures bound { result ≤ 1028 }
+    {
+        match &self.auth {
+            Some(header) => header.header_len(),
+            None => 0,
+        }
+    }
+
+    /// Lets the headers lead to this number, and gives the first number.
+    pub fn set_next_headers(&mut self, last: IpNumber) -> IpNumber
+        ensures linked { self.new ≡ ipv4_linked self.old last }
+        ensures first { result ≡ ipv4_first self.old last }
+    {
+        match &mut self.auth {
+            Some(header) => {
+                header.next_header = last;
+                ip_number::AUTHENTICATION_HEADER
+            }
+            None => last,
+        }
+    }
+
+    /// The number of what follows the headers, where this is the first number.
+    pub fn next_header(&self, first: IpNumber) -> Result<IpNumber, ExtsWalkError>
+        ensures { result ≡ ipv4_walk self.now first }
+    {
+        match &self.auth {
+            Some(header) => {
+                if first == ip_number::AUTHENTICATION_HEADER {
+                    Ok(header.next_header)
+                } else {
+                    Err(ExtsWalkError::ExtNotReferenced {
+                        missing_ext: ip_number::AUTHENTICATION_HEADER,
+                    })
+                }
+            }
+            None => Ok(first),
+        }
+    }
+
+    /// Appends the headers' bytes, where this is the first number. A refusal leaves the buffer as it was.
+    pub fn write(&self, buf: &mut Vec<u8>, first: IpNumber) -> Result<(), HeaderWriteError>
+        ensures ok { OnOk result (buf.new.items ≡ buf.old.items ++ parts_bytes (ipv4_parts self.now)) }
+        ensures err { OnErr result (buf.new.items ≡ buf.old.items) }
+        ensures fits { OnOk result (FitParts (ipv4_parts self.now)) }
+        ensures walk { (error : ExtsWalkError)
+            → (ipv4_walk self.now first ≡ Err error) ↔ (result ≡ Err (write_error.Content error)) }
+    {
+        if let Err(error) = self.next_header(first) {
+            return Err(HeaderWriteError::Content(error));
+        }
+        if let Some(header) = &self.auth {
+            if header.write(buf).is_err() {
+                return Err(HeaderWriteError::OutOfMemory);
+            }
+        }
+        Ok(())
+    }
+}

@@ -1,0 +1,174 @@
+//! The extension headers of IPv6 by value (RFC 8200, 4.1).
+
+ghost use Rattle.std.specs.Prelude.{◌≡◌, ◌≤◌, ◌++◌, ◌↔◌, ◌==◌, ℕ, List, length, true, false, IfOk, IfErr, OnOk, OnErr, IsOkAnd, Ok, Err};
+ghost use Rattle.ep_base.specs.Layer.{headers};
+ghost use Rattle.ep_ext.specs.ExtensionParts.{ExtensionPart, IsExtensionPart, RefusesExtensionPart, part_next};
+ghost use Rattle.ep_ext.specs.Chains.{ipv6, ExtensionChain, IsExtensionChain, RefusesExtensionChain, chain_of, chain_fragments, parts_bytes, is_ipv6_extension};
+ghost use Rattle.ep_ext.specs.Ipv6Slices.{extension_slice_part};
+ghost use Rattle.ep_ext.specs.Ipv6Chains.{no_ipv6_extensions, ipv6_parts, ipv6_first, ipv6_linked, extensions_of, with_part, has_kind};
+
+use crate::ip_auth_header::IpAuthHeader;
+use crate::ipv6_ext_slice::{Ipv6ExtensionSlice, further, is_extension};
+use crate::ipv6_fragment_header::Ipv6FragmentHeader;
+use crate::ipv6_raw_ext_header::Ipv6RawExtHeader;
+use crate::ipv6_routing_exts::Ipv6RoutingExtensions;
+use ep_base::err::ipv6_exts::{HeaderError, HeaderSliceError};
+use ep_base::{IpNumber, ip_number};
+
+/// The extension headers of an IPv6 packet (RFC 8200, 4.1): at most one of each kind, and destination options a second
+/// time behind a routing header.
+#[derive(Clone, Debug, PartialEq, Eq, Default, Drop)]
+pub struct Ipv6Extensions {
+    /// The hop by hop options.
+    pub hop_by_hop_options: Option<Ipv6RawExtHeader>,
+    /// The destination options that stand before a routing header, or without one.
+    pub destination_options: Option<Ipv6RawExtHeader>,
+    /// The routing header, and the destination options behind it.
+    pub routing: Option<Ipv6RoutingExtensions>,
+    /// The fragment header.
+    pub fragment: Option<Ipv6FragmentHeader>,
+    /// The authentication header.
+    pub auth: Option<IpAuthHeader>,
+}
+
+impl Ipv6Extensions {
+    /// The extension headers at the front of the slice, which begins with what the number says, the number of what
+    /// follows them, and the bytes behind them. A second header of a kind ends them.
+    #[inline]
+    pub fn from_slice(
+        number: IpNumber,
+        slice: &[u8],
+    ) -> Result<(Ipv6Extensions, IpNumber, &[u8]), HeaderSliceError>
+        ensures ok { IfOk result (λ read. (parts : List ExtensionPart) × (read.0 ≡ extensions_of parts)
+            × IsExtensionChain ipv6 headers number.0 slice.now (chain_of parts read.1.0 read.2.now)) }
+        ensures only { (chain : ExtensionChain) → IsExtensionChain ipv6 headers number.0 slice.now chain
+            → IsOkAnd result (λ read. (read.0 ≡ extensions_of chain.parts)
+            × (read.1.0 ≡ chain.last) × (read.2.now ≡ chain.rest)) }
+        ensures err { IfErr result (RefusesExtensionChain ipv6 headers number.0 slice.now) }
+    {
+        let mut extensions = Ipv6Extensions::default();
+        match extensions.fill(number, slice) {
+            Ok((next, rest)) => Ok((extensions, next, rest)),
+            Err(error) => Err(error),
+        }
+    }
+
+    /// Reads the extension headers at the front of the slice into a value without headers.
+    fn fill<'a>(
+        &mut self,
+        number: IpNumber,
+        slice: &'a [u8],
+    ) -> Result<(IpNumber, &'a [u8]), HeaderSliceError>
+        requires { self.old ≡ no_ipv6_extensions }
+        ensures ok { IfOk result (λ read. (parts : List ExtensionPart) × (self.new ≡ extensions_of parts)
+            × IsExtensionChain ipv6 headers number.0 slice.now (chain_of parts read.0.0 read.1.now)) }
+        ensures err { IfErr result (RefusesExtensionChain ipv6 headers number.0 slice.now) }
+    {
+        let mut next = number;
+        let mut rest = slice;
+        while is_extension(next) {
+            let offset = slice.len() - rest.len();
+            if next == ip_number::IPV6_HEADER_HOP_BY_HOP && offset > 0 {
+                return Err(HeaderSliceError::Content(HeaderError::HopByHopNotAtStart));
+            }
+            if self.has(next) {
+                return Ok((next, rest));
+            }
+            match self.read_one(next, rest) {
+                Ok((follows, behind)) => {
+                    next = follows;
+                    rest = behind;
+                }
+                Err(error) => return Err(further(error, offset)),
+            }
+        }
+        Ok((next, rest))
+    }
+
+    /// Whether there is a header of the number's kind.
+    #[inline]
+    fn has(&self, number: IpNumber) -> bool
+        ensures { result ≡ has_kind self.now number.0 }
+    {
+        if number == ip_number::IPV6_HEADER_HOP_BY_HOP {
+            return self.hop_by_hop_options.is_some();
+        }
+        if number == ip_number::IPV6_ROUTE_HEADER {
+            return self.routing.is_some();
+        }
+        if number == ip_number::IPV6_FRAGMENTATION_HEADER {
+            return self.fragment.is_some();
+        }
+        if number == ip_number::AUTHENTICATION_HEADER {
+            return self.auth.is_some();
+        }
+        if number == ip_number::IPV6_DESTINATION_OPTIONS {
+            return match &self.routing {
+                Some(behind) => behind.final_destination_options.is_some(),
+                None => self.destination_options.is_some(),
+            };
+        }
+        false
+    }
+
+    /// Reads the header of the number's kind at the front of the slice, and gives what follows it.
+    fn read_one<'a>(
+        &mut self,
+        number: IpNumber,
+        slice: &'a [u8],
+    ) -> Result<(IpNumber, &'a [u8]), HeaderSliceError>
+        requires { is_ipv6_extension number.0 ≡ true }
+        ensures ok { IfOk result (λ read. (part : ExtensionPart) × (self.new ≡ with_part self.old part)
+            × (read.0.0 ≡ part_next part) × IsExtensionPart number.0 slice.now part read.1.now) }
+        ensures err { IfErr result (RefusesExtensionPart number.0 slice.now) }
+    {
+        let part = match Ipv6ExtensionSlice::read(number, slice) {
+            Ok(part) => part,
+            Err(error) => return Err(error),
+        };
+        self.put(&part);
+        Ok((part.next_header(), &slice[part.slice().len()..]))
+    }
+
+    /// Takes the header by value.
+    fn put(&mut self, part: &Ipv6ExtensionSlice<'_>)
+        ensures { self.new ≡ with_part self.old (extension_slice_part part.now) }
+    {
+        match part {
+            Ipv6ExtensionSlice::HopByHop(header) => {
+                self.hop_by_hop_options = Some(header.to_header());
+            }
+            Ipv6ExtensionSlice::Routing(header) => {
+                self.routing = Some(Ipv6RoutingExtensions {
+                    routing: header.to_header(),
+                    final_destination_options: None,
+                });
+            }
+            Ipv6ExtensionSlice::Fragment(header) => {
+                self.fragment = Some(header.to_header());
+            }
+            Ipv6ExtensionSlice::DestinationOptions(header) => match &mut self.routing {
+                Some(behind) => {
+                    behind.final_destination_options = Some(header.to_header());
+                }
+                None => {
+                    self.destination_options = Some(header.to_header());
+                }
+            },
+            Ipv6ExtensionSlice::Authentication(header) => {
+                self.auth = Some(header.to_header());
+            }
+        }
+    }
+
+    /// Whether the fragment header says that the packet carries one fragment of a longer payload.
+    #[inline]
+    pub fn is_fragmenting_payload(&self) -> bool
+        ensures { result ≡ chain_fragments (ipv6_parts self.now) }
+    {
+        match &self.fragment {
+            Some(header) => header.is_fragmenting_payload(),
+            None => false,
+        }
+    }
+}

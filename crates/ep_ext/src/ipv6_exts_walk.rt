@@ -1,0 +1,238 @@
+//! A walk along the numbers of the extension headers of IPv6 (RFC 8200, 4.1).
+
+ghost use Rattle.std.specs.Prelude.{◌≡◌, ◌++◌, ◌↔◌, ℕ, List, Err, option_map, IfOk, IfErr, OnOk, OnErr, IsOkAnd};
+ghost use Rattle.ep_base.specs.declared.err.ipv6_exts.ExtsWalkError.{ExtsWalkError};
+ghost use Rattle.ep_base.specs.declared.err.ipv6_exts.HeaderWriteError.TheVariants as write_error;
+ghost use Rattle.ep_base.specs.IpNumbers.{destination_options_number};
+ghost use Rattle.ep_ext.specs.ExtensionParts.{ExtensionPart, FitsPart, part_next, part_bytes};
+ghost use Rattle.ep_ext.specs.Chains.{FitParts, parts_bytes};
+ghost use Rattle.ep_ext.specs.Ipv6Chains.{WalksAll, RefusesWalk, walk_refusal, number_of};
+ghost use Rattle.ep_ext.specs.Walks.{marked, header_ref_part, header_at, missing_at};
+
+use crate::ip_auth_header::IpAuthHeader;
+use crate::ipv6_exts::Ipv6Extensions;
+use crate::ipv6_fragment_header::Ipv6FragmentHeader;
+use crate::ipv6_raw_ext_header::Ipv6RawExtHeader;
+use ep_base::err::ipv6_exts::{ExtsWalkError, HeaderWriteError};
+use ep_base::{IpNumber, ip_number};
+use std::alloc::AllocError;
+
+/// Which headers a walk has taken.
+#[derive(Clone, Copy, Default)]
+pub(crate) struct Marks {
+    pub(crate) any: bool,
+    pub(crate) hop_by_hop: bool,
+    pub(crate) destination_options: bool,
+    pub(crate) routing: bool,
+    pub(crate) fragment: bool,
+    pub(crate) auth: bool,
+    pub(crate) final_destination_options: bool,
+}
+
+impl Marks {
+    /// Marks a header as taken.
+    fn mark(&mut self, header: &HeaderRef<'_>)
+        ensures { self.new ≡ marked self.old (header_ref_part header.now) }
+    {
+        self.any = true;
+        match header {
+            HeaderRef::HopByHop(_) => self.hop_by_hop = true,
+            HeaderRef::DestinationOptions(_) => {
+                if self.routing {
+                    self.final_destination_options = true;
+                } else {
+                    self.destination_options = true;
+                }
+            }
+            HeaderRef::Routing(_) => {
+                self.routing = true;
+                self.final_destination_options = false;
+            }
+            HeaderRef::Fragment(_) => self.fragment = true,
+            HeaderRef::Authentication(_) => self.auth = true,
+        }
+    }
+}
+
+/// A header, where it lies in the value that holds it.
+#[derive(Clone, Copy)]
+pub(crate) enum HeaderRef<'a> {
+    HopByHop(&'a Ipv6RawExtHeader),
+    DestinationOptions(&'a Ipv6RawExtHeader),
+    Routing(&'a Ipv6RawExtHeader),
+    Fragment(&'a Ipv6FragmentHeader),
+    Authentication(&'a IpAuthHeader),
+}
+
+impl HeaderRef<'_> {
+    /// What follows the header.
+    fn next_header(&self) -> IpNumber
+        ensures { result.0 ≡ part_next (header_ref_part self.now) }
+    {
+        match self {
+            HeaderRef::HopByHop(header) => header.next_header,
+            HeaderRef::DestinationOptions(header) => header.next_header,
+            HeaderRef::Routing(header) => header.next_header,
+            HeaderRef::Fragment(header) => header.next_header,
+            HeaderRef::Authentication(header) => header.next_header,
+        }
+    }
+
+    /// Appends the header's bytes. A refusal leaves the buffer as it was.
+    fn write(&self, buf: &mut Vec<u8>) -> Result<(), AllocError>
+        ensures ok { OnOk result (buf.new.items ≡ buf.old.items ++ part_bytes (header_ref_part self.now)) }
+        ensures err { OnErr result (buf.new.items ≡ buf.old.items) }
+        ensures fits { FitsPart (header_ref_part self.now) }
+    {
+        match self {
+            HeaderRef::HopByHop(header) => header.write(buf),
+            HeaderRef::DestinationOptions(header) => header.write(buf),
+            HeaderRef::Routing(header) => header.write(buf),
+            HeaderRef::Fragment(header) => header.write(buf),
+            HeaderRef::Authentication(header) => header.write(buf),
+        }
+    }
+}
+
+impl Ipv6Extensions {
+    /// The number of what follows the headers, where this is the first number.
+    pub fn next_header(&self, first: IpNumber) -> Result<IpNumber, ExtsWalkError>
+        ensures ok { IfOk result (λ last. (parts : List ExtensionPart) × WalksAll self.now first.0 parts last.0) }
+        ensures only { (parts : List ExtensionPart) (last : ℕ) → WalksAll self.now first.0 parts last
+            → IsOkAnd result (λ number. number.0 ≡ last) }
+        ensures err { IfErr result (RefusesWalk self.now first.0) }
+    {
+        let mut marks = Marks::default();
+        let mut number = first;
+        while let Some(header) = self.find(&marks, number) {
+            marks.mark(&header);
+            number = header.next_header();
+        }
+        match self.missing(&marks) {
+            None => Ok(number),
+            Some(missing_ext) => Err(walk_error(missing_ext, number)),
+        }
+    }
+
+    /// Appends the headers' bytes in the order in which the numbers lead to them, where this is the first number. A
+    /// refusal leaves the buffer as it was.
+    pub fn write(&self, buf: &mut Vec<u8>, first: IpNumber) -> Result<(), HeaderWriteError>
+        ensures ok { OnOk result ((parts : List ExtensionPart) × (last : ℕ) × WalksAll self.now first.0 parts last
+            × FitParts parts × (buf.new.items ≡ buf.old.items ++ parts_bytes parts)) }
+        ensures err { OnErr result (buf.new.items ≡ buf.old.items) }
+        ensures walk { (error : ExtsWalkError)
+            → RefusesWalk self.now first.0 error ↔ (result ≡ Err (write_error.Content error)) }
+    {
+        if let Err(error) = self.next_header(first) {
+            return Err(HeaderWriteError::Content(error));
+        }
+        let start = buf.len();
+        let mut marks = Marks::default();
+        let mut number = first;
+        while let Some(header) = self.find(&marks, number) {
+            if header.write(buf).is_err() {
+                buf.truncate(start);
+                return Err(HeaderWriteError::OutOfMemory);
+            }
+            marks.mark(&header);
+            number = header.next_header();
+        }
+        Ok(())
+    }
+
+    /// The header that a walk takes at this number, of those that are not marked.
+    fn find<'a>(&'a self, marks: &Marks, number: IpNumber) -> Option<HeaderRef<'a>>
+        ensures { option_map header_ref_part result ≡ header_at self.now marks.now number.0 }
+    {
+        if number == ip_number::IPV6_HEADER_HOP_BY_HOP {
+            return match &self.hop_by_hop_options {
+                Some(header) if !marks.any => Some(HeaderRef::HopByHop(header)),
+                _ => None,
+            };
+        }
+        if number == ip_number::IPV6_ROUTE_HEADER {
+            return match &self.routing {
+                Some(behind) if !marks.routing => Some(HeaderRef::Routing(&behind.routing)),
+                _ => None,
+            };
+        }
+        if number == ip_number::IPV6_FRAGMENTATION_HEADER {
+            return match &self.fragment {
+                Some(header) if !marks.fragment => Some(HeaderRef::Fragment(header)),
+                _ => None,
+            };
+        }
+        if number == ip_number::AUTHENTICATION_HEADER {
+            return match &self.auth {
+                Some(header) if !marks.auth => Some(HeaderRef::Authentication(header)),
+                _ => None,
+            };
+        }
+        if number == ip_number::IPV6_DESTINATION_OPTIONS {
+            return self.find_destination(marks);
+        }
+        None
+    }
+
+    /// The same, for destination options: the final ones once the routing header is marked.
+    fn find_destination<'a>(&'a self, marks: &Marks) -> Option<HeaderRef<'a>>
+        ensures { option_map header_ref_part result ≡ header_at self.now marks.now destination_options_number }
+    {
+        if !marks.routing {
+            return match &self.destination_options {
+                Some(header) if !marks.destination_options => {
+                    Some(HeaderRef::DestinationOptions(header))
+                }
+                _ => None,
+            };
+        }
+        match &self.routing {
+            Some(behind) => match &behind.final_destination_options {
+                Some(header) if !marks.final_destination_options => {
+                    Some(HeaderRef::DestinationOptions(header))
+                }
+                _ => None,
+            },
+            None => None,
+        }
+    }
+
+    /// The number of the first header, in the order of linking, that is not marked.
+    fn missing(&self, marks: &Marks) -> Option<IpNumber>
+        ensures { option_map number_of result ≡ missing_at self.now marks.now }
+    {
+        if self.hop_by_hop_options.is_some() && !marks.hop_by_hop {
+            return Some(ip_number::IPV6_HEADER_HOP_BY_HOP);
+        }
+        if self.destination_options.is_some() && !marks.destination_options {
+            return Some(ip_number::IPV6_DESTINATION_OPTIONS);
+        }
+        if self.routing.is_some() && !marks.routing {
+            return Some(ip_number::IPV6_ROUTE_HEADER);
+        }
+        if self.fragment.is_some() && !marks.fragment {
+            return Some(ip_number::IPV6_FRAGMENTATION_HEADER);
+        }
+        if self.auth.is_some() && !marks.auth {
+            return Some(ip_number::AUTHENTICATION_HEADER);
+        }
+        match &self.routing {
+            Some(behind)
+                if behind.final_destination_options.is_some() && !marks.final_destination_options =>
+                { Some(ip_number::IPV6_DESTINATION_OPTIONS) }
+            _ => None,
+        }
+    }
+}
+
+/// Why a walk that ended at this number, and left the header of the other, is none.
+fn walk_error(missing_ext: IpNumber, last: IpNumber) -> ExtsWalkError
+    ensures { result ≡ walk_refusal missing_ext.0 last.0 }
+{
+    if missing_ext == ip_number::IPV6_HEADER_HOP_BY_HOP
+        && last == ip_number::IPV6_HEADER_HOP_BY_HOP
+    {
+        return ExtsWalkError::HopByHopNotAtStart;
+    }
+    ExtsWalkError::ExtNotReferenced { missing_ext }
+}

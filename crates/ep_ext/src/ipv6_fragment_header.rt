@@ -1,0 +1,87 @@
+//! The fragment header of IPv6 (RFC 8200, 4.5).
+
+ghost use Rattle.std.specs.Prelude.{◌≡◌, ◌++◌, List, ℕ, length, IfOk, IfErr, OnOk, OnErr, IsOkAnd};
+ghost use Rattle.ep_ext.specs.FragmentHeader.{FitsFragmentHeader, IsFragmentHeader, RefusesFragmentHeader, fragment_header_bytes, is_ipv6_fragment};
+
+use crate::err::LenError;
+use crate::ipv6_fragment_header_slice::Ipv6FragmentHeaderSlice;
+use ep_base::{IpFragOffset, IpNumber};
+use std::alloc::AllocError;
+
+/// A fragment header of IPv6 (RFC 8200, 4.5): 8 bytes.
+#[derive(Clone, Debug, PartialEq, Eq, Drop)]
+pub struct Ipv6FragmentHeader {
+    /// What follows the header, byte 0.
+    pub next_header: IpNumber,
+    /// The place of the fragment in the whole payload in units of 8 bytes, the upper 13 bits of bytes 2 and 3.
+    pub fragment_offset: IpFragOffset,
+    /// Whether further fragments follow this one, the lowest bit of byte 3.
+    pub more_fragments: bool,
+    /// What the fragments of one packet have in common, bytes 4 to 7.
+    pub identification: u32,
+}
+
+impl Ipv6FragmentHeader {
+    /// The number of bytes of a header.
+    pub const LEN: usize = 8;
+
+    /// The header at the front of the slice, and the bytes behind it.
+    #[inline]
+    pub fn from_slice(slice: &[u8]) -> Result<(Ipv6FragmentHeader, &[u8]), LenError>
+        ensures ok { IfOk result (λ read. IsFragmentHeader slice.now (read.0, read.1.now)) }
+        ensures only { (header : Ipv6FragmentHeader) (rest : List ℕ) → IsFragmentHeader slice.now (header, rest)
+            → IsOkAnd result (λ read. (read.0 ≡ header) × (read.1.now ≡ rest)) }
+        ensures err { IfErr result (RefusesFragmentHeader slice.now) }
+    {
+        let header = Ipv6FragmentHeaderSlice::from_slice(slice)?;
+        Ok((header.to_header(), &slice[Ipv6FragmentHeader::LEN..]))
+    }
+
+    /// The number of bytes of the header: 8.
+    #[inline]
+    pub fn header_len(&self) -> usize
+        ensures value { result ≡ 8 }
+        ensures bytes { result ≡ length (fragment_header_bytes self.now) }
+    {
+        Ipv6FragmentHeader::LEN
+    }
+
+    /// Whether the packet carries one fragment of a longer payload: more follow, or it isn't the first.
+    #[inline]
+    pub fn is_fragmenting_payload(&self) -> bool
+        ensures { result ≡ is_ipv6_fragment self.now }
+    {
+        self.more_fragments || self.fragment_offset.value() > 0
+    }
+
+    /// The header as it stands on the wire, with its reserved bits 0.
+    #[inline]
+    pub fn to_bytes(&self) -> [u8; 8]
+        ensures bytes { result ≡ fragment_header_bytes self.now }
+        ensures fits { FitsFragmentHeader self.now }
+    {
+        let [next_header] = self.next_header.0.to_be_bytes();
+        let more_fragments = if self.more_fragments { 1 } else { 0 };
+        let offset_and_flag = (8 * self.fragment_offset.value() + more_fragments).to_be_bytes();
+        let identification = self.identification.to_be_bytes();
+        [
+            next_header,
+            0,
+            offset_and_flag[0],
+            offset_and_flag[1],
+            identification[0],
+            identification[1],
+            identification[2],
+            identification[3],
+        ]
+    }
+
+    /// Appends the header's bytes. A refusal leaves the buffer as it was.
+    pub fn write(&self, buf: &mut Vec<u8>) -> Result<(), AllocError>
+        ensures ok { OnOk result (buf.new.items ≡ buf.old.items ++ fragment_header_bytes self.now) }
+        ensures err { OnErr result (buf.new.items ≡ buf.old.items) }
+        ensures fits { FitsFragmentHeader self.now }
+    {
+        buf.extend_from_slice(&self.to_bytes())
+    }
+}

@@ -1,0 +1,132 @@
+//! An extension header of IPv6 whose payload is left as bytes (RFC 8200, 4).
+
+ghost use Rattle.std.specs.Prelude.{◌≡◌, ◌≤◌, ◌+◌, ◌%◌, ◌++◌, List, ℕ, length, IfOk, IfErr, OnOk, OnErr, IsOkAnd, MatchResult};
+ghost use Rattle.ep_ext.specs.RawExtension.{FitsRawExtension, IsRawExtension, RefusesRawPayload, RefusesRawExtension, raw_extension_bytes, raw_extension_len, raw_extension_payload, raw_extension_with};
+
+use crate::err::LenError;
+use crate::err::ipv6_exts::ExtPayloadLenError;
+use crate::ipv6_raw_ext_header_slice::Ipv6RawExtHeaderSlice;
+use crate::ipv6_raw_ext_payload::Ipv6RawExtPayload;
+use arrayvec::ArrayVec;
+use ep_base::IpNumber;
+use std::alloc::AllocError;
+
+/// Hop by hop options, destination options or a routing header (RFC 8200, 4): 8 to 2048 bytes.
+#[derive(Clone, Debug, PartialEq, Eq, Drop)]
+pub struct Ipv6RawExtHeader {
+    /// What follows the header, byte 0.
+    pub next_header: IpNumber,
+    /// The payload, from byte 2 on.
+    payload: Ipv6RawExtPayload,
+}
+
+impl Ipv6RawExtHeader {
+    /// The least number of bytes of a payload.
+    pub const MIN_PAYLOAD_LEN: usize = 6;
+
+    /// The greatest number of bytes of a payload.
+    pub const MAX_PAYLOAD_LEN: usize = 2046;
+
+    /// The number of bytes of a header with the shortest payload.
+    pub const MIN_LEN: usize = 8;
+
+    /// The number of bytes of a header with the longest payload.
+    pub const MAX_LEN: usize = 2048;
+
+    /// A header with a copy of this payload, which has 6 to 2046 bytes and is a multiple of 8 with the 2 bytes before
+    /// it.
+    #[inline]
+    pub fn new_raw(
+        next_header: IpNumber,
+        payload: &[u8],
+    ) -> Result<Ipv6RawExtHeader, ExtPayloadLenError>
+        ensures { MatchResult result
+            (λ header. (6 ≤ length payload.now)
+            × (length payload.now ≤ 2046)
+            × ((length payload.now + 2) % 8 ≡ 0)
+            × (header ≡ raw_extension_with next_header payload.now))
+            (RefusesRawPayload payload.now) }
+    {
+        if payload.len() < Ipv6RawExtHeader::MIN_PAYLOAD_LEN {
+            return Err(ExtPayloadLenError::TooSmall(payload.len()));
+        }
+        if payload.len() > Ipv6RawExtHeader::MAX_PAYLOAD_LEN {
+            return Err(ExtPayloadLenError::TooBig(payload.len()));
+        }
+        if (payload.len() + 2) % 8 != 0 {
+            return Err(ExtPayloadLenError::Unaligned(payload.len()));
+        }
+        Ok(Ipv6RawExtHeader::copy_of(next_header, payload))
+    }
+
+    /// A header with a copy of this payload.
+    #[inline]
+    pub(crate) fn copy_of(next_header: IpNumber, payload: &[u8]) -> Ipv6RawExtHeader
+        requires least { 6 ≤ length payload.now }
+        requires bound { length payload.now ≤ 2046 }
+        requires units { (length payload.now + 2) % 8 ≡ 0 }
+        ensures { result ≡ raw_extension_with next_header payload.now }
+    {
+        Ipv6RawExtHeader {
+            next_header,
+            payload: Ipv6RawExtPayload::copy_of(payload),
+        }
+    }
+
+    /// The header at the front of the slice, and the bytes behind it.
+    #[inline]
+    pub fn from_slice(slice: &[u8]) -> Result<(Ipv6RawExtHeader, &[u8]), LenError>
+        ensures ok { IfOk result (λ read. IsRawExtension slice.now (read.0, read.1.now)) }
+        ensures only { (header : Ipv6RawExtHeader) (rest : List ℕ) → IsRawExtension slice.now (header, rest)
+            → IsOkAnd result (λ read. (read.0 ≡ header) × (read.1.now ≡ rest)) }
+        ensures err { IfErr result (RefusesRawExtension slice.now) }
+    {
+        let header = Ipv6RawExtHeaderSlice::from_slice(slice)?;
+        Ok((header.to_header(), &slice[header.header_len()..]))
+    }
+
+    /// The payload, from byte 2 on.
+    #[inline]
+    pub fn payload(&self) -> &[u8]
+        ensures value { result.now ≡ raw_extension_payload self.now }
+        ensures least { 6 ≤ length result.now }
+        ensures bound { length result.now ≤ 2046 }
+        ensures units { (length result.now + 2) % 8 ≡ 0 }
+    {
+        self.payload.as_slice()
+    }
+
+    /// The number of bytes of the header, with its payload.
+    #[inline]
+    pub fn header_len(&self) -> usize
+        ensures value { result ≡ raw_extension_len self.now }
+        ensures bytes { result ≡ length (raw_extension_bytes self.now) }
+        ensures bound { result ≤ 2048 }
+    {
+        2 + self.payload().len()
+    }
+
+    /// The header as it stands on the wire.
+    pub fn to_bytes(&self) -> ArrayVec<u8, 2048>
+        ensures bytes { result.items ≡ raw_extension_bytes self.now }
+        ensures fits { FitsRawExtension self.now }
+    {
+        let [next_header] = self.next_header.0.to_be_bytes();
+        let payload = self.payload();
+        let mut bytes = ArrayVec::new();
+        bytes
+            .try_extend_from_slice(&[next_header, self.payload.units()])
+            .unwrap();
+        bytes.try_extend_from_slice(payload).unwrap();
+        bytes
+    }
+
+    /// Appends the header's bytes. A refusal leaves the buffer as it was.
+    pub fn write(&self, buf: &mut Vec<u8>) -> Result<(), AllocError>
+        ensures ok { OnOk result (buf.new.items ≡ buf.old.items ++ raw_extension_bytes self.now) }
+        ensures err { OnErr result (buf.new.items ≡ buf.old.items) }
+        ensures fits { FitsRawExtension self.now }
+    {
+        buf.extend_from_slice(self.to_bytes().as_slice())
+    }
+}

@@ -1,0 +1,71 @@
+//! The payload of an extension header of IPv6 (RFC 8200, 4).
+
+ghost use Rattle.std.specs.Prelude.{◌≡◌, ◌≤◌, ◌+◌, ◌*◌, ◌%◌, length};
+
+use std::marker::Model;
+
+/// The bytes behind the first two of an extension header: 6, and then at most 255 units of 8.
+#[derive(Clone, Debug, PartialEq, Eq, Drop)]
+pub(crate) struct Ipv6RawExtPayload {
+    /// The payload, and then zero bytes.
+    bytes: [u8; 2046],
+    /// The number of units behind the first 6 bytes.
+    units: u8,
+}
+
+impl Model for Ipv6RawExtPayload {
+    ghost use Rattle.std.specs.Prelude.{◌≡◌, ℕ, ◌+◌, ◌-◌, ◌*◌, ◌/◌, ◌≤◌, List, length, take, drop, replicate};
+    ghost use Rattle.ep_base.specs.Padding.{padded, padded_front};
+    ghost use Rattle.std.proofs.Common.{arith, length-take-le};
+
+    ghost Value = { List ℕ };
+
+    ghost view = { λ v. take (6 + 8 * v.units) v.bytes };
+
+    ghost invariant = { λ v. (length v.bytes ≡ 2046) × (v.units ≤ 255)
+        × (drop (6 + 8 * v.units) v.bytes ≡ replicate (2046 - (6 + 8 * v.units)) 0) };
+
+    ghost inverse = { λ payload. record { bytes = padded 2046 payload; units = length payload / 8 } };
+
+    ghost inverse_ok = { λ v h.
+        let len : length (take (6 + 8 * v.units) v.bytes) ≡ 6 + 8 * v.units = length-take-le (6 + 8 * v.units) v.bytes (Prim.omega (arith, h.0, h.1)) in
+        let units : length (take (6 + 8 * v.units) v.bytes) / 8 ≡ v.units = Prim.omega (arith, len) in
+        λ i. record { bytes = padded_front 2046 (6 + 8 * v.units) v.bytes h.0 (Prim.omega (arith, h.1)) h.2 i; units = units i } };
+}
+
+impl Ipv6RawExtPayload {
+    /// A copy of the bytes.
+    #[inline]
+    pub(crate) fn copy_of(slice: &[u8]) -> Ipv6RawExtPayload
+        requires least { 6 ≤ length slice.now }
+        requires bound { length slice.now ≤ 2046 }
+        requires units { (length slice.now + 2) % 8 ≡ 0 }
+        ensures { result ≡ slice.now }
+    {
+        let mut bytes = [0; 2046];
+        bytes[..slice.len()].copy_from_slice(slice);
+        Ipv6RawExtPayload {
+            bytes,
+            units: (slice.len() / 8) as u8,
+        }
+    }
+
+    /// The bytes of the payload.
+    #[inline]
+    pub(crate) fn as_slice(&self) -> &[u8]
+        ensures value { result.now ≡ self.now }
+        ensures least { 6 ≤ length self.now }
+        ensures bound { length self.now ≤ 2046 }
+        ensures units { (length self.now + 2) % 8 ≡ 0 }
+    {
+        &self.bytes[..6 + 8 * self.units as usize]
+    }
+
+    /// The number of units of 8 bytes behind the first 6 bytes.
+    #[inline]
+    pub(crate) fn units(&self) -> u8
+        ensures { 6 + 8 * result ≡ length self.now }
+    {
+        self.units
+    }
+}

@@ -1,0 +1,6 @@
+use Rattle.ep_base.proofs.TableLemmas.{decided}
+use Rattle.ep_ip.proofs.Ipv6Lemmas.{ipv6_packet_is_read}
+use Rattle.ep_ip.proofs.laws.ipv6_packet.Goals as goal
+
+pub returns : goal.returns
+returns c = decided ipv6_packet_is_read

@@ -1,0 +1,155 @@
+//! The header of IPv6 (RFC 8200, 3).
+
+ghost use Rattle.std.specs.Prelude.{◌≡◌, ◌<◌, ◌≤◌, ◌++◌, List, ℕ};
+ghost use Rattle.std.specs.Prelude.{IfOk, IfErr, OnOk, OnErr, IsOkAnd, MatchResult};
+ghost use Rattle.ep_base.specs.declared.err.value_type.ValueType.TheVariants as value_type;
+ghost use Rattle.ep_ip.specs.Ipv6.{IsIpv6Header, RefusesIpv6Header, ipv6_bytes, default_ipv6_header};
+
+use crate::ipv6_header_slice::Ipv6HeaderSlice;
+use ep_base::err::ipv6::HeaderSliceError;
+use ep_base::err::{ValueTooBigError, ValueType};
+use ep_base::{IpNumber, Ipv6FlowLabel};
+use std::alloc::AllocError;
+
+/// The header of an IPv6 packet (RFC 8200, 3): 40 bytes.
+#[derive(Clone, Debug, PartialEq, Eq, Drop)]
+pub struct Ipv6Header {
+    /// The traffic class, the lower 4 bits of byte 0 and the upper 4 bits of byte 1.
+    pub traffic_class: u8,
+    /// The flow label, the lower 4 bits of byte 1, and bytes 2 and 3.
+    pub flow_label: Ipv6FlowLabel,
+    /// The length in bytes of what stands behind the header, bytes 4 and 5. The number 0 stands for all bytes at hand.
+    pub payload_length: u16,
+    /// What stands behind the header, byte 6.
+    pub next_header: IpNumber,
+    /// How many further hops the packet may take, byte 7.
+    pub hop_limit: u8,
+    /// The sender's address, bytes 8 to 23.
+    pub source: [u8; 16],
+    /// The receiver's address, bytes 24 to 39.
+    pub destination: [u8; 16],
+}
+
+impl Default for Ipv6Header {
+    ghost is_default = { λ header. header ≡ default_ipv6_header };
+
+    fn default() -> Ipv6Header {
+        Ipv6Header {
+            traffic_class: 0,
+            flow_label: Ipv6FlowLabel::ZERO,
+            payload_length: 0,
+            next_header: IpNumber(255),
+            hop_limit: 0,
+            source: [0; 16],
+            destination: [0; 16],
+        }
+    }
+}
+
+impl Ipv6Header {
+    /// The number of bytes of a header.
+    pub const LEN: usize = 40;
+
+    /// The header at the front of the slice, and the bytes behind it, whatever its payload length says.
+    pub fn from_slice(slice: &[u8]) -> Result<(Ipv6Header, &[u8]), HeaderSliceError>
+        ensures ok { IfOk result (λ read. IsIpv6Header slice.now (read.0, read.1.now)) }
+        ensures only { (header : Ipv6Header) (rest : List ℕ) → IsIpv6Header slice.now (header, rest)
+            → IsOkAnd result (λ read. (read.0 ≡ header) × (read.1.now ≡ rest)) }
+        ensures err { IfErr result (RefusesIpv6Header slice.now) }
+    {
+        let header = Ipv6HeaderSlice::from_slice(slice)?;
+        Ok((header.to_header(), &slice[Ipv6Header::LEN..]))
+    }
+
+    /// The number of bytes of the header: 40.
+    #[inline]
+    pub fn header_len(&self) -> usize
+        ensures { result ≡ 40 }
+    {
+        Ipv6Header::LEN
+    }
+
+    /// Sets the length of what stands behind the header. A refusal changes nothing.
+    pub fn set_payload_length(&mut self, size: usize) -> Result<(), ValueTooBigError<usize>>
+        ensures { MatchResult result
+            (λ _. (size ≤ 65535) × (self.new ≡ record self.old { payload_length = size }))
+            (λ error. (65535 < size) × (self.new ≡ self.old) × (error ≡ record {
+              actual = size;
+              max_allowed = 65535;
+              value_type = value_type.Ipv6PayloadLength;
+            })) }
+    {
+        const MAX_PAYLOAD_LENGTH: usize = 65535;
+        if size > MAX_PAYLOAD_LENGTH {
+            return Err(ValueTooBigError {
+                actual: size,
+                max_allowed: MAX_PAYLOAD_LENGTH,
+                value_type: ValueType::Ipv6PayloadLength,
+            });
+        }
+        self.payload_length = size as u16;
+        Ok(())
+    }
+
+    /// The header as it stands on the wire.
+    #[inline]
+    pub fn to_bytes(&self) -> [u8; 40]
+        ensures { result ≡ ipv6_bytes self.now }
+    {
+        let version_class_and_label = 0x6000_0000
+            + 0x10_0000 * self.traffic_class as u32
+            + self.flow_label.value();
+        let first = version_class_and_label.to_be_bytes();
+        let payload_length = self.payload_length.to_be_bytes();
+        [
+            first[0],
+            first[1],
+            first[2],
+            first[3],
+            payload_length[0],
+            payload_length[1],
+            self.next_header.0,
+            self.hop_limit,
+            self.source[0],
+            self.source[1],
+            self.source[2],
+            self.source[3],
+            self.source[4],
+            self.source[5],
+            self.source[6],
+            self.source[7],
+            self.source[8],
+            self.source[9],
+            self.source[10],
+            self.source[11],
+            self.source[12],
+            self.source[13],
+            self.source[14],
+            self.source[15],
+            self.destination[0],
+            self.destination[1],
+            self.destination[2],
+            self.destination[3],
+            self.destination[4],
+            self.destination[5],
+            self.destination[6],
+            self.destination[7],
+            self.destination[8],
+            self.destination[9],
+            self.destination[10],
+            self.destination[11],
+            self.destination[12],
+            self.destination[13],
+            self.destination[14],
+            self.destination[15],
+        ]
+    }
+
+    /// Appends the header's bytes. A refusal leaves the buffer as it was.
+    pub fn write(&self, buf: &mut Vec<u8>) -> Result<(), AllocError>
+        ensures ok { OnOk result (buf.new.items ≡ buf.old.items ++ ipv6_bytes self.now) }
+        ensures err { OnErr result (buf.new.items ≡ buf.old.items) }
+    {
+        buf.extend_from_slice(&self.to_bytes())
+    }
+}

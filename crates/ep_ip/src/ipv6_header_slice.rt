@@ -1,0 +1,165 @@
+//! The header of IPv6 in a slice (RFC 8200, 3).
+
+ghost use Rattle.std.specs.Prelude.{◌≡◌, length};
+ghost use Rattle.ep_ip.specs.Ip.{version_of};
+
+use crate::ipv6_header::Ipv6Header;
+use ep_base::err::ipv6::{HeaderError, HeaderSliceError};
+use ep_base::err::{Layer, LenError};
+use ep_base::{IpNumber, Ipv6FlowLabel, LenSource};
+
+/// The bytes of a header.
+#[derive(Clone, Copy, Debug, PartialEq, Eq)]
+struct HeaderBytes<'a> {
+    slice: &'a [u8],
+    ghost version: { version_of slice.now ≡ 6 },
+    ghost whole: { length slice.now ≡ 40 },
+}
+
+/// The header of an IPv6 packet (RFC 8200, 3) that lies in a slice: 40 bytes.
+#[derive(Clone, Debug, PartialEq, Eq, Drop)]
+pub struct Ipv6HeaderSlice<'a> {
+    bytes: HeaderBytes<'a>,
+}
+
+impl<'a> Ipv6HeaderSlice<'a> {
+    ghost use Rattle.std.specs.Prelude.{◌≡◌, ◌++◌, IfOk, IfErr, IsOkAnd, List, ℕ};
+    ghost use Rattle.ep_ip.specs.declared.ipv6_header.Ipv6Header.{Ipv6Header};
+    ghost use Rattle.ep_ip.specs.Ipv6.{IsIpv6Header, RefusesIpv6Header};
+    ghost use Rattle.ep_ip.specs.Ipv6Slices.{ipv6_header_slice_bytes, ipv6_header_slice_header};
+
+    /// The header at the front of the slice, whatever its payload length says.
+    pub fn from_slice(slice: &'a [u8]) -> Result<Ipv6HeaderSlice<'a>, HeaderSliceError>
+        ensures ok { IfOk result (λ header. (rest : List ℕ) × (slice.now ≡ ipv6_header_slice_bytes header ++ rest)
+            × IsIpv6Header slice.now (ipv6_header_slice_header header, rest)) }
+        ensures only { (header : Ipv6Header) (rest : List ℕ) → IsIpv6Header slice.now (header, rest)
+            → IsOkAnd result (λ shown. ipv6_header_slice_header shown ≡ header) }
+        ensures err { IfErr result (RefusesIpv6Header slice.now) }
+    {
+        if slice.len() < Ipv6Header::LEN {
+            return Err(HeaderSliceError::Len(LenError::at_start(
+                Ipv6Header::LEN,
+                slice.len(),
+                LenSource::Slice,
+                Layer::Ipv6Header,
+            )));
+        }
+        let version_number = slice[0] >> 4;
+        if version_number != 6 {
+            return Err(HeaderSliceError::Content(HeaderError::UnexpectedVersion {
+                version_number,
+            }));
+        }
+        Ok(Ipv6HeaderSlice {
+            bytes: HeaderBytes {
+                slice: &slice[..Ipv6Header::LEN],
+            },
+        })
+    }
+
+    /// The bytes of the header.
+    #[inline]
+    pub fn slice(&self) -> &'a [u8]
+        ensures { result.now ≡ ipv6_header_slice_bytes self.now }
+    {
+        self.bytes.slice
+    }
+
+    /// The number of bytes of the header: 40.
+    #[inline]
+    pub fn header_len(&self) -> usize
+        ensures value { result ≡ 40 }
+        ensures bytes { result ≡ length (ipv6_header_slice_bytes self.now) }
+    {
+        self.bytes.slice.len()
+    }
+
+    /// The version, the upper 4 bits of byte 0: 6.
+    #[inline]
+    pub fn version(&self) -> u8
+        ensures { result ≡ 6 }
+    {
+        self.bytes.slice[0] >> 4
+    }
+
+    /// The traffic class, the lower 4 bits of byte 0 and the upper 4 bits of byte 1.
+    #[inline]
+    pub fn traffic_class(&self) -> u8
+        ensures { result ≡ (ipv6_header_slice_header self.now).traffic_class }
+    {
+        (self.bytes.slice[0] & 0xf) * 16 + (self.bytes.slice[1] >> 4)
+    }
+
+    /// The flow label, the lower 4 bits of byte 1, and bytes 2 and 3.
+    #[inline]
+    pub fn flow_label(&self) -> Ipv6FlowLabel
+        ensures { result ≡ (ipv6_header_slice_header self.now).flow_label }
+    {
+        let class_and_label = u32::from_be_bytes([
+            0,
+            self.bytes.slice[1],
+            self.bytes.slice[2],
+            self.bytes.slice[3],
+        ]);
+        Ipv6FlowLabel::try_new(class_and_label & 0xf_ffff).unwrap()
+    }
+
+    /// The length in bytes of what stands behind the header, bytes 4 and 5.
+    #[inline]
+    pub fn payload_length(&self) -> u16
+        ensures { result ≡ (ipv6_header_slice_header self.now).payload_length }
+    {
+        u16::from_be_bytes([self.bytes.slice[4], self.bytes.slice[5]])
+    }
+
+    /// What stands behind the header, byte 6.
+    #[inline]
+    pub fn next_header(&self) -> IpNumber
+        ensures { result ≡ (ipv6_header_slice_header self.now).next_header }
+    {
+        IpNumber(self.bytes.slice[6])
+    }
+
+    /// How many further hops the packet may take, byte 7.
+    #[inline]
+    pub fn hop_limit(&self) -> u8
+        ensures { result ≡ (ipv6_header_slice_header self.now).hop_limit }
+    {
+        self.bytes.slice[7]
+    }
+
+    /// The sender's address, bytes 8 to 23.
+    #[inline]
+    pub fn source(&self) -> [u8; 16]
+        ensures { result ≡ (ipv6_header_slice_header self.now).source }
+    {
+        let mut source = [0; 16];
+        source.copy_from_slice(&self.bytes.slice[8..24]);
+        source
+    }
+
+    /// The receiver's address, bytes 24 to 39.
+    #[inline]
+    pub fn destination(&self) -> [u8; 16]
+        ensures { result ≡ (ipv6_header_slice_header self.now).destination }
+    {
+        let mut destination = [0; 16];
+        destination.copy_from_slice(&self.bytes.slice[24..40]);
+        destination
+    }
+
+    /// The header as a value.
+    pub fn to_header(&self) -> Ipv6Header
+        ensures { result ≡ ipv6_header_slice_header self.now }
+    {
+        Ipv6Header {
+            traffic_class: self.traffic_class(),
+            flow_label: self.flow_label(),
+            payload_length: self.payload_length(),
+            next_header: self.next_header(),
+            hop_limit: self.hop_limit(),
+            source: self.source(),
+            destination: self.destination(),
+        }
+    }
+}

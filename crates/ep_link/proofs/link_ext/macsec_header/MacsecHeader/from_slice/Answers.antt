@@ -1,0 +1,16 @@
+use Rattle.std.proofs.Common.{◌∙◌}
+use Rattle.ep_base.proofs.BytesLemmas.{rest_of}
+use Rattle.ep_base.proofs.TableLemmas.{one_value}
+use Rattle.ep_link.specs.Macsec.{macsec_header_of}
+use Rattle.ep_link.proofs.MacsecLemmas.{macsec_header_is_read}
+use Rattle.ep_link.proofs.link_ext.macsec_header.MacsecHeader.from_slice.Goals as goal
+
+pub returns-clause-only : goal.returns-clause-only
+returns-clause-only c =
+    let bytes = c.args.slice.now in
+    let ok = c.in_ok-header.ensures.ok in
+    let tag = c.in_ok-header.header.tag.slice.now in
+    let same = rest_of bytes tag ok.0 c.header_len.result ok.1 c.header_len.ensures.bytes in
+    λ header rest other.
+    let one = one_value macsec_header_is_read bytes (macsec_header_of tag, ok.0) (header, rest) ok.2 other in
+    (c.to_header.ensures ∙ (λ i. (one i).0), same ∙ (λ i. (one i).1))

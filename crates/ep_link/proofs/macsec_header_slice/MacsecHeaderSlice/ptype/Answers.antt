@@ -1,7 +1,0 @@
-use Rattle.std.proofs.Common.{arith}
-use Rattle.std.proofs.lemmas.Grind.{common_steps}
-use Rattle.ep_link.proofs.MacsecReads.{encrypted_by}
-use Rattle.ep_link.proofs.macsec_header_slice.MacsecHeaderSlice.ptype.Goals as goal
-
-pub returns-in_default : goal.returns-in_default
-returns-in_default c = encrypted_by _ _ (grind (arith, common_steps))

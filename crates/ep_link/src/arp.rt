@@ -1,0 +1,12 @@
+//! ARP (RFC 826).
+
+mod arp_address;
+mod arp_hardware_id;
+mod arp_operation;
+mod arp_packet;
+mod arp_packet_slice;
+
+pub use arp_hardware_id::ArpHardwareId;
+pub use arp_operation::ArpOperation;
+pub use arp_packet::ArpPacket;
+pub use arp_packet_slice::ArpPacketSlice;

@@ -1,0 +1,70 @@
+//! An address in an ARP packet (RFC 826).
+
+ghost use Rattle.std.specs.Prelude.{◌≡◌, ◌≤◌, length};
+
+use std::marker::Model;
+
+/// The bytes of one address of an ARP packet: at most 255.
+#[derive(Clone, Debug, PartialEq, Eq, Drop)]
+pub(crate) struct ArpAddress {
+    /// The address, and then zero bytes.
+    bytes: [u8; 255],
+    /// The number of bytes of the address.
+    len: u8,
+}
+
+impl Model for ArpAddress {
+    ghost use Rattle.std.specs.Prelude.{◌≡◌, ℕ, ◌-◌, ◌≤◌, List, ◌++◌, length, take, drop, replicate};
+    ghost use Rattle.ep_base.specs.Padding.{padded, padded_front};
+    ghost use Rattle.std.proofs.Common.{arith, length-take-le};
+
+    ghost Value = { List ℕ };
+
+    ghost view = { λ a. take a.len a.bytes };
+
+    ghost invariant = { λ a. (length a.bytes ≡ 255) × (a.len ≤ 255)
+        × (drop a.len a.bytes ≡ replicate (255 - a.len) 0) };
+
+    ghost inverse = { λ address. record { bytes = padded 255 address; len = length address } };
+
+    ghost inverse_ok = { λ a h i. record {
+      bytes = padded_front 255 a.len a.bytes h.0 h.1 h.2 i;
+      len = length-take-le a.len a.bytes (Prim.omega (arith, h.0, h.1)) i;
+    } };
+}
+
+impl ArpAddress {
+    /// The greatest number of bytes.
+    pub(crate) const MAX_LEN: usize = 255;
+
+    /// A copy of the bytes.
+    #[inline]
+    pub(crate) fn copy_of(slice: &[u8]) -> ArpAddress
+        requires { length slice.now ≤ 255 }
+        ensures { result ≡ slice.now }
+    {
+        let mut bytes = [0; 255];
+        bytes[..slice.len()].copy_from_slice(slice);
+        ArpAddress {
+            bytes,
+            len: slice.len() as u8,
+        }
+    }
+
+    /// The bytes of the address.
+    #[inline]
+    pub(crate) fn as_slice(&self) -> &[u8]
+        ensures value { result.now ≡ self.now }
+        ensures bound { length self.now ≤ 255 }
+    {
+        &self.bytes[..self.len as usize]
+    }
+
+    /// The number of bytes of the address.
+    #[inline]
+    pub(crate) fn len(&self) -> u8
+        ensures { result ≡ length self.now }
+    {
+        self.len
+    }
+}

@@ -1,0 +1,59 @@
+//! The header of a link layer.
+
+ghost use Rattle.std.specs.Prelude.{◌≡◌, ◌++◌, length, OnOk, OnErr};
+ghost use Rattle.ep_link.specs.LinkSlices.{link_bytes, link_header_len};
+
+use crate::link::ethernet2_header::Ethernet2Header;
+use crate::link::linux_sll_header::LinuxSllHeader;
+use arrayvec::ArrayVec;
+use std::alloc::AllocError;
+
+/// The header of a link layer.
+#[derive(Clone, Debug, PartialEq, Eq, Drop)]
+pub enum LinkHeader {
+    /// Ethernet II.
+    Ethernet2(Ethernet2Header),
+    /// A Linux cooked capture (SLL v1).
+    LinuxSll(LinuxSllHeader),
+}
+
+impl LinkHeader {
+    /// The number of bytes of the header: 14 or 16.
+    #[inline]
+    pub fn header_len(&self) -> usize
+        ensures value { result ≡ link_header_len self.now }
+        ensures bytes { result ≡ length (link_bytes self.now) }
+    {
+        match self {
+            LinkHeader::Ethernet2(header) => header.header_len(),
+            LinkHeader::LinuxSll(header) => header.header_len(),
+        }
+    }
+
+    /// The header as it stands on the wire.
+    pub fn to_bytes(&self) -> ArrayVec<u8, 16>
+        ensures { result.items ≡ link_bytes self.now }
+    {
+        let mut bytes = ArrayVec::new();
+        match self {
+            LinkHeader::Ethernet2(header) => {
+                bytes.try_extend_from_slice(&header.to_bytes()).unwrap()
+            }
+            LinkHeader::LinuxSll(header) => {
+                bytes.try_extend_from_slice(&header.to_bytes()).unwrap()
+            }
+        }
+        bytes
+    }
+
+    /// Appends the header's bytes. A refusal leaves the buffer as it was.
+    pub fn write(&self, buf: &mut Vec<u8>) -> Result<(), AllocError>
+        ensures ok { OnOk result (buf.new.items ≡ buf.old.items ++ link_bytes self.now) }
+        ensures err { OnErr result (buf.new.items ≡ buf.old.items) }
+    {
+        match self {
+            LinkHeader::Ethernet2(header) => header.write(buf),
+            LinkHeader::LinuxSll(header) => header.write(buf),
+        }
+    }
+}

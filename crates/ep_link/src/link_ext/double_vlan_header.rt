@@ -1,0 +1,70 @@
+//! Two VLAN tags, one behind the other (IEEE 802.1Q, 9.6).
+
+ghost use Rattle.std.specs.Prelude.{◌≡◌, ◌++◌, [], IfOk, IfErr, OnOk, OnErr, IsOkAnd, List, ℕ};
+ghost use Rattle.ep_base.specs.Tables.{Parts, parts_of};
+ghost use Rattle.ep_link.specs.Vlan.{double_vlan_bytes, IsDoubleVlan, RefusesDoubleVlan};
+
+use crate::link_ext::{SingleVlanHeader, SingleVlanSlice};
+use ep_base::err::LenError;
+use std::alloc::AllocError;
+
+/// Two VLAN tags, one behind the other (IEEE 802.1Q, 9.6), 8 bytes.
+#[derive(Clone, Debug, PartialEq, Eq, Drop)]
+pub struct DoubleVlanHeader {
+    /// The tag that stands first, bytes 0 to 3.
+    pub outer: SingleVlanHeader,
+    /// The tag behind it, bytes 4 to 7.
+    pub inner: SingleVlanHeader,
+}
+
+impl DoubleVlanHeader {
+    /// The number of bytes of two tags.
+    pub const LEN: usize = 8;
+
+    /// The two tags at the front of the slice, whatever the type of the outer one says, and the bytes behind them. A
+    /// refusal of the inner tag has offset 4.
+    pub fn from_slice(slice: &[u8]) -> Result<(DoubleVlanHeader, &[u8]), LenError>
+        ensures ok { IfOk result (λ read. IsDoubleVlan slice.now (parts_of read.0 read.1.now [])) }
+        ensures only { (tagged : Parts DoubleVlanHeader) → IsDoubleVlan slice.now tagged
+            → IsOkAnd result (λ read. parts_of read.0 read.1.now [] ≡ tagged) }
+        ensures err { IfErr result (RefusesDoubleVlan slice.now) }
+    {
+        let outer = SingleVlanSlice::from_slice(slice)?;
+        match SingleVlanSlice::from_slice(outer.payload_slice()) {
+            Ok(inner) => Ok((
+                DoubleVlanHeader {
+                    outer: outer.to_header(),
+                    inner: inner.to_header(),
+                },
+                inner.payload_slice(),
+            )),
+            Err(error) => Err(error.add_offset(SingleVlanHeader::LEN)),
+        }
+    }
+
+    /// The number of bytes of the two tags: 8.
+    #[inline]
+    pub fn header_len(&self) -> usize
+        ensures { result ≡ 8 }
+    {
+        DoubleVlanHeader::LEN
+    }
+
+    /// The tags as they stand on the wire, the outer one first.
+    #[inline]
+    pub fn to_bytes(&self) -> [u8; 8]
+        ensures { result ≡ double_vlan_bytes self.now }
+    {
+        let [o0, o1, o2, o3] = self.outer.to_bytes();
+        let [i0, i1, i2, i3] = self.inner.to_bytes();
+        [o0, o1, o2, o3, i0, i1, i2, i3]
+    }
+
+    /// Appends the bytes of the tags. A refusal leaves the buffer as it was.
+    pub fn write(&self, buf: &mut Vec<u8>) -> Result<(), AllocError>
+        ensures ok { OnOk result (buf.new.items ≡ buf.old.items ++ double_vlan_bytes self.now) }
+        ensures err { OnErr result (buf.new.items ≡ buf.old.items) }
+    {
+        buf.extend_from_slice(&self.to_bytes())
+    }
+}

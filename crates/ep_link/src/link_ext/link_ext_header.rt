@@ -1,0 +1,87 @@
+//! The tag of a link extension.
+
+ghost use Rattle.std.specs.Prelude.{◌≡◌, ◌≤◌, ◌++◌, length, OnOk, OnErr};
+ghost use Rattle.ep_link.specs.LinkExtensions.{link_ext_bytes, link_ext_header_len, link_ext_next_type};
+
+use crate::link_ext::{MacsecHeader, SingleVlanHeader};
+use arrayvec::ArrayVec;
+use ep_base::{EtherType, VlanId, VlanPcp};
+use std::alloc::AllocError;
+
+/// The tag of a link extension, between the link header and the net layer.
+#[derive(Clone, Debug, PartialEq, Eq, Drop)]
+pub enum LinkExtHeader {
+    /// A VLAN tag (IEEE 802.1Q).
+    Vlan(SingleVlanHeader),
+    /// A MACsec tag (IEEE 802.1AE).
+    Macsec(MacsecHeader),
+}
+
+impl Default for LinkExtHeader {
+    ghost use Rattle.std.specs.Prelude.{◌≡◌, ◌∷◌, []};
+    ghost use Rattle.ep_link.specs.Vlan.{vlan_header_of};
+    ghost use Rattle.ep_link.specs.declared.link_ext.link_ext_header.LinkExtHeader.TheVariants as header;
+
+    ghost is_default = { λ tag. tag ≡ header.Vlan (vlan_header_of (0 ∷ 0 ∷ 0 ∷ 0 ∷ [])) };
+
+    /// The VLAN tag of four bytes 0.
+    fn default() -> LinkExtHeader {
+        LinkExtHeader::Vlan(SingleVlanHeader {
+            pcp: VlanPcp::ZERO,
+            drop_eligible_indicator: false,
+            vlan_id: VlanId::ZERO,
+            ether_type: EtherType(0),
+        })
+    }
+}
+
+impl LinkExtHeader {
+    /// The number of bytes of the tag: 4 for VLAN, 6 to 16 for MACsec.
+    #[inline]
+    pub fn header_len(&self) -> usize
+        ensures value { result ≡ link_ext_header_len self.now }
+        ensures bytes { result ≡ length (link_ext_bytes self.now) }
+        ensures bound { result ≤ 16 }
+    {
+        match self {
+            LinkExtHeader::Vlan(header) => header.header_len(),
+            LinkExtHeader::Macsec(header) => header.header_len(),
+        }
+    }
+
+    /// The type of what follows the tag. Behind a MACsec tag it can be read only where the payload is unmodified.
+    #[inline]
+    pub fn next_ether_type(&self) -> Option<EtherType>
+        ensures { result ≡ link_ext_next_type self.now }
+    {
+        match self {
+            LinkExtHeader::Vlan(header) => Some(header.ether_type),
+            LinkExtHeader::Macsec(header) => header.next_ether_type(),
+        }
+    }
+
+    /// The tag as it stands on the wire.
+    pub fn to_bytes(&self) -> ArrayVec<u8, 16>
+        ensures { result.items ≡ link_ext_bytes self.now }
+    {
+        match self {
+            LinkExtHeader::Vlan(header) => {
+                let mut bytes = ArrayVec::new();
+                bytes.try_extend_from_slice(&header.to_bytes()).unwrap();
+                bytes
+            }
+            LinkExtHeader::Macsec(header) => header.to_bytes(),
+        }
+    }
+
+    /// Appends the tag's bytes. A refusal leaves the buffer as it was.
+    pub fn write(&self, buf: &mut Vec<u8>) -> Result<(), AllocError>
+        ensures ok { OnOk result (buf.new.items ≡ buf.old.items ++ link_ext_bytes self.now) }
+        ensures err { OnErr result (buf.new.items ≡ buf.old.items) }
+    {
+        match self {
+            LinkExtHeader::Vlan(header) => header.write(buf),
+            LinkExtHeader::Macsec(header) => header.write(buf),
+        }
+    }
+}

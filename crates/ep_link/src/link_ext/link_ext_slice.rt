@@ -1,0 +1,119 @@
+//! A link extension of a sliced frame.
+
+ghost use Rattle.std.specs.Prelude.{◌≡◌};
+ghost use Rattle.std.specs.Option.{option_map};
+ghost use Rattle.ep_link.specs.EtherPayloads.{ether_payload_of};
+ghost use Rattle.ep_link.specs.LinkExtensions.{extension_ether_payload, extension_header, extension_payload, extension_type, link_ext_header_len, link_extension_of};
+
+use crate::link_ext::{LinkExtHeader, MacsecSlice, SingleVlanSlice};
+use ep_base::err::macsec::HeaderSliceError;
+use ep_base::{EtherPayloadSlice, EtherType, ether_type};
+
+/// A link extension of a sliced frame, between the link header and the net layer.
+#[derive(Clone, Debug, PartialEq, Eq, Drop)]
+pub enum LinkExtSlice<'a> {
+    /// A VLAN tag (IEEE 802.1Q) and its payload.
+    Vlan(SingleVlanSlice<'a>),
+    /// A MACsec tag (IEEE 802.1AE) and its payload.
+    Macsec(MacsecSlice<'a>),
+}
+
+impl Default for LinkExtSlice<'_> {
+    ghost use Rattle.std.specs.Prelude.{◌≡◌, ◌∷◌, []};
+    ghost use Rattle.ep_link.specs.Vlan.{vlan_header_of};
+    ghost use Rattle.ep_link.specs.LinkExtensions.{link_extension_of, vlan};
+
+    ghost is_default = { λ extension. link_extension_of extension ≡ vlan (vlan_header_of (0 ∷ 0 ∷ 0 ∷ 0 ∷ [])) [] };
+
+    /// The VLAN tag of four bytes 0, and no payload.
+    fn default() -> Self {
+        LinkExtSlice::Vlan(SingleVlanSlice::zeros())
+    }
+}
+
+impl<'a> LinkExtSlice<'a> {
+    ghost use Rattle.std.specs.Prelude.{◌++◌, IfOk, IfErr, IfSome, IfNone, IsOkAnd, List, ℕ, Some};
+    ghost use Rattle.ep_link.specs.LinkExtensions.{BeginsLinkExtension, IsLinkExtension, LinkExtension, RefusesLinkExtension, link_ext_slice_bytes};
+
+    /// The link extension that bytes of this type are, with its payload; none where the type begins no extension.
+    pub fn from_ether_type(
+        ether_type: EtherType,
+        slice: &'a [u8],
+    ) -> Result<Option<LinkExtSlice<'a>>, HeaderSliceError>
+        ensures none { IfOk result (λ found. IfNone found (¬ BeginsLinkExtension ether_type)) }
+        ensures ok { IfOk result (λ found. IfSome found (λ shown. (left : List ℕ)
+            × (slice.now ≡ link_ext_slice_bytes shown ++ left)
+            × IsLinkExtension ether_type slice.now (link_extension_of shown, left))) }
+        ensures only { (part : LinkExtension × List ℕ) → IsLinkExtension ether_type slice.now part
+            → IsOkAnd result (λ found. option_map link_extension_of found ≡ Some part.0) }
+        ensures err { IfErr result (RefusesLinkExtension ether_type slice.now) }
+    {
+        match ether_type {
+            ether_type::VLAN_TAGGED_FRAME
+            | ether_type::PROVIDER_BRIDGING
+            | ether_type::VLAN_DOUBLE_TAGGED_FRAME => match SingleVlanSlice::from_slice(slice) {
+                Ok(tag) => Ok(Some(LinkExtSlice::Vlan(tag))),
+                Err(error) => Err(HeaderSliceError::Len(error)),
+            },
+            ether_type::MACSEC => match MacsecSlice::from_slice(slice) {
+                Ok(packet) => Ok(Some(LinkExtSlice::Macsec(packet))),
+                Err(error) => Err(error),
+            },
+            _ => Ok(None),
+        }
+    }
+
+    /// The number of bytes of the tag: 4 for VLAN, 6 to 16 for MACsec.
+    #[inline]
+    pub fn header_len(&self) -> usize
+        ensures { result ≡ link_ext_header_len (extension_header (link_extension_of self.now)) }
+    {
+        match self {
+            LinkExtSlice::Vlan(tag) => tag.header_len(),
+            LinkExtSlice::Macsec(packet) => packet.header_len(),
+        }
+    }
+
+    /// The tag as a value.
+    pub fn to_header(&self) -> LinkExtHeader
+        ensures { result ≡ extension_header (link_extension_of self.now) }
+    {
+        match self {
+            LinkExtSlice::Vlan(tag) => LinkExtHeader::Vlan(tag.to_header()),
+            LinkExtSlice::Macsec(packet) => LinkExtHeader::Macsec(packet.to_header()),
+        }
+    }
+
+    /// The type of the payload. Behind a MACsec tag it can be read only where the payload is unmodified.
+    #[inline]
+    pub fn next_ether_type(&self) -> Option<EtherType>
+        ensures { result ≡ extension_type (link_extension_of self.now) }
+    {
+        match self {
+            LinkExtSlice::Vlan(tag) => Some(tag.ether_type()),
+            LinkExtSlice::Macsec(packet) => packet.next_ether_type(),
+        }
+    }
+
+    /// The bytes of the payload.
+    #[inline]
+    pub fn payload_slice(&self) -> &'a [u8]
+        ensures { result.now ≡ extension_payload (link_extension_of self.now) }
+    {
+        match self {
+            LinkExtSlice::Vlan(tag) => tag.payload_slice(),
+            LinkExtSlice::Macsec(packet) => packet.payload.slice(),
+        }
+    }
+
+    /// The payload with its type. Behind a MACsec tag it can be read only where the payload is unmodified.
+    #[inline]
+    pub fn ether_payload(&self) -> Option<EtherPayloadSlice<'a>>
+        ensures { option_map ether_payload_of result ≡ extension_ether_payload (link_extension_of self.now) }
+    {
+        match self {
+            LinkExtSlice::Vlan(tag) => Some(tag.payload()),
+            LinkExtSlice::Macsec(packet) => packet.ether_payload(),
+        }
+    }
+}

@@ -1,0 +1,98 @@
+//! A MACsec packet in slices (IEEE 802.1AE, 9).
+
+use crate::link_ext::{MacsecHeader, MacsecHeaderSlice, MacsecPayloadSlice};
+use ep_base::err::macsec::HeaderSliceError;
+use ep_base::err::{Layer, LenError};
+use ep_base::{EtherPayloadSlice, EtherType, LenSource};
+
+/// A MACsec tag (IEEE 802.1AE, 9) and its payload that lie in slices. The short length cuts the payload. The integrity
+/// check value is not told from the payload: a short length other than 0 leaves it behind, and without one it ends the
+/// payload.
+#[derive(Clone, Debug, PartialEq, Eq, Drop)]
+pub struct MacsecSlice<'a> {
+    /// The tag.
+    pub header: MacsecHeaderSlice<'a>,
+    /// The payload.
+    pub payload: MacsecPayloadSlice<'a>,
+}
+
+impl<'a> MacsecSlice<'a> {
+    ghost use Rattle.std.specs.Prelude.{◌≡◌, ◌++◌, IfOk, IfErr, IsOkAnd, List, ℕ, length};
+    ghost use Rattle.ep_base.specs.Tables.{Parts};
+    ghost use Rattle.ep_link.specs.declared.link_ext.macsec_header.MacsecHeader.{MacsecHeader};
+    ghost use Rattle.ep_link.specs.Macsec.{IsMacsec, RefusesMacsec, macsec_header_len, macsec_payload, macsec_payload_bytes, macsec_payload_type};
+    ghost use Rattle.std.specs.Option.{option_map};
+    ghost use Rattle.ep_link.specs.EtherPayloads.{ether_payload_of, macsec_ether_payload};
+    ghost use Rattle.ep_link.specs.MacsecSlices.{macsec_header_slice_bytes, macsec_slice_bytes, macsec_slice_header, macsec_slice_parts, macsec_slice_payload};
+
+    /// The packet at the front of the slice. Its short length cuts it.
+    pub fn from_slice(slice: &'a [u8]) -> Result<MacsecSlice<'a>, HeaderSliceError>
+        ensures ok { IfOk result (λ shown. (left : List ℕ) × (slice.now ≡ macsec_slice_bytes shown ++ left)
+            × IsMacsec slice.now (macsec_slice_parts shown left)) }
+        ensures payload { IfOk result (λ shown. let payload = macsec_slice_payload shown in
+            payload ≡ macsec_payload (macsec_slice_header shown) (macsec_payload_bytes payload)) }
+        ensures only { (packet : Parts MacsecHeader) → IsMacsec slice.now packet
+            → IsOkAnd result (λ shown. macsec_slice_parts shown packet.left ≡ packet) }
+        ensures err { IfErr result (RefusesMacsec slice.now) }
+    {
+        let header = MacsecHeaderSlice::from_slice(slice)?;
+        let header_len = header.header_len();
+        let end = match header.payload_len() {
+            Some(payload_len) => header_len + payload_len,
+            None => slice.len(),
+        };
+        if slice.len() < end {
+            return Err(HeaderSliceError::Len(LenError::at_start(
+                end,
+                slice.len(),
+                LenSource::Slice,
+                Layer::MacsecPacket,
+            )));
+        }
+        let payload = MacsecPayloadSlice::behind(&header, &slice[header_len..end]);
+        Ok(MacsecSlice { header, payload })
+    }
+
+    /// The number of bytes of the tag, with the type of an unmodified payload.
+    #[inline]
+    pub fn header_len(&self) -> usize
+        ensures bytes { result ≡ length (macsec_header_slice_bytes self.now.header) }
+        ensures value { result ≡ macsec_header_len (macsec_slice_header self.now) }
+    {
+        self.header.header_len()
+    }
+
+    /// The tag as a value.
+    #[inline]
+    pub fn to_header(&self) -> MacsecHeader
+        ensures { result ≡ macsec_slice_header self.now }
+    {
+        self.header.to_header()
+    }
+
+    /// The type of the payload, where it is unmodified.
+    #[inline]
+    pub fn next_ether_type(&self) -> Option<EtherType>
+        ensures { result ≡ macsec_payload_type (macsec_slice_payload self.now) }
+    {
+        match &self.payload {
+            MacsecPayloadSlice::Unmodified(payload) => Some(payload.ether_type),
+            MacsecPayloadSlice::Modified(_) => None,
+        }
+    }
+
+    /// The payload with its type, where it is unmodified.
+    #[inline]
+    pub fn ether_payload(&self) -> Option<EtherPayloadSlice<'a>>
+        ensures { option_map ether_payload_of result ≡ macsec_ether_payload (macsec_slice_payload self.now) }
+    {
+        match &self.payload {
+            MacsecPayloadSlice::Unmodified(payload) => Some(EtherPayloadSlice {
+                ether_type: payload.ether_type,
+                len_source: payload.len_source,
+                payload: payload.payload,
+            }),
+            MacsecPayloadSlice::Modified(_) => None,
+        }
+    }
+}

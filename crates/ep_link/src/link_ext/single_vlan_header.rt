@@ -1,0 +1,72 @@
+//! A VLAN tag (IEEE 802.1Q, 9.6).
+
+ghost use Rattle.std.specs.Prelude.{◌≡◌, ◌++◌, [], IfOk, IfErr, OnOk, OnErr, IsOkAnd, List, ℕ};
+ghost use Rattle.ep_base.specs.Tables.{Parts, parts_of};
+ghost use Rattle.ep_link.specs.Vlan.{vlan_bytes, IsVlan, RefusesVlan};
+
+use crate::link_ext::SingleVlanSlice;
+use ep_base::err::LenError;
+use ep_base::{EtherType, VlanId, VlanPcp};
+use std::alloc::AllocError;
+
+/// A VLAN tag behind the ether type that says that it is one (IEEE 802.1Q, 9.6): the tag control information, and the
+/// type of what follows the tag. 4 bytes.
+#[derive(Clone, Debug, PartialEq, Eq, Drop)]
+pub struct SingleVlanHeader {
+    /// The priority of the frame (PCP), the upper 3 bits of byte 0.
+    pub pcp: VlanPcp,
+    /// Whether the frame may be dropped first under load (DEI), the fourth highest bit of byte 0.
+    pub drop_eligible_indicator: bool,
+    /// The VLAN that the frame belongs to (VID), the lower 12 bits of bytes 0 and 1.
+    pub vlan_id: VlanId,
+    /// What follows the tag, bytes 2 and 3.
+    pub ether_type: EtherType,
+}
+
+impl SingleVlanHeader {
+    /// The number of bytes of a tag.
+    pub const LEN: usize = 4;
+
+    /// The tag at the front of the slice, and the bytes behind it.
+    #[inline]
+    pub fn from_slice(slice: &[u8]) -> Result<(SingleVlanHeader, &[u8]), LenError>
+        ensures ok { IfOk result (λ read. IsVlan slice.now (parts_of read.0 read.1.now [])) }
+        ensures only { (tagged : Parts SingleVlanHeader) → IsVlan slice.now tagged
+            → IsOkAnd result (λ read. parts_of read.0 read.1.now [] ≡ tagged) }
+        ensures err { IfErr result (RefusesVlan slice.now) }
+    {
+        let slice = SingleVlanSlice::from_slice(slice)?;
+        Ok((slice.to_header(), slice.payload_slice()))
+    }
+
+    /// The number of bytes of the tag: 4.
+    #[inline]
+    pub fn header_len(&self) -> usize
+        ensures { result ≡ 4 }
+    {
+        SingleVlanHeader::LEN
+    }
+
+    /// The tag as it stands on the wire.
+    #[inline]
+    pub fn to_bytes(&self) -> [u8; 4]
+        ensures { result ≡ vlan_bytes self.now }
+    {
+        let drop_eligible = if self.drop_eligible_indicator {
+            0x10
+        } else {
+            0
+        };
+        let [i0, i1] = self.vlan_id.value().to_be_bytes();
+        let [t0, t1] = self.ether_type.0.to_be_bytes();
+        [self.pcp.value() * 32 + drop_eligible + i0, i1, t0, t1]
+    }
+
+    /// Appends the tag's bytes. A refusal leaves the buffer as it was.
+    pub fn write(&self, buf: &mut Vec<u8>) -> Result<(), AllocError>
+        ensures ok { OnOk result (buf.new.items ≡ buf.old.items ++ vlan_bytes self.now) }
+        ensures err { OnErr result (buf.new.items ≡ buf.old.items) }
+    {
+        buf.extend_from_slice(&self.to_bytes())
+    }
+}

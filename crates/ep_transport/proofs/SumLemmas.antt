@@ -1,0 +1,70 @@
+-- One's complement sums of bytes, piece by piece.
+use Rattle.std.proofs.Common.{◌≡◌, ℕ, zero, suc, ◌%◌, List, [], ◌∷◌, ◌++◌, length, refl, sym, ap, ◌∙◌, append_assoc, arith}
+use Rattle.std.specs.Int.{w16, to_be_bytes}
+use Rattle.std.proofs.lemmas.List.{length-append}
+use Rattle.ep_base.specs.Checksum.{ones_sum, ones_add, checksum_of, no_zero}
+use Rattle.ep_base.proofs.Sums.{ones_sum-append, ones_sum-checksum, ones_sum-word, ones_sum_le}
+
+-- the sum of some bytes and of more behind them, of which the first end with a whole word
+pub sum_more : (front back : List ℕ) (n m : ℕ) → n ≡ ones_sum front → length front % 2 ≡ 0
+    → m ≡ ones_add n (ones_sum back) → m ≡ ones_sum (front ++ back)
+sum_more front back n m sum even more =
+    more ∙ ap (λ (k : ℕ). ones_add k (ones_sum back)) sum ∙ sym (ones_sum-append front back even)
+
+-- the same, where the piece that is added is known by an equation
+pub sum_piece : (front back : List ℕ) (n m : ℕ) (piece : List ℕ) → n ≡ ones_sum front → length front % 2 ≡ 0
+    → piece ≡ back → m ≡ ones_add n (ones_sum piece)
+    → m ≡ ones_sum (front ++ back)
+sum_piece front back n m piece sum even same more =
+    sum_more front back n m sum even (more ∙ ap (λ (s : List ℕ). ones_add n (ones_sum s)) same)
+
+-- ---- bytes with their checksum filled in
+
+-- some bytes in three parts, the first two together or the last two
+three_parts : (front head word back : List ℕ) → ((front ++ head) ++ word) ++ back ≡ front ++ (head ++ (word ++ back))
+three_parts front head word back = append_assoc (front ++ head) word back ∙ append_assoc front head (word ++ back)
+
+-- the checksum in the place that was 0 makes the sum 65535
+pub filled : (front head back : List ℕ) → length front % 2 ≡ 0 → length head % 2 ≡ 0
+    → ones_sum (front ++ (head ++ (to_be_bytes w16 (checksum_of (front ++ (head ++ (0 ∷ 0 ∷ back)))) ++ back))) ≡ 65535
+filled front head back even even_head =
+    let zero : List ℕ = 0 ∷ 0 ∷ [] in
+    let even_both : length (front ++ head) % 2 ≡ 0 = omega (arith, even, even_head, length-append front head) in
+    let message : ((front ++ head) ++ zero) ++ back ≡ front ++ (head ++ (zero ++ back)) =
+    three_parts front head zero back in
+    let sum = checksum_of (((front ++ head) ++ zero) ++ back) in
+    ap (λ (s : List ℕ). ones_sum (front ++ (head ++ (to_be_bytes w16 (checksum_of s) ++ back)))) (sym message)
+    ∙ ap ones_sum (sym (three_parts front head (to_be_bytes w16 sum) back))
+    ∙ ones_sum-checksum (front ++ head) back even_both
+
+-- and so does 65535 in place of a checksum that is 0
+filled_zero : (front head back : List ℕ) → length front % 2 ≡ 0 → length head % 2 ≡ 0
+    → checksum_of (front ++ (head ++ (0 ∷ 0 ∷ back))) ≡ 0
+    → ones_sum (front ++ (head ++ (255 ∷ 255 ∷ back))) ≡ 65535
+unfolding ones_sum ones_add
+filled_zero front head back even even_head none =
+    let zero : List ℕ = 0 ∷ 0 ∷ [] in
+    let full : List ℕ = 255 ∷ 255 ∷ [] in
+    let even_both : length (front ++ head) % 2 ≡ 0 = omega (arith, even, even_head, length-append front head) in
+    let without = ((front ++ head) ++ zero) ++ back in
+    let same : ones_sum without ≡ 65535 =
+    let message = three_parts front head zero back in
+    omega (arith, ap (λ (s : List ℕ). checksum_of s) message ∙ none, ones_sum_le without)
+    in
+    ap ones_sum (sym (three_parts front head full back))
+    ∙ ones_sum-word (front ++ head) back 255 255 even_both
+    ∙ ap (λ (n : ℕ). ones_add n (ones_sum full)) same
+
+filled_with : (n : ℕ) (front head back : List ℕ) → length front % 2 ≡ 0 → length head % 2 ≡ 0
+    → checksum_of (front ++ (head ++ (0 ∷ 0 ∷ back))) ≡ n
+    → ones_sum (front ++ (head ++ (to_be_bytes w16 (no_zero n) ++ back))) ≡ 65535
+filled_with zero front head back even even_head same = filled_zero front head back even even_head same
+filled_with (suc n) front head back even even_head same =
+    ap (λ (k : ℕ). ones_sum (front ++ (head ++ (to_be_bytes w16 k ++ back)))) (sym same)
+    ∙ filled front head back even even_head
+
+pub filled_no_zero : (front head back : List ℕ) → length front % 2 ≡ 0 → length head % 2 ≡ 0
+    → ones_sum (front ++ (head
+    ++ (to_be_bytes w16 (no_zero (checksum_of (front ++ (head ++ (0 ∷ 0 ∷ back))))) ++ back))) ≡ 65535
+filled_no_zero front head back even even_head =
+    filled_with (checksum_of (front ++ (head ++ (0 ∷ 0 ∷ back)))) front head back even even_head refl

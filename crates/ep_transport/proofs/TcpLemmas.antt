@@ -1,0 +1,289 @@
+-- The bytes of a TCP segment, and what is read from them.
+use Rattle.std.proofs.Common.{◌≡◌, ℕ, ◌+◌, ◌-◌, ◌*◌, ◌/◌, ◌%◌, ◌^◌, ◌<◌, ◌≤◌, ◌==◌, None, slice_index}
+use Rattle.std.proofs.Common.{List, ◌∷◌, ◌++◌, length, take, drop, get_or, refl, sym, ap, subst, ◌∙◌, arith}
+use Rattle.std.proofs.lemmas.Grind.{common_steps}
+use Rattle.std.proofs.lemmas.List.{get_or-take, get_or_append_left, length-take, length-drop, length-append, drop-append-le}
+use Rattle.std.proofs.lemmas.List.{take-append-drop, take_all, take_at, drop_at}
+use Rattle.ep_base.specs.Bytes.{AreBytes, word_at, bit}
+use Rattle.ep_base.specs.Tables.{Parts, first_row}
+use Rattle.ep_base.proofs.BytesLemmas.{elements, drop-elements, AreBytes-take, AreBytes-drop, bit_le, bit_read, bit_of_read}
+use Rattle.ep_base.proofs.TableLemmas.{IsReadBy}
+use Rattle.ep_transport.specs.declared.tcp_header.TcpHeader.{TcpHeader}
+use Rattle.ep_transport.specs.Tcp.{FitsTcp, EncodesTcp, IsTcp, tcp_bytes_with, tcp_flags, tcp_header_of, tcp_parts, tcp_rows, data_offset_of, long_at, flag_at}
+
+-- ---- the bytes of a header are read as this header
+
+-- the bytes are a whole header: as long as their data offset says, and at least 20
+pub record IsWhole (bytes : List ℕ) : Type 0 where
+  pub words : 5 ≤ data_offset_of bytes
+  pub whole : length bytes ≡ 4 * data_offset_of bytes
+
+-- each flag is a bit of the byte that they make
+record FlagBits (n : ℕ) (h : TcpHeader) : Type 0 where
+  fin : n / 2 ^ 0 % 2 ≡ bit h.fin
+  syn : n / 2 ^ 1 % 2 ≡ bit h.syn
+  rst : n / 2 ^ 2 % 2 ≡ bit h.rst
+  psh : n / 2 ^ 3 % 2 ≡ bit h.psh
+  ack : n / 2 ^ 4 % 2 ≡ bit h.ack
+  urg : n / 2 ^ 5 % 2 ≡ bit h.urg
+  ece : n / 2 ^ 6 % 2 ≡ bit h.ece
+  cwr : n / 2 ^ 7 % 2 ≡ bit h.cwr
+
+-- bits put together are those bits again
+bits_apart : (a b c d e f g h : ℕ) → a ≤ 1 → b ≤ 1 → c ≤ 1 → d ≤ 1 → e ≤ 1 → f ≤ 1 → g ≤ 1 → h ≤ 1
+    → (n : ℕ) → n ≡ 2 ^ 7 * h + 2 ^ 6 * g + 2 ^ 5 * f + 2 ^ 4 * e + 2 ^ 3 * d + 2 ^ 2 * c + 2 ^ 1 * b + a
+    → (n / 2 ^ 0 % 2 ≡ a) × (n / 2 ^ 1 % 2 ≡ b) × (n / 2 ^ 2 % 2 ≡ c) × (n / 2 ^ 3 % 2 ≡ d)
+    × (n / 2 ^ 4 % 2 ≡ e) × (n / 2 ^ 5 % 2 ≡ f) × (n / 2 ^ 6 % 2 ≡ g) × (n / 2 ^ 7 % 2 ≡ h)
+bits_apart a b c d e f g h a1 b1 c1 d1 e1 f1 g1 h1 n same =
+    (omega arith, omega arith, omega arith, omega arith, omega arith, omega arith, omega arith, omega arith)
+
+encoded_is_read : (r : ℕ) (h : TcpHeader) → r < 2 ^ 3 → FitsTcp h → h ≡ tcp_header_of (tcp_bytes_with r h)
+encoded_is_read r h three fits =
+    let bytes = tcp_bytes_with r h in
+    let nonce = bit_le h.ns in
+    let flags =
+    bits_apart _ _ _ _ _ _ _ _ (bit_le h.fin) (bit_le h.syn) (bit_le h.rst) (bit_le h.psh) (bit_le h.ack)
+    (bit_le h.urg) (bit_le h.ece) (bit_le h.cwr) (tcp_flags h) refl in
+    let source_port : h.source_port ≡ word_at bytes 0 = omega (arith, fits.source_port) in
+    let destination_port : h.destination_port ≡ word_at bytes 2 = omega (arith, fits.destination_port) in
+    let sequence_number : h.sequence_number ≡ long_at bytes 4 = omega (arith, fits.sequence_number) in
+    let acknowledgment_number : h.acknowledgment_number ≡ long_at bytes 8 = omega (arith, fits.acknowledgment_number) in
+    let ns_bit : slice_index bytes 12 % 2 ≡ bit h.ns = omega (arith, nonce) in
+    let window_size : h.window_size ≡ word_at bytes 14 = omega (arith, fits.window_size) in
+    let checksum : h.checksum ≡ word_at bytes 16 = omega (arith, fits.checksum) in
+    let urgent_pointer : h.urgent_pointer ≡ word_at bytes 18 = omega (arith, fits.urgent_pointer) in
+    let options_len : length h.options ≡ 4 * data_offset_of bytes - 20 =
+    omega (arith, fits.options_len, fits.options_words, nonce) in
+    let options : h.options ≡ take (4 * data_offset_of bytes - 20) h.options =
+    sym (take_all (4 * data_offset_of bytes - 20) h.options (omega arith)) in
+    λ i. record {
+      source_port = source_port i;
+      destination_port = destination_port i;
+      sequence_number = sequence_number i;
+      acknowledgment_number = acknowledgment_number i;
+      ns = sym (bit_read _ h.ns ns_bit) i;
+      fin = sym (bit_read _ h.fin flags.0) i;
+      syn = sym (bit_read _ h.syn flags.1) i;
+      rst = sym (bit_read _ h.rst flags.2) i;
+      psh = sym (bit_read _ h.psh flags.3) i;
+      ack = sym (bit_read _ h.ack flags.4) i;
+      urg = sym (bit_read _ h.urg flags.5) i;
+      ece = sym (bit_read _ h.ece flags.6) i;
+      cwr = sym (bit_read _ h.cwr flags.7) i;
+      window_size = window_size i;
+      checksum = checksum i;
+      urgent_pointer = urgent_pointer i;
+      options = options i;
+    }
+
+encoded_is_whole : (r : ℕ) (h : TcpHeader) → r < 2 ^ 3 → FitsTcp h → IsWhole (tcp_bytes_with r h)
+encoded_is_whole r h three fits =
+    let nonce = bit_le h.ns in
+    record {
+      words = omega (arith, fits.options_len, nonce);
+      whole = omega (arith, fits.options_len, fits.options_words, nonce);
+    }
+
+encoded_read : (e : List ℕ) (h : TcpHeader) → EncodesTcp e h → h ≡ tcp_header_of e
+encoded_read e h a = encoded_is_read a.reserved h a.three_bits a.fits ∙ ap tcp_header_of (sym a.same)
+
+encoded_whole : (e : List ℕ) (h : TcpHeader) → EncodesTcp e h → IsWhole e
+encoded_whole e h a = subst IsWhole (sym a.same) (encoded_is_whole a.reserved h a.three_bits a.fits)
+
+-- ---- whole bytes are those of the header that is read from them
+
+whole_fits : (e : List ℕ) → AreBytes e → IsWhole e → FitsTcp (tcp_header_of e)
+whole_fits e fits a =
+    let n = 4 * data_offset_of e - 20 in
+    let len : length (take n (drop 20 e)) ≡ n = omega (arith, length-take n (drop 20 e), length-drop 20 e, a.whole) in
+    record {
+      source_port = omega (arith, fits 0, fits 1);
+      destination_port = omega (arith, fits 2, fits 3);
+      sequence_number = omega (arith, fits 4, fits 5, fits 6, fits 7);
+      acknowledgment_number = omega (arith, fits 8, fits 9, fits 10, fits 11);
+      window_size = omega (arith, fits 14, fits 15);
+      checksum = omega (arith, fits 16, fits 17);
+      urgent_pointer = omega (arith, fits 18, fits 19);
+      options_len = omega (arith, len, fits 12);
+      options_words = omega (arith, len, a.words);
+      options = AreBytes-take n (drop 20 e) (AreBytes-drop 20 e fits);
+    }
+
+-- the bits of a byte put together are the byte
+bits_together : (n : ℕ) → n < 256
+    → n ≡ 2 ^ 7 * bit (n / 2 ^ 7 % 2 == 1) + 2 ^ 6 * bit (n / 2 ^ 6 % 2 == 1) + 2 ^ 5 * bit (n / 2 ^ 5 % 2 == 1)
+    + 2 ^ 4 * bit (n / 2 ^ 4 % 2 == 1)
+    + 2 ^ 3 * bit (n / 2 ^ 3 % 2 == 1) + 2 ^ 2 * bit (n / 2 ^ 2 % 2 == 1) + 2 ^ 1 * bit (n / 2 ^ 1 % 2 == 1)
+    + bit (n / 2 ^ 0 % 2 == 1)
+bits_together n byte =
+    let b : (i : ℕ) → bit (n / 2 ^ i % 2 == 1) ≡ n / 2 ^ i % 2 = λ i. bit_of_read (n / 2 ^ i % 2) (omega arith) in
+    omega (arith, byte, b 0, b 1, b 2, b 3, b 4, b 5, b 6, b 7)
+
+-- the two bytes of a 16 bit number
+pub word_bytes : (upper lower : ℕ) → upper < 256 → lower < 256
+    → (upper ≡ (256 * upper + lower) / 256 ^ 1 % 256) × (lower ≡ (256 * upper + lower) % 256)
+word_bytes upper lower u l = (omega (arith, u, l), omega (arith, u, l))
+
+-- the four bytes of a 32 bit number
+pub long_bytes : (a b c d : ℕ) → a < 256 → b < 256 → c < 256 → d < 256 → (n : ℕ)
+    → n ≡ 2 ^ 16 * (256 * a + b) + (256 * c + d)
+    → (a ≡ n / 256 ^ 3 % 256) × (b ≡ n / 256 ^ 2 % 256) × (c ≡ n / 256 ^ 1 % 256) × (d ≡ n % 256)
+long_bytes a b c d af bf cf df n same = (
+  omega (arith, same, af, bf, cf, df),
+  omega (arith, same, af, bf, cf, df),
+  omega (arith, same, af, bf, cf, df),
+  omega (arith, same, af, bf, cf, df),
+)
+
+pub whole_encodes : (e : List ℕ) → AreBytes e → IsWhole e → EncodesTcp e (tcp_header_of e)
+unfolding elements
+whole_encodes e fits a =
+    let rest = drop 20 e in
+    let options = take (4 * data_offset_of e - 20) rest in
+    let all : options ≡ rest = take_all (4 * data_offset_of e - 20) rest (omega (arith, length-drop 20 e, a.whole)) in
+    let len : length options ≡ 4 * data_offset_of e - 20 = omega (arith, ap length all, length-drop 20 e, a.whole) in
+    let front : e ≡ elements 20 0 e ++ rest = drop-elements 20 0 e (omega (arith, a.whole, a.words)) in
+    let source_port = word_bytes (slice_index e 0) (slice_index e 1) (fits 0) (fits 1) in
+    let destination_port = word_bytes (slice_index e 2) (slice_index e 3) (fits 2) (fits 3) in
+    let sequence =
+    long_bytes (slice_index e 4) (slice_index e 5) (slice_index e 6) (slice_index e 7) (fits 4) (fits 5) (fits 6)
+    (fits 7) (long_at e 4) refl in
+    let acknowledgment =
+    long_bytes (slice_index e 8) (slice_index e 9) (slice_index e 10) (slice_index e 11) (fits 8) (fits 9) (fits 10)
+    (fits 11) (long_at e 8) refl in
+    let reserved = slice_index e 12 / 2 % 8 in
+    let ns : bit (slice_index e 12 % 2 == 1) ≡ slice_index e 12 % 2 =
+    bit_of_read (slice_index e 12 % 2) (omega arith) in
+    let b12 : slice_index e 12 ≡ 2 ^ 4 * ((20 + length options) / 4) + 2 ^ 1 * reserved
+    + bit (slice_index e 12 % 2 == 1) = omega (arith, len, ns, a.words) in
+    let b13 = bits_together (slice_index e 13) (fits 13) in
+    let window = word_bytes (slice_index e 14) (slice_index e 15) (fits 14) (fits 15) in
+    let checksum = word_bytes (slice_index e 16) (slice_index e 17) (fits 16) (fits 17) in
+    let urgent = word_bytes (slice_index e 18) (slice_index e 19) (fits 18) (fits 19) in
+    let joined : elements 20 0 e ++ rest ≡ tcp_bytes_with reserved (tcp_header_of e) = λ i.
+    source_port.0 i ∷ source_port.1 i ∷ destination_port.0 i ∷ destination_port.1 i
+    ∷ sequence.0 i ∷ sequence.1 i ∷ sequence.2 i ∷ sequence.3 i
+    ∷ acknowledgment.0 i ∷ acknowledgment.1 i ∷ acknowledgment.2 i ∷ acknowledgment.3 i
+    ∷ b12 i ∷ b13 i ∷ window.0 i ∷ window.1 i ∷ checksum.0 i ∷ checksum.1 i ∷ urgent.0 i ∷ urgent.1 i ∷ sym all i in
+    record { fits = whole_fits e fits a; reserved = reserved; three_bits = omega arith; same = front ∙ joined }
+
+-- ---- a whole header at the front of bytes
+
+-- the bytes begin with a whole header
+record Begins (bytes : List ℕ) : Type 0 where
+  fixed : 20 ≤ length bytes
+  words : 5 ≤ data_offset_of bytes
+  whole : 4 * data_offset_of bytes ≤ length bytes
+
+none_begins : (bytes : List ℕ) → first_row (tcp_rows bytes) ≡ None → Begins bytes
+none_begins bytes none = record {
+  fixed = grind (arith, common_steps);
+  words = grind (arith, common_steps);
+  whole = grind (arith, common_steps);
+}
+
+begins_none : (bytes : List ℕ) → Begins bytes → first_row (tcp_rows bytes) ≡ None
+begins_none bytes a = grind (arith, common_steps)
+
+-- the data offset of a whole header is that of all bytes
+front_offset : (e rest : List ℕ) → IsWhole e → slice_index (e ++ rest) 12 ≡ slice_index e 12
+front_offset e rest a = get_or_append_left e rest 0 12 (omega (arith, a.words, a.whole))
+
+front_begins : (e rest : List ℕ) → IsWhole e → Begins (e ++ rest)
+front_begins e rest a =
+    let same = front_offset e rest a in
+    record {
+      fixed = omega (arith, a.words, a.whole, length-append e rest);
+      words = omega (arith, a.words, same);
+      whole = omega (arith, a.whole, length-append e rest, same);
+    }
+
+begins_whole : (bytes : List ℕ) → Begins bytes → IsWhole (take (4 * data_offset_of bytes) bytes)
+begins_whole bytes a =
+    let n = 4 * data_offset_of bytes in
+    let same : get_or (take n bytes) 12 0 ≡ get_or bytes 12 0 = get_or-take n bytes 12 0 (omega (arith, a.words)) in
+    record { words = omega (arith, a.words, same); whole = omega (arith, a.whole, same, length-take n bytes) }
+
+-- ---- the header in front of a segment is that of its bytes
+
+front_options : (e rest : List ℕ) → IsWhole e → (tcp_header_of (e ++ rest)).options ≡ (tcp_header_of e).options
+front_options e rest a =
+    let n = 4 * data_offset_of e - 20 in
+    let len : length (drop 20 e) ≡ n = omega (arith, length-drop 20 e, a.whole) in
+    ap (λ (b : ℕ). take (4 * (b / 16) - 20) (drop 20 (e ++ rest))) (front_offset e rest a)
+    ∙ ap (take n) (drop-append-le 20 e rest (omega (arith, a.words, a.whole)))
+    ∙ take_at (drop 20 e) rest n len
+    ∙ sym (take_all n (drop 20 e) (omega (arith, len)))
+
+front_header : (e rest : List ℕ) → IsWhole e → tcp_header_of (e ++ rest) ≡ tcp_header_of e
+front_header e rest a =
+    let s : (k : ℕ) → k < 20 → slice_index (e ++ rest) k ≡ slice_index e k =
+    λ k below. get_or_append_left e rest 0 k (omega (arith, below, a.words, a.whole)) in
+    let w : (k : ℕ) → k + 1 < 20 → word_at (e ++ rest) k ≡ word_at e k =
+    λ k below. omega (arith, s k (omega arith), s (k + 1) below) in
+    let flag : (k : ℕ) → flag_at (e ++ rest) k ≡ flag_at e k =
+    λ k. ap (λ (b : ℕ). b / 2 ^ k % 2 == 1) (s 13 (omega arith)) in
+    let options = front_options e rest a in
+    λ i. record {
+      source_port = w 0 (omega arith) i;
+      destination_port = w 2 (omega arith) i;
+      sequence_number = 2 ^ 16 * w 4 (omega arith) i + w 6 (omega arith) i;
+      acknowledgment_number = 2 ^ 16 * w 8 (omega arith) i + w 10 (omega arith) i;
+      ns = s 12 (omega arith) i % 2 == 1;
+      fin = flag 0 i;
+      syn = flag 1 i;
+      rst = flag 2 i;
+      psh = flag 3 i;
+      ack = flag 4 i;
+      urg = flag 5 i;
+      ece = flag 6 i;
+      cwr = flag 7 i;
+      window_size = w 14 (omega arith) i;
+      checksum = w 16 (omega arith) i;
+      urgent_pointer = w 18 (omega arith) i;
+      options = options i;
+    }
+
+-- ---- segments
+
+reads : (bytes : List ℕ) → AreBytes bytes → first_row (tcp_rows bytes) ≡ None → IsTcp bytes (tcp_parts bytes)
+reads bytes fits none =
+    let n = 4 * data_offset_of bytes in
+    let e = take n bytes in
+    let whole = begins_whole bytes (none_begins bytes none) in
+    let parts : bytes ≡ e ++ drop n bytes = sym (take-append-drop n bytes) in
+    let same : tcp_header_of e ≡ tcp_header_of bytes =
+    sym (front_header e (drop n bytes) whole) ∙ ap tcp_header_of (sym parts) in
+    record {
+      encoded = e;
+      encodes = subst (EncodesTcp e) same (whole_encodes e (AreBytes-take n bytes fits) whole);
+      parts = parts;
+      whole = refl;
+    }
+
+is_read : (bytes : List ℕ) (segment : Parts TcpHeader) → IsTcp bytes segment → (first_row (tcp_rows bytes) ≡ None)
+    × (segment ≡ tcp_parts bytes)
+is_read bytes segment is =
+    let e = is.encoded in
+    let whole = encoded_whole e segment.header is.encodes in
+    let begins : Begins bytes = subst Begins (sym is.parts) (front_begins e segment.payload whole) in
+    let header : segment.header ≡ tcp_header_of bytes =
+    encoded_read e segment.header is.encodes ∙ sym (front_header e segment.payload whole)
+    ∙ ap tcp_header_of (sym is.parts) in
+    let offset : data_offset_of bytes ≡ data_offset_of e =
+    ap data_offset_of is.parts ∙ ap (λ (b : ℕ). b / 16) (front_offset e segment.payload whole) in
+    let payload : drop (4 * data_offset_of bytes) bytes ≡ segment.payload =
+    ap (drop (4 * data_offset_of bytes)) is.parts
+    ∙ drop_at e segment.payload (4 * data_offset_of bytes) (omega (arith, offset, whole.whole)) in
+    (begins_none bytes begins, λ i. record { header = header i; payload = sym payload i; left = is.whole i })
+
+pub tcp_is_read : IsReadBy IsTcp tcp_rows tcp_parts
+tcp_is_read = record { reads = reads; is_read = is_read }
+
+-- bytes that hold a whole header are a segment, and no other
+pub segment_there : (bytes : List ℕ) → AreBytes bytes → 20 ≤ length bytes → 5 ≤ data_offset_of bytes
+    → 4 * data_offset_of bytes ≤ length bytes
+    → IsTcp bytes (tcp_parts bytes) × ((segment : Parts TcpHeader) → IsTcp bytes segment → tcp_parts bytes ≡ segment)
+segment_there bytes fits fixed words whole =
+    let none = begins_none bytes (record { fixed = fixed; words = words; whole = whole }) in
+    (reads bytes fits none, λ segment is. sym (is_read bytes segment is).1)

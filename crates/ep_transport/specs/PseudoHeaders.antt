@@ -1,0 +1,63 @@
+-- What the checksums of transport layers are taken over besides the message: the pseudo header (IPv4: RFC 768 and RFC
+-- 9293, 3.1; IPv6: RFC 8200, 8.1).
+use Rattle.std.specs.Prelude.{ℕ, ◌+◌, List, [], ◌∷◌, ◌++◌, length, take, drop}
+use Rattle.std.specs.Int.{w16, w32, to_be_bytes}
+use Rattle.ep_base.specs.Checksum.{checksum_of, no_zero}
+use Rattle.ep_base.specs.IpNumbers.{udp_number, tcp_number}
+use Rattle.ep_transport.specs.declared.udp_header.UdpHeader.{UdpHeader}
+use Rattle.ep_transport.specs.declared.tcp_header.TcpHeader.{TcpHeader}
+use Rattle.ep_transport.specs.Udp.{udp_bytes}
+use Rattle.ep_transport.specs.Tcp.{tcp_bytes, tcp_header_len}
+
+-- the addresses, a zero byte, the protocol number, and the length of the message
+abbrev pub pseudo_header_ipv4 : List ℕ → List ℕ → ℕ → ℕ → List ℕ
+pseudo_header_ipv4 source destination number len = source ++ (destination ++ 0 ∷ number ∷ to_be_bytes w16 len)
+
+-- the addresses, the length of the message, three zero bytes, and the protocol number
+abbrev pub pseudo_header_ipv6 : List ℕ → List ℕ → ℕ → ℕ → List ℕ
+pseudo_header_ipv6 source destination number len =
+    source ++ (destination ++ (to_be_bytes w32 len ++ 0 ∷ 0 ∷ 0 ∷ number ∷ []))
+
+-- ---- messages, in which the checksum counts as 0
+
+-- a header and its payload
+abbrev pub udp_message : UdpHeader → List ℕ → List ℕ
+udp_message header payload = udp_bytes (record header { checksum = 0 }) ++ payload
+
+abbrev pub tcp_message : TcpHeader → List ℕ → List ℕ
+tcp_message header payload = tcp_bytes (record header { checksum = 0 }) ++ payload
+
+-- the bytes of a segment, with 0 in the place of the checksum
+abbrev pub tcp_bytes_without_checksum : List ℕ → List ℕ
+tcp_bytes_without_checksum bytes = take 16 bytes ++ 0 ∷ 0 ∷ drop 18 bytes
+
+-- ---- checksums
+
+-- UDP's length is that of its header, and a checksum of 0 is written as 65535
+abbrev pub udp_checksum_ipv4 : List ℕ → List ℕ → UdpHeader → List ℕ → ℕ
+udp_checksum_ipv4 source destination header payload =
+    no_zero (checksum_of (pseudo_header_ipv4 source destination udp_number header.length ++ udp_message header payload))
+
+abbrev pub udp_checksum_ipv6 : List ℕ → List ℕ → UdpHeader → List ℕ → ℕ
+udp_checksum_ipv6 source destination header payload =
+    no_zero (checksum_of (pseudo_header_ipv6 source destination udp_number header.length ++ udp_message header payload))
+
+-- TCP's is that of the segment
+abbrev pub tcp_checksum_ipv4 : List ℕ → List ℕ → TcpHeader → List ℕ → ℕ
+tcp_checksum_ipv4 source destination header payload =
+    checksum_of (pseudo_header_ipv4 source destination tcp_number (tcp_header_len header + length payload)
+    ++ tcp_message header payload)
+
+abbrev pub tcp_checksum_ipv6 : List ℕ → List ℕ → TcpHeader → List ℕ → ℕ
+tcp_checksum_ipv6 source destination header payload =
+    checksum_of (pseudo_header_ipv6 source destination tcp_number (tcp_header_len header + length payload)
+    ++ tcp_message header payload)
+
+-- the checksum of a segment in bytes
+abbrev pub segment_checksum_ipv4 : List ℕ → List ℕ → List ℕ → ℕ
+segment_checksum_ipv4 source destination bytes =
+    checksum_of (pseudo_header_ipv4 source destination tcp_number (length bytes) ++ tcp_bytes_without_checksum bytes)
+
+abbrev pub segment_checksum_ipv6 : List ℕ → List ℕ → List ℕ → ℕ
+segment_checksum_ipv6 source destination bytes =
+    checksum_of (pseudo_header_ipv6 source destination tcp_number (length bytes) ++ tcp_bytes_without_checksum bytes)

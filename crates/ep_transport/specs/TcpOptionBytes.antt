@@ -1,0 +1,151 @@
+-- The bytes of TCP options (RFC 9293, 3.2; selective acknowledgements: RFC 2018; window scale and timestamps: RFC
+-- 7323).
+use Rattle.std.specs.Prelude.{◌≡◌, ℕ, ◌+◌, ◌-◌, ◌*◌, ◌/◌, ◌^◌, ◌<◌, ◌==◌, ◌||◌, not, nat_lt, if◌then◌else◌, Bool, true, ⊤, List, [], ◌∷◌, ◌++◌, length, map, replicate, slice_index, Option, Some, None, Result, Ok, Err}
+use Rattle.std.specs.Int.{w16, w32, to_be_bytes}
+use Rattle.ep_base.specs.Padding.{padded}
+use Rattle.ep_base.specs.Tables.{Refuses}
+use Rattle.ep_transport.specs.declared.tcp_option_element.TcpOptionElement.{TcpOptionElement}
+use Rattle.ep_transport.specs.declared.tcp_option_element.TcpOptionElement.TheVariants.{Noop, MaximumSegmentSize, WindowScale, SelectiveAcknowledgementPermitted, SelectiveAcknowledgement, Timestamp}
+use Rattle.ep_transport.specs.declared.tcp_option_element.TcpOptionReadError.{TcpOptionReadError}
+use Rattle.ep_transport.specs.declared.tcp_option_element.TcpOptionReadError.TheVariants.{UnexpectedEndOfSlice, UnexpectedSize, UnknownId}
+
+-- bytes, filled up with zero bytes to whole words of 4
+abbrev pub in_words : List ℕ → List ℕ
+in_words bytes = padded ((length bytes + 3) / 4 * 4) bytes
+
+-- ---- writing
+
+-- a block of a selective acknowledgement: its first byte, and the one behind its last
+abbrev pub Block : Type 0
+Block = ℕ × ℕ
+
+-- the blocks that are there
+abbrev pub present : List (Option Block) → List Block
+present [] = []
+present (None ∷ others) = present others
+present (Some block ∷ others) = block ∷ present others
+
+abbrev pub block_bytes : Block → List ℕ
+block_bytes block = to_be_bytes w32 block.0 ++ to_be_bytes w32 block.1
+
+abbrev pub blocks_bytes : List Block → List ℕ
+blocks_bytes [] = []
+blocks_bytes (block ∷ others) = block_bytes block ++ blocks_bytes others
+
+-- The bytes of an option: its kind, its length, and what it holds. A block that is not there is passed over.
+abbrev pub option_bytes : TcpOptionElement → List ℕ
+option_bytes Noop = 1 ∷ []
+option_bytes (MaximumSegmentSize size) = 2 ∷ 4 ∷ to_be_bytes w16 size
+option_bytes (WindowScale shift) = 3 ∷ 3 ∷ shift ∷ []
+option_bytes SelectiveAcknowledgementPermitted = 4 ∷ 2 ∷ []
+option_bytes (SelectiveAcknowledgement first others) =
+    5 ∷ (10 + 8 * length (present others)) ∷ (block_bytes first ++ blocks_bytes (present others))
+option_bytes (Timestamp time echo) = 8 ∷ 10 ∷ (to_be_bytes w32 time ++ to_be_bytes w32 echo)
+
+-- the bytes of some options
+abbrev pub options_bytes : List TcpOptionElement → List ℕ
+options_bytes [] = []
+options_bytes (option ∷ others) = option_bytes option ++ options_bytes others
+
+-- ---- reading
+
+-- both numbers fit
+abbrev pub FitsBlock : Block → Type 0
+FitsBlock block = (block.0 < 2 ^ 32) × (block.1 < 2 ^ 32)
+
+abbrev pub FitsBlocks : List (Option Block) → Type 0
+FitsBlocks [] = ⊤
+FitsBlocks (None ∷ others) = FitsBlocks others
+FitsBlocks (Some block ∷ others) = FitsBlock block × FitsBlocks others
+
+-- what the option holds fits
+abbrev pub FitsOption : TcpOptionElement → Type 0
+FitsOption Noop = ⊤
+FitsOption (MaximumSegmentSize size) = size < 2 ^ 16
+FitsOption (WindowScale shift) = shift < 2 ^ 8
+FitsOption SelectiveAcknowledgementPermitted = ⊤
+FitsOption (SelectiveAcknowledgement first others) = FitsBlock first × (length others ≡ 3) × FitsBlocks others
+FitsOption (Timestamp time echo) = (time < 2 ^ 32) × (echo < 2 ^ 32)
+
+-- the blocks that are there in front of the places without one
+abbrev pub in_front : List (Option Block) → List (Option Block)
+in_front blocks = map Some (present blocks) ++ replicate (length blocks - length (present blocks)) None
+
+-- an option as it is read from its bytes
+abbrev pub as_read : TcpOptionElement → TcpOptionElement
+as_read Noop = Noop
+as_read (MaximumSegmentSize size) = MaximumSegmentSize size
+as_read (WindowScale shift) = WindowScale shift
+as_read SelectiveAcknowledgementPermitted = SelectiveAcknowledgementPermitted
+as_read (SelectiveAcknowledgement first others) = SelectiveAcknowledgement first (in_front others)
+as_read (Timestamp time echo) = Timestamp time echo
+
+-- the bytes begin with an option, and then the rest
+pub record IsOption (bytes : List ℕ) (read : TcpOptionElement × List ℕ) : Type 0 where
+  pub fits : FitsOption read.0
+  pub blocks : as_read read.0 ≡ read.0
+  pub parts : bytes ≡ option_bytes read.0 ++ read.1
+
+-- no option follows: there are no bytes, or the first one is the end of the list (kind 0)
+abbrev pub EndsOptions : List ℕ → Type 0
+EndsOptions [] = ⊤
+EndsOptions (kind ∷ rest) = kind ≡ 0
+
+-- what the bytes begin with: an option and the rest, or the end
+abbrev pub IsNextOption : List ℕ → Option (TcpOptionElement × List ℕ) → Type 0
+IsNextOption bytes None = EndsOptions bytes
+IsNextOption bytes (Some read) = IsOption bytes read
+
+-- the rows of a kind whose options have one length
+abbrev pub sized_rows : ℕ → ℕ → List ℕ → List (Bool × TcpOptionReadError)
+sized_rows kind size bytes =
+    (nat_lt (length bytes) size, UnexpectedEndOfSlice kind size (length bytes))
+    ∷ (not (slice_index bytes 1 == size), UnexpectedSize kind (slice_index bytes 1))
+    ∷ []
+
+-- the lengths of 1 to 4 blocks
+abbrev pub is_blocks_size : ℕ → Bool
+is_blocks_size size = size == 10 || size == 18 || size == 26 || size == 34
+
+-- the rows of a selective acknowledgement
+abbrev pub blocks_rows : List ℕ → List (Bool × TcpOptionReadError)
+blocks_rows bytes =
+    let size = slice_index bytes 1 in
+    (nat_lt (length bytes) 2, UnexpectedEndOfSlice 5 2 (length bytes))
+    ∷ (not (is_blocks_size size), UnexpectedSize 5 size)
+    ∷ (nat_lt (length bytes) size, UnexpectedEndOfSlice 5 size (length bytes))
+    ∷ []
+
+-- the rows of a kind
+abbrev pub kind_rows : ℕ → List ℕ → List (Bool × TcpOptionReadError)
+kind_rows kind bytes =
+    if kind == 0 then []
+    else if kind == 1 then []
+    else if kind == 2 then sized_rows 2 4 bytes
+    else if kind == 3 then sized_rows 3 3 bytes
+    else if kind == 4 then sized_rows 4 2 bytes
+    else if kind == 5 then blocks_rows bytes
+    else if kind == 8 then sized_rows 8 10 bytes
+    else (true, UnknownId kind) ∷ []
+
+-- why bytes begin with no option where no end stands
+abbrev pub option_rows : List ℕ → List (Bool × TcpOptionReadError)
+option_rows [] = []
+option_rows (kind ∷ rest) = kind_rows kind (kind ∷ rest)
+
+abbrev pub RefusesOption : List ℕ → TcpOptionReadError → Type 0
+RefusesOption bytes = Refuses (option_rows bytes)
+
+-- ---- the iteration
+
+-- what one step over bytes gives, and the bytes that are left: none behind an error
+abbrev pub GivesItem : List ℕ → Option (Result TcpOptionElement TcpOptionReadError) → List ℕ → Type 0
+GivesItem bytes None left = EndsOptions bytes × (left ≡ bytes)
+GivesItem bytes (Some (Ok option)) left = IsOption bytes (option, left)
+GivesItem bytes (Some (Err error)) left = RefusesOption bytes error × (left ≡ [])
+
+-- all that the steps over bytes give: options up to the end, or to an error
+abbrev pub AreItems : List ℕ → List (Result TcpOptionElement TcpOptionReadError) → Type 0
+AreItems bytes [] = EndsOptions bytes
+AreItems bytes (Ok option ∷ others) = (rest : List ℕ) × IsOption bytes (option, rest) × AreItems rest others
+AreItems bytes (Err error ∷ others) = RefusesOption bytes error × (others ≡ [])

@@ -1,0 +1,42 @@
+//! The sums of the pseudo headers that transport checksums are taken over (RFC 768; RFC 9293, 3.1; RFC 8200, 8.1).
+
+ghost use Rattle.std.specs.Prelude.{◌≡◌, ◌%◌, length};
+ghost use Rattle.ep_base.specs.Checksum.{ones_sum};
+ghost use Rattle.ep_transport.specs.PseudoHeaders.{pseudo_header_ipv4, pseudo_header_ipv6};
+
+use ep_base::IpNumber;
+use ep_base::checksum::Sum16BitWords;
+
+/// The sum of the pseudo header over IPv4, for a message of this number and length.
+pub(crate) fn sum_ipv4(
+    source: [u8; 4],
+    destination: [u8; 4],
+    number: IpNumber,
+    len: u16,
+) -> Sum16BitWords
+    ensures sum { result ≡ ones_sum (pseudo_header_ipv4 source destination number.0 len) }
+    ensures even { length (pseudo_header_ipv4 source destination number.0 len) % 2 ≡ 0 }
+{
+    Sum16BitWords::new()
+        .add_4bytes(source)
+        .add_4bytes(destination)
+        .add_2bytes([0, number.0])
+        .add_2bytes(len.to_be_bytes())
+}
+
+/// The sum of the pseudo header over IPv6, for a message of this number and length.
+pub(crate) fn sum_ipv6(
+    source: [u8; 16],
+    destination: [u8; 16],
+    number: IpNumber,
+    len: u32,
+) -> Sum16BitWords
+    ensures sum { result ≡ ones_sum (pseudo_header_ipv6 source destination number.0 len) }
+    ensures even { length (pseudo_header_ipv6 source destination number.0 len) % 2 ≡ 0 }
+{
+    Sum16BitWords::new()
+        .add_16bytes(source)
+        .add_16bytes(destination)
+        .add_4bytes(len.to_be_bytes())
+        .add_4bytes([0, 0, 0, number.0])
+}

@@ -1,0 +1,199 @@
+//! The options that bytes of a TCP header hold (RFC 9293, 3.2).
+
+use crate::tcp_option_element::{TcpOptionElement, TcpOptionReadError};
+
+/// Reads option after option, up to the end of the list or to an error, behind which nothing follows.
+#[derive(Clone, Debug, PartialEq, Eq, Drop)]
+pub struct TcpOptionsIterator<'a> {
+    options: &'a [u8],
+}
+
+impl<'a> TcpOptionsIterator<'a> {
+    ghost use Rattle.std.specs.Prelude.{◌≡◌};
+    ghost use Rattle.ep_transport.specs.TcpOptionSteps.{options_left};
+
+    /// The options in these bytes.
+    #[inline]
+    pub fn from_slice(options: &'a [u8]) -> TcpOptionsIterator<'a>
+        ensures { options_left result ≡ options.now }
+    {
+        TcpOptionsIterator { options }
+    }
+
+    /// The bytes that are not read yet.
+    #[inline]
+    pub fn rest(&self) -> &'a [u8]
+        ensures { result.now ≡ options_left self.now }
+    {
+        self.options
+    }
+}
+
+impl<'a> Iterator for TcpOptionsIterator<'a> {
+    ghost use Rattle.std.specs.Prelude.{length};
+    ghost use Rattle.std.specs.Iterator.{at_most};
+    ghost use Rattle.ep_transport.specs.TcpOptionBytes.{GivesItem};
+    ghost use Rattle.ep_transport.specs.TcpOptionSteps.{options_left};
+
+    type Item = Result<TcpOptionElement, TcpOptionReadError>;
+
+    ghost next_gives = { λ old item new. GivesItem (options_left old) item (options_left new) };
+
+    ghost remaining = { λ steps. at_most (length (options_left steps)) };
+
+    fn next(&mut self) -> Option<Result<TcpOptionElement, TcpOptionReadError>> {
+        let kind = *self.options.first()?;
+        if kind == 0 {
+            return None;
+        }
+        match read_option(self.options) {
+            Ok((option, rest)) => {
+                self.options = rest;
+                Some(Ok(option))
+            }
+            Err(error) => {
+                self.options = &self.options[self.options.len()..];
+                Some(Err(error))
+            }
+        }
+    }
+}
+
+ghost use Rattle.std.specs.Prelude.{◌≡◌, ◌≢◌, ◌+◌, ◌<◌, ◌≤◌, length, slice_index, if◌then◌else◌, nat_lt, true, Some, None, IfOk, IfErr, OnOk, MatchResult};
+ghost use Rattle.ep_base.specs.Tables.{Refuses};
+ghost use Rattle.ep_transport.specs.Tcp.{long_at};
+ghost use Rattle.ep_transport.specs.TcpOptionBytes.{IsOption, RefusesOption, sized_rows, blocks_rows, is_blocks_size};
+ghost use Rattle.ep_transport.specs.TcpOptionSteps.{block_at};
+
+/// The option at the front of bytes whose first one is no end of the list, and the bytes behind it.
+fn read_option(options: &[u8]) -> Result<(TcpOptionElement, &[u8]), TcpOptionReadError>
+    requires some { 0 < length options.now }
+    requires no_end { slice_index options.now 0 ≢ 0 }
+    ensures ok { IfOk result (λ read. IsOption options.now (read.0, read.1.now)) }
+    ensures err { IfErr result (RefusesOption options.now) }
+{
+    match options[0] {
+        1 => Ok((TcpOptionElement::Noop, &options[1..])),
+        2 => {
+            check_size(options, 2, 4)?;
+            let size = u16::from_be_bytes([options[2], options[3]]);
+            Ok((TcpOptionElement::MaximumSegmentSize(size), &options[4..]))
+        }
+        3 => {
+            check_size(options, 3, 3)?;
+            Ok((TcpOptionElement::WindowScale(options[2]), &options[3..]))
+        }
+        4 => {
+            check_size(options, 4, 2)?;
+            Ok((
+                TcpOptionElement::SelectiveAcknowledgementPermitted,
+                &options[2..],
+            ))
+        }
+        5 => {
+            let size = check_blocks_size(options)?;
+            let others = [
+                block_within(options, 10, size),
+                block_within(options, 18, size),
+                block_within(options, 26, size),
+            ];
+            Ok((
+                TcpOptionElement::SelectiveAcknowledgement(block(options, 2), others),
+                &options[size..],
+            ))
+        }
+        8 => {
+            check_size(options, 8, 10)?;
+            let (time, echo) = block(options, 2);
+            Ok((TcpOptionElement::Timestamp(time, echo), &options[10..]))
+        }
+        kind => Err(TcpOptionReadError::UnknownId(kind)),
+    }
+}
+
+/// Refuses an option of this kind that has not this number of bytes.
+#[inline]
+fn check_size(options: &[u8], kind: u8, size: u8) -> Result<(), TcpOptionReadError>
+    requires { 1 < size }
+    ensures { MatchResult result
+        (λ _. (size ≤ length options.now) × (slice_index options.now 1 ≡ size))
+        (Refuses (sized_rows kind size options.now)) }
+{
+    if options.len() < size as usize {
+        return Err(TcpOptionReadError::UnexpectedEndOfSlice {
+            option_id: kind,
+            expected_len: size,
+            actual_len: options.len(),
+        });
+    }
+    if options[1] != size {
+        return Err(TcpOptionReadError::UnexpectedSize {
+            option_id: kind,
+            size: options[1],
+        });
+    }
+    Ok(())
+}
+
+/// The number of bytes of a selective acknowledgement of 1 to 4 blocks.
+#[inline]
+fn check_blocks_size(options: &[u8]) -> Result<usize, TcpOptionReadError>
+    ensures { MatchResult result
+        (λ size. (size ≡ slice_index options.now 1) × (is_blocks_size size ≡ true) × (size ≤ length options.now))
+        (Refuses (blocks_rows options.now)) }
+{
+    if options.len() < 2 {
+        return Err(TcpOptionReadError::UnexpectedEndOfSlice {
+            option_id: 5,
+            expected_len: 2,
+            actual_len: options.len(),
+        });
+    }
+    let size = options[1];
+    if !(size == 10 || size == 18 || size == 26 || size == 34) {
+        return Err(TcpOptionReadError::UnexpectedSize { option_id: 5, size });
+    }
+    if options.len() < size as usize {
+        return Err(TcpOptionReadError::UnexpectedEndOfSlice {
+            option_id: 5,
+            expected_len: size,
+            actual_len: options.len(),
+        });
+    }
+    Ok(size as usize)
+}
+
+/// The two numbers of 32 bits from a place on.
+#[inline]
+fn block(options: &[u8], at: usize) -> (u32, u32)
+    requires { at + 8 ≤ length options.now }
+    ensures { result ≡ block_at options.now at }
+{
+    (
+        u32::from_be_bytes([
+            options[at],
+            options[at + 1],
+            options[at + 2],
+            options[at + 3],
+        ]),
+        u32::from_be_bytes([
+            options[at + 4],
+            options[at + 5],
+            options[at + 6],
+            options[at + 7],
+        ]),
+    )
+}
+
+/// The block from a place on, where an option of this number of bytes goes on there.
+#[inline]
+fn block_within(options: &[u8], at: usize, size: usize) -> Option<(u32, u32)>
+    requires within { at < size → at + 8 ≤ length options.now }
+    ensures { result ≡ (if nat_lt at size then Some (block_at options.now at) else None) }
+{
+    if at < size {
+        Some(block(options, at))
+    } else {
+        None
+    }
+}

@@ -1,0 +1,359 @@
+//! A TCP segment in a slice (RFC 9293, 3.1).
+
+ghost use Rattle.std.specs.Prelude.{◌≡◌, ◌*◌, ◌≤◌, length};
+ghost use Rattle.ep_transport.specs.Tcp.{data_offset_of};
+
+use crate::pseudo_header;
+use crate::tcp_header::TcpHeader;
+use crate::tcp_options::TcpOptions;
+use crate::tcp_options_iterator::TcpOptionsIterator;
+use ep_base::checksum::Sum16BitWords;
+use ep_base::err::tcp::{HeaderError, HeaderSliceError};
+use ep_base::err::{Layer, LenError, ValueTooBigError, ValueType};
+use ep_base::{IpNumber, LenSource};
+
+/// The bytes of a segment, and how many of them its header has, as its data offset says.
+#[derive(Clone, Copy, Debug, PartialEq, Eq)]
+struct SegmentBytes<'a> {
+    slice: &'a [u8],
+    header_len: usize,
+    ghost words: { 5 ≤ data_offset_of slice.now },
+    ghost len: { header_len ≡ 4 * data_offset_of slice.now },
+    ghost most: { header_len ≤ 60 },
+    ghost whole: { 4 * data_offset_of slice.now ≤ length slice.now },
+}
+
+/// A TCP segment (RFC 9293) that lies in a slice: header and payload.
+#[derive(Clone, Debug, PartialEq, Eq, Drop)]
+pub struct TcpSlice<'a> {
+    bytes: SegmentBytes<'a>,
+}
+
+impl<'a> TcpSlice<'a> {
+    ghost use Rattle.std.specs.Prelude.{◌≡◌, ◌<◌, ◌≤◌, ◌%◌, ◌++◌, IfOk, IfErr, IsOkAnd, MatchResult, List, ℕ, [], length};
+    ghost use Rattle.ep_base.specs.Checksum.{ones_sum, checksum_of};
+    ghost use Rattle.ep_base.specs.declared.err.value_type.ValueType.TheVariants as value_type;
+    ghost use Rattle.ep_transport.specs.PseudoHeaders.{tcp_bytes_without_checksum, segment_checksum_ipv4, segment_checksum_ipv6};
+    ghost use Rattle.ep_base.specs.Tables.{Parts};
+    ghost use Rattle.ep_transport.specs.declared.tcp_header.TcpHeader.{TcpHeader};
+    ghost use Rattle.ep_transport.specs.Tcp.{IsTcp, RefusesTcp, tcp_data_offset};
+    ghost use Rattle.ep_transport.specs.TcpOptionSteps.{options_left};
+    ghost use Rattle.ep_transport.specs.TcpSlices.{tcp_slice_bytes, tcp_slice_header, tcp_slice_header_bytes, tcp_slice_header_len, tcp_slice_payload, tcp_slice_parts};
+
+    /// The segment that the slice is.
+    pub fn from_slice(slice: &'a [u8]) -> Result<TcpSlice<'a>, HeaderSliceError>
+        ensures ok { IfOk result (λ segment. (left : List ℕ) × (slice.now ≡ tcp_slice_bytes segment ++ left)
+            × IsTcp slice.now (tcp_slice_parts segment)) }
+        ensures only { (segment : Parts TcpHeader) → IsTcp slice.now segment
+            → IsOkAnd result (λ shown. tcp_slice_parts shown ≡ segment) }
+        ensures err { IfErr result (RefusesTcp slice.now) }
+    {
+        if slice.len() < TcpHeader::MIN_LEN {
+            return Err(HeaderSliceError::Len(LenError::at_start(
+                TcpHeader::MIN_LEN,
+                slice.len(),
+                LenSource::Slice,
+                Layer::TcpHeader,
+            )));
+        }
+        let data_offset = slice[12] >> 4;
+        if data_offset < 5 {
+            return Err(HeaderSliceError::Content(HeaderError::DataOffsetTooSmall { data_offset }));
+        }
+        let header_len = data_offset as usize * 4;
+        if slice.len() < header_len {
+            return Err(HeaderSliceError::Len(LenError::at_start(
+                header_len,
+                slice.len(),
+                LenSource::Slice,
+                Layer::TcpHeader,
+            )));
+        }
+        Ok(TcpSlice {
+            bytes: SegmentBytes { slice, header_len },
+        })
+    }
+
+    /// The bytes of header and payload.
+    #[inline]
+    pub fn slice(&self) -> &'a [u8]
+        ensures { result.now ≡ tcp_slice_bytes self.now }
+    {
+        self.bytes.slice
+    }
+
+    /// The bytes of the header, with its options.
+    #[inline]
+    pub fn header_slice(&self) -> &'a [u8]
+        ensures { result.now ≡ tcp_slice_header_bytes self.now }
+    {
+        &self.bytes.slice[..self.bytes.header_len]
+    }
+
+    /// The bytes behind the header.
+    #[inline]
+    pub fn payload(&self) -> &'a [u8]
+        ensures { result.now ≡ tcp_slice_payload self.now }
+    {
+        &self.bytes.slice[self.bytes.header_len..]
+    }
+
+    /// The number of bytes of the header, with its options.
+    #[inline]
+    pub const fn header_len(&self) -> usize
+        ensures { result ≡ tcp_slice_header_len self.now }
+    {
+        self.bytes.header_len
+    }
+
+    /// The sender's port, bytes 0 and 1.
+    #[inline]
+    pub fn source_port(&self) -> u16
+        ensures { result ≡ (tcp_slice_header self.now).source_port }
+    {
+        u16::from_be_bytes([self.bytes.slice[0], self.bytes.slice[1]])
+    }
+
+    /// The receiver's port, bytes 2 and 3.
+    #[inline]
+    pub fn destination_port(&self) -> u16
+        ensures { result ≡ (tcp_slice_header self.now).destination_port }
+    {
+        u16::from_be_bytes([self.bytes.slice[2], self.bytes.slice[3]])
+    }
+
+    /// The place of the first payload byte in the sender's stream, bytes 4 to 7; with `syn` the place before it.
+    #[inline]
+    pub fn sequence_number(&self) -> u32
+        ensures { result ≡ (tcp_slice_header self.now).sequence_number }
+    {
+        let slice = self.bytes.slice;
+        u32::from_be_bytes([slice[4], slice[5], slice[6], slice[7]])
+    }
+
+    /// With `ack` the next place that is waited for, bytes 8 to 11.
+    #[inline]
+    pub fn acknowledgment_number(&self) -> u32
+        ensures { result ≡ (tcp_slice_header self.now).acknowledgment_number }
+    {
+        let slice = self.bytes.slice;
+        u32::from_be_bytes([slice[8], slice[9], slice[10], slice[11]])
+    }
+
+    /// The number of 4 byte words of the header, with its options: the upper 4 bits of byte 12.
+    #[inline]
+    pub fn data_offset(&self) -> u8
+        ensures { result ≡ data_offset_of (tcp_slice_bytes self.now) }
+    {
+        self.bytes.slice[12] >> 4
+    }
+
+    /// The nonce sum of congestion notification (RFC 3540), the lowest bit of byte 12.
+    #[inline]
+    pub fn ns(&self) -> bool
+        ensures { result ≡ (tcp_slice_header self.now).ns }
+    {
+        self.bytes.slice[12] & 1 == 1
+    }
+
+    /// The sender has no more data, bit 0 of byte 13.
+    #[inline]
+    pub fn fin(&self) -> bool
+        ensures { result ≡ (tcp_slice_header self.now).fin }
+    {
+        self.bytes.slice[13] & 1 == 1
+    }
+
+    /// The sequence numbers are to be agreed on, bit 1 of byte 13.
+    #[inline]
+    pub fn syn(&self) -> bool
+        ensures { result ≡ (tcp_slice_header self.now).syn }
+    {
+        (self.bytes.slice[13] >> 1) & 1 == 1
+    }
+
+    /// The connection is reset, bit 2 of byte 13.
+    #[inline]
+    pub fn rst(&self) -> bool
+        ensures { result ≡ (tcp_slice_header self.now).rst }
+    {
+        (self.bytes.slice[13] >> 2) & 1 == 1
+    }
+
+    /// What was received is to be handed on, bit 3 of byte 13.
+    #[inline]
+    pub fn psh(&self) -> bool
+        ensures { result ≡ (tcp_slice_header self.now).psh }
+    {
+        (self.bytes.slice[13] >> 3) & 1 == 1
+    }
+
+    /// The acknowledgment number counts, bit 4 of byte 13.
+    #[inline]
+    pub fn ack(&self) -> bool
+        ensures { result ≡ (tcp_slice_header self.now).ack }
+    {
+        (self.bytes.slice[13] >> 4) & 1 == 1
+    }
+
+    /// The urgent pointer counts, bit 5 of byte 13.
+    #[inline]
+    pub fn urg(&self) -> bool
+        ensures { result ≡ (tcp_slice_header self.now).urg }
+    {
+        (self.bytes.slice[13] >> 5) & 1 == 1
+    }
+
+    /// Congestion was seen (RFC 3168), bit 6 of byte 13.
+    #[inline]
+    pub fn ece(&self) -> bool
+        ensures { result ≡ (tcp_slice_header self.now).ece }
+    {
+        (self.bytes.slice[13] >> 6) & 1 == 1
+    }
+
+    /// The sender has reduced its window (RFC 3168), bit 7 of byte 13.
+    #[inline]
+    pub fn cwr(&self) -> bool
+        ensures { result ≡ (tcp_slice_header self.now).cwr }
+    {
+        (self.bytes.slice[13] >> 7) & 1 == 1
+    }
+
+    /// How many bytes may be sent, bytes 14 and 15.
+    #[inline]
+    pub fn window_size(&self) -> u16
+        ensures { result ≡ (tcp_slice_header self.now).window_size }
+    {
+        u16::from_be_bytes([self.bytes.slice[14], self.bytes.slice[15]])
+    }
+
+    /// The checksum, bytes 16 and 17.
+    #[inline]
+    pub fn checksum(&self) -> u16
+        ensures { result ≡ (tcp_slice_header self.now).checksum }
+    {
+        u16::from_be_bytes([self.bytes.slice[16], self.bytes.slice[17]])
+    }
+
+    /// With `urg` where the urgent data end, counted from the sequence number, bytes 18 and 19.
+    #[inline]
+    pub fn urgent_pointer(&self) -> u16
+        ensures { result ≡ (tcp_slice_header self.now).urgent_pointer }
+    {
+        u16::from_be_bytes([self.bytes.slice[18], self.bytes.slice[19]])
+    }
+
+    /// The bytes of the options, from byte 20 on.
+    #[inline]
+    pub fn options(&self) -> &'a [u8]
+        ensures value { result.now ≡ (tcp_slice_header self.now).options }
+        ensures bound { length result.now ≤ 40 }
+        ensures words { length result.now % 4 ≡ 0 }
+    {
+        &self.bytes.slice[TcpHeader::MIN_LEN..self.bytes.header_len]
+    }
+
+    /// The options, one after the other.
+    #[inline]
+    pub fn options_iterator(&self) -> TcpOptionsIterator<'a>
+        ensures { options_left result ≡ (tcp_slice_header self.now).options }
+    {
+        TcpOptionsIterator::from_slice(self.options())
+    }
+
+    /// The header as a value.
+    pub fn to_header(&self) -> TcpHeader
+        ensures { result ≡ tcp_slice_header self.now }
+    {
+        TcpHeader {
+            source_port: self.source_port(),
+            destination_port: self.destination_port(),
+            sequence_number: self.sequence_number(),
+            acknowledgment_number: self.acknowledgment_number(),
+            ns: self.ns(),
+            fin: self.fin(),
+            syn: self.syn(),
+            rst: self.rst(),
+            psh: self.psh(),
+            ack: self.ack(),
+            urg: self.urg(),
+            ece: self.ece(),
+            cwr: self.cwr(),
+            window_size: self.window_size(),
+            checksum: self.checksum(),
+            urgent_pointer: self.urgent_pointer(),
+            options: TcpOptions::copy_of(self.options()),
+        }
+    }
+
+    /// The checksum over IPv4, with these addresses, whatever checksum the segment holds. A segment above 65535 bytes
+    /// is refused.
+    pub fn calc_checksum_ipv4(
+        &self,
+        source: [u8; 4],
+        destination: [u8; 4],
+    ) -> Result<u16, ValueTooBigError<usize>>
+        ensures { MatchResult result
+            (λ sum. (length (tcp_slice_bytes self.now) ≤ 65535)
+            × (sum ≡ segment_checksum_ipv4 source destination (tcp_slice_bytes self.now)))
+            (λ error. (65535 < length (tcp_slice_bytes self.now)) × (error ≡ record {
+              actual = length (tcp_slice_bytes self.now);
+              max_allowed = 65535;
+              value_type = value_type.TcpPayloadLengthIpv4;
+            })) }
+    {
+        let len = self.bytes.slice.len();
+        let max_allowed = u16::MAX as usize;
+        if len > max_allowed {
+            return Err(ValueTooBigError {
+                actual: len,
+                max_allowed,
+                value_type: ValueType::TcpPayloadLengthIpv4,
+            });
+        }
+        let sum = pseudo_header::sum_ipv4(source, destination, IpNumber::TCP, len as u16);
+        Ok(self.checksum_behind(&sum))
+    }
+
+    /// The checksum over IPv6, with these addresses, whatever checksum the segment holds. A segment above 4294967295
+    /// bytes is refused.
+    pub fn calc_checksum_ipv6(
+        &self,
+        source: [u8; 16],
+        destination: [u8; 16],
+    ) -> Result<u16, ValueTooBigError<usize>>
+        ensures { MatchResult result
+            (λ sum. (length (tcp_slice_bytes self.now) ≤ 4294967295)
+            × (sum ≡ segment_checksum_ipv6 source destination (tcp_slice_bytes self.now)))
+            (λ error. (4294967295 < length (tcp_slice_bytes self.now)) × (error ≡ record {
+              actual = length (tcp_slice_bytes self.now);
+              max_allowed = 4294967295;
+              value_type = value_type.TcpPayloadLengthIpv6;
+            })) }
+    {
+        let len = self.bytes.slice.len();
+        let max_allowed = u32::MAX as usize;
+        if len > max_allowed {
+            return Err(ValueTooBigError {
+                actual: len,
+                max_allowed,
+                value_type: ValueType::TcpPayloadLengthIpv6,
+            });
+        }
+        let sum = pseudo_header::sum_ipv6(source, destination, IpNumber::TCP, len as u32);
+        Ok(self.checksum_behind(&sum))
+    }
+
+    /// The checksum of the segment behind a pseudo header of this sum.
+    fn checksum_behind(&self, pseudo_header: &Sum16BitWords) -> u16
+        ensures { (front : List ℕ) → length front % 2 ≡ 0 → pseudo_header.now ≡ ones_sum front
+            → result ≡ checksum_of (front ++ tcp_bytes_without_checksum (tcp_slice_bytes self.now)) }
+    {
+        pseudo_header
+            .add_slice(&self.bytes.slice[..16])
+            .add_2bytes([0, 0])
+            .add_slice(&self.bytes.slice[18..])
+            .ones_complement()
+    }
+}

@@ -1,0 +1,35 @@
+//! How the program ends.
+
+ghost use Rattle.std.specs.Prelude.{◌≡◌};
+ghost use Rattle.std.specs.Option.{option_map};
+ghost use Rattle.frame_bench.specs.Texts.{complaint_of, status_of};
+
+use crate::run_error::RunError;
+
+/// How the program ends after a run.
+#[derive(Drop)]
+pub struct Ending {
+    /// The status of the process.
+    pub status: u8,
+    /// The line for standard error, without its line feed.
+    pub complaint: Option<&'static str>,
+}
+
+impl Ending {
+    /// After a whole run the status is 0 and nothing is said, and after an error it is 1 and the error's text is said.
+    pub fn after(run: Result<(), RunError>) -> Ending
+        ensures status { result.status ≡ status_of run }
+        ensures complaint { option_map (λ text. text.now) result.complaint ≡ complaint_of run }
+    {
+        match run {
+            Ok(()) => Ending {
+                status: 0,
+                complaint: None,
+            },
+            Err(error) => Ending {
+                status: 1,
+                complaint: Some(error.text()),
+            },
+        }
+    }
+}
