@@ -1,7 +1,9 @@
 -- Lists of bytes that are the same list in two ways.
-use Rattle.std.proofs.Common.{◌≡◌, ℕ, zero, suc, ◌+◌, ◌-◌, ◌^◌, ◌<◌, ◌≤◌, ◌==◌, Bool, true, false, List, [], ◌∷◌, ◌++◌, get_or, refl, length, take, drop, sym, ap, subst, ◌∙◌, inl, inr, arith}
+use Rattle.std.proofs.Common.{◌≡◌, ℕ, zero, suc, ◌+◌, ◌-◌, ◌^◌, ◌<◌, ◌≤◌, ◌==◌, Bool, true, false, List, [], ◌∷◌, ◌++◌}
+use Rattle.std.proofs.Common.{get_or, refl, length, take, drop, sym, ap, subst, ◌∙◌, inl, inr, arith}
 use Rattle.std.proofs.lemmas.Bool.{cases_lt}
-use Rattle.std.proofs.lemmas.List.{get_or-take, get_or-drop, get_or_past, length-take, length-drop, drop_more, drop_at, take_all}
+use Rattle.std.proofs.lemmas.List.{get_or-take, get_or-drop, get_or_past, length-take, length-drop}
+use Rattle.std.proofs.lemmas.List.{drop_more, drop_at, take_all}
 use Rattle.std.specs.Int.{w16, to_be_bytes, from_be_bytes}
 use Rattle.std.proofs.lemmas.Nat.{from_be_bytes-to_be_bytes_2}
 use Rattle.std.proofs.Math.Seq.{take-append_seam, drop-append_seam}
@@ -18,7 +20,8 @@ same_parts a b x y len same = (
 pub rest_of : (bytes front rest : List ℕ) (n : ℕ) → bytes ≡ front ++ rest → n ≡ length front
     → take (length bytes - n) (drop n bytes) ≡ rest
 rest_of bytes front rest n parts len =
-    take_all (length bytes - n) (drop n bytes) (omega (arith, length-drop n bytes)) ∙ ap (drop n) parts ∙ drop_at front rest n (sym len)
+    take_all (length bytes - n) (drop n bytes) (omega (arith, length-drop n bytes)) ∙ ap (drop n) parts
+    ∙ drop_at front rest n (sym len)
 
 -- n elements from i on
 unfoldable pub elements : ℕ → ℕ → List ℕ → List ℕ

@@ -26,7 +26,8 @@ decided_by value is only never = record {
 }
 
 -- the images of the value and of the error
-pub decided_as : {V W E F : Type 0} {Is : V → Type 0} {Refuses : E → Type 0} {IsImaged : W → Type 0} {RefusesImaged : F → Type 0}
+pub decided_as : {V W E F : Type 0} {Is : V → Type 0} {Refuses : E → Type 0} {IsImaged : W → Type 0}
+    {RefusesImaged : F → Type 0}
     → (value : V → W) → (error : E → F) → IsDecided Is Refuses → IsImage Is IsImaged value
     → IsImage Refuses RefusesImaged error
     → IsDecided IsImaged RefusesImaged
@@ -65,7 +66,8 @@ abbrev pub RefusesEither : {V E : Type 0} → (V → Type 0) → (E → Type 0) 
 RefusesEither {V = V} Is Refuses RefusesNext error = Refuses error ⊎ ((value : V) × Is value × RefusesNext value error)
 
 -- two steps have one error
-then_one_error : {V W E : Type 0} {Is : V → Type 0} {Refuses : E → Type 0} {Next : V → W → Type 0} {RefusesNext : V → E → Type 0}
+then_one_error : {V W E : Type 0} {Is : V → Type 0} {Refuses : E → Type 0} {Next : V → W → Type 0}
+    {RefusesNext : V → E → Type 0}
     → IsDecided Is Refuses → ((value : V) → Is value → IsDecided (Next value) (RefusesNext value))
     → (e f : E) → RefusesEither Is Refuses RefusesNext e → RefusesEither Is Refuses RefusesNext f → e ≡ f
 then_one_error first next e f (inl a) (inl b) = first.one_error e f a b
@@ -76,7 +78,8 @@ then_one_error {RefusesNext = RefusesNext} first next e f (inr a) (inr b) =
     (next b.0 b.1).one_error e f (subst (λ v. RefusesNext v e) same a.2) b.2
 
 -- two steps are not taken and refused
-then_not_both : {V W E : Type 0} {Is : V → Type 0} {Refuses : E → Type 0} {Next : V → W → Type 0} {RefusesNext : V → E → Type 0}
+then_not_both : {V W E : Type 0} {Is : V → Type 0} {Refuses : E → Type 0} {Next : V → W → Type 0}
+    {RefusesNext : V → E → Type 0}
     → IsDecided Is Refuses → ((value : V) → Is value → IsDecided (Next value) (RefusesNext value))
     → (values : V × W) (e : E) → IsBoth Is Next values → RefusesEither Is Refuses RefusesNext e → ⊥
 then_not_both first next values e a (inl b) = first.not_both values.0 e a.0 b
@@ -85,7 +88,8 @@ then_not_both {Next = Next} first next values e a (inr b) =
     (next b.0 b.1).not_both values.1 e (subst (λ v. Next v values.1) same a.1) b.2
 
 -- one step and then another
-pub decided_then : {V W E : Type 0} {Is : V → Type 0} {Refuses : E → Type 0} {Next : V → W → Type 0} {RefusesNext : V → E → Type 0}
+pub decided_then : {V W E : Type 0} {Is : V → Type 0} {Refuses : E → Type 0} {Next : V → W → Type 0}
+    {RefusesNext : V → E → Type 0}
     → IsDecided Is Refuses → ((value : V) → Is value → IsDecided (Next value) (RefusesNext value))
     → IsDecided (IsBoth Is Next) (RefusesEither Is Refuses RefusesNext)
 decided_then {V = V} {W = W} {Next = Next} first next = record {

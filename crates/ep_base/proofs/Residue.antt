@@ -45,7 +45,8 @@ residue_unique (suc m) (suc n) j k e p q =
 pub residue_part : (a b : ℕ) → residue (residue a + b) ≡ residue (a + b)
 residue_part a b =
     let s = residue_split a in
-    residue_unique (residue a + b) (a + b) s.0 0 (omega (arith, s.1)) (λ z. omega (arith, residue_zero a)) (λ z. omega (arith, s.1))
+    residue_unique (residue a + b) (a + b) s.0 0 (omega (arith, s.1)) (λ z. omega (arith, residue_zero a))
+    (λ z. omega (arith, s.1))
 
 pub residue_last : (a b : ℕ) → residue (a + residue b) ≡ residue (a + b)
 residue_last a b = ap residue (add_comm a (residue b)) ∙ residue_part b a ∙ ap residue (add_comm b a)

@@ -1,10 +1,12 @@
 -- The one's complement sum of lists of bytes.
-use Rattle.std.proofs.Common.{◌≡◌, ℕ, zero, suc, ◌+◌, ◌-◌, ◌*◌, ◌/◌, ◌%◌, ◌↔◌, ◌<◌, ◌≤◌, List, [], ◌∷◌, ◌++◌, length, replicate, refl, ap, sym, ◌∙◌, arith, add_assoc, add_comm, zero-add, length-append}
+use Rattle.std.proofs.Common.{◌≡◌, ℕ, zero, suc, ◌+◌, ◌-◌, ◌*◌, ◌/◌, ◌%◌, ◌↔◌, ◌<◌, ◌≤◌, List, [], ◌∷◌, ◌++◌, length}
+use Rattle.std.proofs.Common.{replicate, refl, ap, sym, ◌∙◌, arith, add_assoc, add_comm, zero-add, length-append}
 use Rattle.std.proofs.lemmas.List.Elements.{All-nil, All-cons, All-head, All-tail}
 use Rattle.std.specs.Int.{w16, w32, w64, from_be_bytes, to_be_bytes}
 use Rattle.std.specs.List.{All}
 use Rattle.ep_base.specs.Checksum.{word_sum, residue, ones_sum, ones_add, checksum_of}
-use Rattle.ep_base.proofs.Residue.{residue_unique, residue_part, residue_last, residue_beside, residue_split, residue_le, residue_zero}
+use Rattle.ep_base.proofs.Residue.{residue_unique, residue_part, residue_last, residue_beside}
+use Rattle.ep_base.proofs.Residue.{residue_split, residue_le, residue_zero}
 
 -- the words of a concatenation, where the first part ends at a word's end
 pub word_sum-append : (a b : List ℕ) → length a % 2 ≡ 0 → word_sum (a ++ b) ≡ word_sum a + word_sum b
@@ -50,7 +52,8 @@ words_of_32 _ p = absurd (omega arith)
 
 pub words_of_64 : (bytes : List ℕ) → length bytes ≡ 8 → residue (from_be_bytes w64 bytes) ≡ residue (word_sum bytes)
 words_of_64 (a ∷ b ∷ c ∷ d ∷ e ∷ f ∷ g ∷ h ∷ []) p =
-    residue_unique _ _ 0 (4295032833 * (256 * a + b) + 65537 * (256 * c + d) + (256 * e + f)) (omega arith) (λ z. omega arith) (λ z. omega arith)
+    let carried = 4295032833 * (256 * a + b) + 65537 * (256 * c + d) + (256 * e + f) in
+    residue_unique _ _ 0 carried (omega arith) (λ z. omega arith) (λ z. omega arith)
 words_of_64 _ p = absurd (omega arith)
 
 -- a number that stands for the words of some bytes, added to a sum, with the rest to come
@@ -98,7 +101,8 @@ word_sum_zero : (bytes : List ℕ) → word_sum bytes ≡ 0 → All IsZero bytes
 word_sum_zero [] z = All-nil IsZero
 word_sum_zero (x ∷ []) z = All-cons IsZero x [] (omega arith) (All-nil IsZero)
 word_sum_zero (x ∷ y ∷ bytes) z =
-    All-cons IsZero x (y ∷ bytes) (omega arith) (All-cons IsZero y bytes (omega arith) (word_sum_zero bytes (omega arith)))
+    All-cons IsZero x (y ∷ bytes) (omega arith)
+    (All-cons IsZero y bytes (omega arith) (word_sum_zero bytes (omega arith)))
 
 zeros_word_sum : (bytes : List ℕ) → All IsZero bytes → word_sum bytes ≡ 0
 zeros_word_sum [] z = refl
@@ -125,8 +129,9 @@ pub ones_sum-exchange : (a b back : List ℕ) → length a % 2 ≡ 0 → length 
     → ones_sum ((a ++ b) ++ back) ≡ ones_sum ((b ++ a) ++ back)
 unfolding ones_sum
 ones_sum-exchange a b back p q =
+    let fronts = word_sum-append a b p ∙ add_comm (word_sum a) (word_sum b) ∙ sym (word_sum-append b a q) in
     ap residue
-    (word_sum-append (a ++ b) back (even_append a b p q) ∙ ap (λ x. x + word_sum back) (word_sum-append a b p ∙ add_comm (word_sum a) (word_sum b) ∙ sym (word_sum-append b a q))
+    (word_sum-append (a ++ b) back (even_append a b p q) ∙ ap (λ x. x + word_sum back) fronts
     ∙ sym (word_sum-append (b ++ a) back (even_append b a q p)))
 
 -- the words of two parts with one word between them
@@ -137,7 +142,8 @@ word_sum-between front back upper lower p =
     omega (arith, word_sum-append (front ++ word) back (even_append front word p refl), word_sum-append front word p)
 
 pub ones_sum-word : (front back : List ℕ) (upper lower : ℕ) → length front % 2 ≡ 0
-    → ones_sum ((front ++ upper ∷ lower ∷ []) ++ back) ≡ ones_add (ones_sum ((front ++ 0 ∷ 0 ∷ []) ++ back)) (ones_sum (upper ∷ lower ∷ []))
+    → ones_sum ((front ++ upper ∷ lower ∷ []) ++ back)
+    ≡ ones_add (ones_sum ((front ++ 0 ∷ 0 ∷ []) ++ back)) (ones_sum (upper ∷ lower ∷ []))
 unfolding ones_sum
 ones_sum-word front back upper lower p =
     ap residue (omega (arith, word_sum-between front back upper lower p, word_sum-between front back 0 0 p))
@@ -154,7 +160,10 @@ ones_sum-checksum front back p =
     let bound = residue_le sum in
     let filled = word_sum-between front back (checksum / 256 % 256) (checksum % 256) p in
     let empty = word_sum-between front back 0 0 p in
-    let whole : word_sum ((front ++ checksum / 256 % 256 ∷ checksum % 256 ∷ []) ++ back) ≡ sum + checksum = omega (arith, filled, empty) in
-    ap residue whole ∙ residue_unique (sum + checksum) 65535 0 split.0 (omega (arith, split.1)) (λ z. omega (arith, split.1)) (λ z. omega arith)
+    let whole : word_sum ((front ++ checksum / 256 % 256 ∷ checksum % 256 ∷ []) ++ back) ≡ sum + checksum =
+    omega (arith, filled, empty) in
+    ap residue whole
+    ∙ residue_unique (sum + checksum) 65535 0 split.0 (omega (arith, split.1)) (λ z. omega (arith, split.1))
+    (λ z. omega arith)
 
 pub ruleset parts_of_sums = (ones_sum-append, ones_add-none, length-append)

@@ -1,5 +1,6 @@
 -- What a layer's refusal table and its reading have to do with the layer, and that this decides it.
-use Rattle.std.proofs.Common.{◌≡◌, ◌⊎◌, ℕ, Bool, true, false, List, [], ◌∷◌, ◌++◌, length, take, drop, Option, Some, None, refl, sym, ap, subst, ◌∙◌, inl, inr}
+use Rattle.std.proofs.Common.{◌≡◌, ◌⊎◌, ℕ, Bool, true, false, List, [], ◌∷◌, ◌++◌, length, take, drop}
+use Rattle.std.proofs.Common.{Option, Some, None, refl, sym, ap, subst, ◌∙◌, inl, inr}
 use Rattle.std.proofs.lemmas.Option.{none-some}
 use Rattle.std.proofs.lemmas.List.{take_at, drop_at}
 use Rattle.ep_base.specs.Bytes.{AreBytes}
@@ -11,7 +12,8 @@ cut_at len shown bytes = shown (take (len bytes) bytes) (drop (len bytes) bytes)
 
 -- Bytes that no row refuses are what is read from them, and bytes that are the layer are refused by no row and are
 -- nothing else.
-pub record IsReadBy {V E : Type 0} (Is : List ℕ → V → Type 0) (rows : List ℕ → List (Bool × E)) (read : List ℕ → V) : Type 0 where
+pub record IsReadBy {V E : Type 0} (Is : List ℕ → V → Type 0) (rows : List ℕ → List (Bool × E))
+    (read : List ℕ → V) : Type 0 where
   pub reads : (bytes : List ℕ) → AreBytes bytes → first_row (rows bytes) ≡ None → Is bytes (read bytes)
   pub is_read : (bytes : List ℕ) (value : V) → Is bytes value → (first_row (rows bytes) ≡ None) × (value ≡ read bytes)
 
@@ -61,8 +63,10 @@ pub shown_is : {V E : Type 0} {Is : List ℕ → V → Type 0} {rows : List ℕ 
     → bytes ≡ seen ++ left → length seen ≡ len bytes
     → Is bytes (shown seen left) × ((value : V) → Is bytes value → value ≡ shown seen left)
 shown_is {Is = Is} len shown layer bytes seen left fits none parts same =
-    let read = cut_same len shown bytes seen left parts same in
-    (subst (Is bytes) (sym read) (layer.reads bytes fits none), (λ value is. (layer.is_read bytes value is).1 ∙ sym read))
+    let read = cut_same len shown bytes seen left parts same in (
+      subst (Is bytes) (sym read) (layer.reads bytes fits none),
+      λ value is. (layer.is_read bytes value is).1 ∙ sym read,
+    )
 
 -- ---- what all errors of a table have in common
 
@@ -75,7 +79,8 @@ AllErrors Such (row ∷ rows) = Such row.1 × AllErrors Such rows
 pub refusal_is : {E : Type 0} (Such : E → Type 0) (rows : List (Bool × E)) → AllErrors Such rows
     → (error : E) → first_row rows ≡ Some error → Such error
 refusal_is Such [] all error refused = absurd (none-some error refused)
-refusal_is Such ((true, row_error) ∷ rows) all error refused = let same : row_error ≡ error = cc in subst Such same all.0
+refusal_is Such ((true, row_error) ∷ rows) all error refused =
+    let same : row_error ≡ error = cc in subst Such same all.0
 refusal_is Such ((false, row_error) ∷ rows) all error refused = refusal_is Such rows all.1 error refused
 
 -- ---- a table that begins with the rows of another
@@ -119,5 +124,6 @@ first_row-none_as name ((false, error) ∷ rows) none = first_row-none_as name r
 pub first_row-as_some : {E F : Type 0} (name : E → F) (rows : List (Bool × E)) (error : E)
     → first_row rows ≡ Some error → first_row (rows_as name rows) ≡ Some (name error)
 first_row-as_some name [] error some = absurd (none-some error some)
-first_row-as_some name ((true, refusal) ∷ rows) error some = let same : refusal ≡ error = cc in ap (λ e. Some (name e)) same
+first_row-as_some name ((true, refusal) ∷ rows) error some =
+    let same : refusal ≡ error = cc in ap (λ e. Some (name e)) same
 first_row-as_some name ((false, refusal) ∷ rows) error some = first_row-as_some name rows error some

@@ -4,8 +4,8 @@ use Rattle.ep_base.specs.declared.err.len_error.LenError.{LenError}
 use Rattle.ep_base.specs.declared.err.layer.Layer.{Layer}
 use Rattle.ep_base.specs.declared.len_source.LenSource.{LenSource}
 
--- How the bytes of a packet are read: as slices, where each extension header is walked and each length field cuts, or as
--- headers by value, which have room for one extension header of a kind, and leave the cut of UDP to the reader.
+-- How the bytes of a packet are read: as slices, where each extension header is walked and each length field cuts, or
+-- as headers by value, which have room for one extension header of a kind, and leave the cut of UDP to the reader.
 pub data Reading : Type 0 where
   slices : Reading
   headers : Reading

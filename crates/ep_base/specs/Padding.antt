@@ -11,4 +11,5 @@ pub padded_front : (width n : ℕ) (array : List ℕ) → length array ≡ width
     → drop n array ≡ replicate (width - n) 0 → padded width (take n array) ≡ array
 padded_front width n array len within zeros =
     let short : length (take n array) ≡ n = length-take-le n array (omega (arith, len, within)) in
-    ap (λ (k : ℕ). take n array ++ replicate (width - k) 0) short ∙ ap (λ (s : List ℕ). take n array ++ s) (sym zeros) ∙ take-append-drop n array
+    ap (λ (k : ℕ). take n array ++ replicate (width - k) 0) short
+    ∙ ap (λ (s : List ℕ). take n array ++ s) (sym zeros) ∙ take-append-drop n array

@@ -1,6 +1,6 @@
 //! Bytes of which there are enough for a header.
 
-ghost use Rattle.std.specs.Prelude.{◌≡◌, ◌≤◌, length};
+ghost use Rattle.std.specs.Prelude.{◌≤◌, length};
 
 /// A slice of at least `N` bytes: what the slices of headers of a fixed least length are made of.
 #[derive(Clone, Copy, Debug, PartialEq, Eq)]
@@ -8,15 +8,4 @@ pub struct AtLeast<'a, const N: usize> {
     /// The bytes.
     pub slice: &'a [u8],
     pub ghost long: { N ≤ length slice.now },
-}
-
-impl<'a, const N: usize> AtLeast<'a, N> {
-    /// These bytes.
-    #[inline]
-    pub fn new(slice: &'a [u8]) -> AtLeast<'a, N>
-        requires { N ≤ length slice.now }
-        ensures { result.slice.now ≡ slice.now }
-    {
-        AtLeast { slice }
-    }
 }

@@ -1,15 +1,18 @@
 //! Laws of the definitions that contracts cite, each the contract of a function with an empty body.
 
-ghost use Rattle.std.specs.Prelude.{◌≡◌, ◌↔◌, ◌+◌, ◌%◌, ◌^◌, ◌≤◌, ◌<◌, ℕ, List, [], ◌∷◌, ◌++◌, length};
+ghost use Rattle.std.specs.Prelude.{◌≡◌, ◌↔◌, ◌+◌, ◌%◌, ◌^◌, ◌≤◌, ◌<◌, ℕ, List, [], ◌∷◌, ◌++◌, length, IsTrue};
+ghost use Rattle.std.specs.Ordering.{nat_cmp};
 ghost use Rattle.std.specs.Int.{w16, to_be_bytes};
 ghost use Rattle.std.specs.List.{All};
 ghost use Rattle.ep_base.specs.Checksum.{word_sum, ones_sum, ones_add, checksum_of};
+ghost use Rattle.ep_base.specs.Comparisons.{len_source_cmp, ether_payload_cmp, ip_payload_cmp};
 ghost use Rattle.ep_base.specs.declared.ether_type.TheConstants as ether;
 ghost use Rattle.ep_base.specs.declared.ip_number.TheConstants as number;
 
+use crate::err::{Layer, LenError, ValueTooBigError, ValueType};
 use crate::{
-    EtherType, IpFragOffset, IpNumber, Ipv4Dscp, Ipv4Ecn, Ipv6FlowLabel, MacsecAn, MacsecShortLen,
-    VlanId, VlanPcp,
+    EtherPayloadSlice, EtherType, IpFragOffset, IpNumber, IpPayloadSlice, Ipv4Dscp, Ipv4Ecn,
+    Ipv6FlowLabel, LenSource, MacsecAn, MacsecShortLen, VlanId, VlanPcp,
 };
 
 /// A one's complement sum is the sum of the words modulo 65535, in 1 to 65535, and 0 only where all bytes are 0.
@@ -21,7 +24,8 @@ pub fn sum_is_a_residue()
 
 /// The sum of two parts, of which the first ends with a whole word, is the sum of their sums.
 pub fn sum_of_parts()
-    ensures { (front back : List ℕ) → length front % 2 ≡ 0 → ones_sum (front ++ back) ≡ ones_add (ones_sum front) (ones_sum back) }
+    ensures { (front back : List ℕ) → length front % 2 ≡ 0
+        → ones_sum (front ++ back) ≡ ones_add (ones_sum front) (ones_sum back) }
 {}
 
 /// Sums may be added in any order, and the sum of no bytes adds nothing.
@@ -33,13 +37,15 @@ pub fn order_of_sums()
 
 /// Parts that end with a whole word may be exchanged.
 pub fn order_of_parts()
-    ensures { (a b back : List ℕ) → length a % 2 ≡ 0 → length b % 2 ≡ 0 → ones_sum ((a ++ b) ++ back) ≡ ones_sum ((b ++ a) ++ back) }
+    ensures { (a b back : List ℕ) → length a % 2 ≡ 0 → length b % 2 ≡ 0
+        → ones_sum ((a ++ b) ++ back) ≡ ones_sum ((b ++ a) ++ back) }
 {}
 
 /// A word in place of 0, as a checksum field that is filled in, adds itself to the sum.
 pub fn word_in_place_of_zero()
     ensures { (front back : List ℕ) (upper lower : ℕ) → length front % 2 ≡ 0
-        → ones_sum ((front ++ upper ∷ lower ∷ []) ++ back) ≡ ones_add (ones_sum ((front ++ 0 ∷ 0 ∷ []) ++ back)) (ones_sum (upper ∷ lower ∷ [])) }
+        → ones_sum ((front ++ upper ∷ lower ∷ []) ++ back)
+        ≡ ones_add (ones_sum ((front ++ 0 ∷ 0 ∷ []) ++ back)) (ones_sum (upper ∷ lower ∷ [])) }
 {}
 
 /// Bytes whose checksum stands in the place that was 0 have the sum 65535, by which a receiver tests them
@@ -56,7 +62,8 @@ pub fn constants()
     ensures ipv6 { (EtherType.IPV6.0 ≡ 0x86DD) × (ether.IPV6.0 ≡ 0x86DD) }
     ensures vlan { (EtherType.VLAN_TAGGED_FRAME.0 ≡ 0x8100) × (ether.VLAN_TAGGED_FRAME.0 ≡ 0x8100) }
     ensures provider_bridging { (EtherType.PROVIDER_BRIDGING.0 ≡ 0x88A8) × (ether.PROVIDER_BRIDGING.0 ≡ 0x88A8) }
-    ensures double_vlan { (EtherType.VLAN_DOUBLE_TAGGED_FRAME.0 ≡ 0x9100) × (ether.VLAN_DOUBLE_TAGGED_FRAME.0 ≡ 0x9100) }
+    ensures double_vlan { (EtherType.VLAN_DOUBLE_TAGGED_FRAME.0 ≡ 0x9100)
+        × (ether.VLAN_DOUBLE_TAGGED_FRAME.0 ≡ 0x9100) }
     ensures macsec { (EtherType.MACSEC.0 ≡ 0x88E5) × (ether.MACSEC.0 ≡ 0x88E5) }
 
     ensures hop_by_hop { (IpNumber.IPV6_HEADER_HOP_BY_HOP.0 ≡ 0) × (number.IPV6_HEADER_HOP_BY_HOP.0 ≡ 0) }
@@ -67,7 +74,8 @@ pub fn constants()
     ensures fragment { (IpNumber.IPV6_FRAGMENTATION_HEADER.0 ≡ 44) × (number.IPV6_FRAGMENTATION_HEADER.0 ≡ 44) }
     ensures authentication { (IpNumber.AUTHENTICATION_HEADER.0 ≡ 51) × (number.AUTHENTICATION_HEADER.0 ≡ 51) }
     ensures icmpv6 { (IpNumber.IPV6_ICMP.0 ≡ 58) × (number.IPV6_ICMP.0 ≡ 58) }
-    ensures destination_options { (IpNumber.IPV6_DESTINATION_OPTIONS.0 ≡ 60) × (number.IPV6_DESTINATION_OPTIONS.0 ≡ 60) }
+    ensures destination_options { (IpNumber.IPV6_DESTINATION_OPTIONS.0 ≡ 60)
+        × (number.IPV6_DESTINATION_OPTIONS.0 ≡ 60) }
 {}
 
 /// The number 0 of each type of numbers, and the default of those that have one.
@@ -94,3 +102,49 @@ pub fn zeros() -> (
         MacsecAn::ZERO,
     )
 }
+
+/// Values are ordered by what they are made of, as declared: numbers as numbers, length sources as they stand, and
+/// payloads by their fields, where the first that differs decides.
+pub fn comparisons()
+    ensures ether_types { (a b : EtherType) → ⟦<EtherType as Ord>⟧.cmp a b ≡ nat_cmp a.0 b.0 }
+    ensures ip_numbers { (a b : IpNumber) → ⟦<IpNumber as Ord>⟧.cmp a b ≡ nat_cmp a.0 b.0 }
+    ensures len_sources { (a b : LenSource) → ⟦<LenSource as Ord>⟧.cmp a b ≡ len_source_cmp a b }
+    ensures ether_payloads { (a b : EtherPayloadSlice) →
+        ⟦<EtherPayloadSlice<'static> as Ord>⟧.cmp a b ≡ ether_payload_cmp a b }
+    ensures ip_payloads { (a b : IpPayloadSlice) →
+        ⟦<IpPayloadSlice<'static> as Ord>⟧.cmp a b ≡ ip_payload_cmp a b }
+    ensures vlan_ids { (a b : ℕ) → ⟦<VlanId as Ord>⟧.cmp a b ≡ nat_cmp a b }
+    ensures vlan_pcps { (a b : ℕ) → ⟦<VlanPcp as Ord>⟧.cmp a b ≡ nat_cmp a b }
+    ensures fragment_offsets { (a b : ℕ) → ⟦<IpFragOffset as Ord>⟧.cmp a b ≡ nat_cmp a b }
+    ensures dscps { (a b : ℕ) → ⟦<Ipv4Dscp as Ord>⟧.cmp a b ≡ nat_cmp a b }
+    ensures ecns { (a b : ℕ) → ⟦<Ipv4Ecn as Ord>⟧.cmp a b ≡ nat_cmp a b }
+    ensures flow_labels { (a b : ℕ) → ⟦<Ipv6FlowLabel as Ord>⟧.cmp a b ≡ nat_cmp a b }
+    ensures short_lens { (a b : ℕ) → ⟦<MacsecShortLen as Ord>⟧.cmp a b ≡ nat_cmp a b }
+    ensures association_numbers { (a b : ℕ) → ⟦<MacsecAn as Ord>⟧.cmp a b ≡ nat_cmp a b }
+{}
+
+/// Values are equal where all that they are made of is.
+pub fn equalities()
+    ensures ether_types { (a b : EtherType) → IsTrue (⟦<EtherType as PartialEq>⟧.eq a b) ↔ (a ≡ b) }
+    ensures ip_numbers { (a b : IpNumber) → IsTrue (⟦<IpNumber as PartialEq>⟧.eq a b) ↔ (a ≡ b) }
+    ensures len_sources { (a b : LenSource) → IsTrue (⟦<LenSource as PartialEq>⟧.eq a b) ↔ (a ≡ b) }
+    ensures ether_payloads { (a b : EtherPayloadSlice) →
+        IsTrue (⟦<EtherPayloadSlice<'static> as PartialEq>⟧.eq a b) ↔ ((a.ether_type ≡ b.ether_type)
+        × (a.len_source ≡ b.len_source) × (a.payload.now ≡ b.payload.now)) }
+    ensures ip_payloads { (a b : IpPayloadSlice) →
+        IsTrue (⟦<IpPayloadSlice<'static> as PartialEq>⟧.eq a b) ↔ ((a.ip_number ≡ b.ip_number)
+        × (a.fragmented ≡ b.fragmented) × (a.len_source ≡ b.len_source) × (a.payload.now ≡ b.payload.now)) }
+    ensures vlan_ids { (a b : ℕ) → IsTrue (⟦<VlanId as PartialEq>⟧.eq a b) ↔ (a ≡ b) }
+    ensures vlan_pcps { (a b : ℕ) → IsTrue (⟦<VlanPcp as PartialEq>⟧.eq a b) ↔ (a ≡ b) }
+    ensures fragment_offsets { (a b : ℕ) → IsTrue (⟦<IpFragOffset as PartialEq>⟧.eq a b) ↔ (a ≡ b) }
+    ensures dscps { (a b : ℕ) → IsTrue (⟦<Ipv4Dscp as PartialEq>⟧.eq a b) ↔ (a ≡ b) }
+    ensures ecns { (a b : ℕ) → IsTrue (⟦<Ipv4Ecn as PartialEq>⟧.eq a b) ↔ (a ≡ b) }
+    ensures flow_labels { (a b : ℕ) → IsTrue (⟦<Ipv6FlowLabel as PartialEq>⟧.eq a b) ↔ (a ≡ b) }
+    ensures short_lens { (a b : ℕ) → IsTrue (⟦<MacsecShortLen as PartialEq>⟧.eq a b) ↔ (a ≡ b) }
+    ensures association_numbers { (a b : ℕ) → IsTrue (⟦<MacsecAn as PartialEq>⟧.eq a b) ↔ (a ≡ b) }
+    ensures layers { (a b : Layer) → IsTrue (⟦<Layer as PartialEq>⟧.eq a b) ↔ (a ≡ b) }
+    ensures value_types { (a b : ValueType) → IsTrue (⟦<ValueType as PartialEq>⟧.eq a b) ↔ (a ≡ b) }
+    ensures len_errors { (a b : LenError) → IsTrue (⟦<LenError as PartialEq>⟧.eq a b) ↔ (a ≡ b) }
+    ensures value_errors { (a b : ValueTooBigError ℕ) →
+        IsTrue (⟦<ValueTooBigError<u16> as PartialEq>⟧.eq a b) ↔ (a ≡ b) }
+{}

@@ -1,20 +1,20 @@
 -- That a chain of extension headers is decided, and what the two readings have to do with one another.
-use Rattle.std.proofs.Common.{◌≡◌, ◌⊎◌, add-zero, ℕ, zero, suc, ◌+◌, ◌≤◌, ◌<◌, ◌==◌, Bool, true, false, not, List, [], ◌∷◌, ◌++◌, length, refl, sym, ap, subst, ◌∙◌, inl, inr, arith}
+use Rattle.std.proofs.Common.{◌≡◌, ◌⊎◌, add-zero, ℕ, zero, suc, ◌+◌, ◌<◌, ◌==◌, Bool, true, false, not, List, [], ◌∷◌, length, refl, sym, ap, subst, ◌∙◌, inl, inr, arith}
 use Rattle.std.proofs.lemmas.Grind.{common_steps}
 use Rattle.std.proofs.lemmas.Bool.{cases_eq}
 use Rattle.ep_base.specs.Bytes.{AreBytes}
 use Rattle.ep_base.specs.Layer.{Reading, slices, headers}
 use Rattle.ep_base.specs.Tables.{IsDecided}
-use Rattle.ep_base.proofs.DecidedLemmas.{IsImage, IsBoth, RefusesEither, same_image, decided_as, decided_by, decided_then, refused_as}
+use Rattle.ep_base.proofs.DecidedLemmas.{IsBoth, RefusesEither, same_image, decided_as, decided_by, decided_then, refused_as}
 use Rattle.ep_base.proofs.TableLemmas.{first_row-as_some}
 use Rattle.ep_base.specs.declared.err.ip_auth.HeaderSliceError.{HeaderSliceError as AuthSliceError}
 use Rattle.ep_base.specs.declared.err.ipv6_exts.HeaderError.TheVariants as content
 use Rattle.ep_base.specs.declared.err.ipv6_exts.HeaderSliceError.{HeaderSliceError}
 use Rattle.ep_base.specs.declared.err.ipv6_exts.HeaderSliceError.TheVariants as header_error
 use Rattle.ep_ext.specs.declared.ip_auth_header.IpAuthHeader.{IpAuthHeader}
-use Rattle.ep_ext.specs.ExtensionParts.{ExtensionPart, authentication, part_number, part_next, part_len, IsExtensionPart, RefusesExtensionPart, auth_refusal}
+use Rattle.ep_ext.specs.ExtensionParts.{ExtensionPart, authentication, part_next, part_len, RefusesExtensionPart, auth_refusal}
 use Rattle.ep_ext.specs.IpAuth.{IsIpAuth, RefusesIpAuth, ip_auth_rows}
-use Rattle.ep_ext.specs.Chains.{IpVersion, ipv4, ipv6, ExtensionChain, chain_of, Demand, ends, takes, misplaced, demand_of, is_taken, is_first, is_ipv6_extension, IsChainBehind, IsExtensionChain, RefusesChainBehind, RefusesExtensionChain, NoKindTwice, further_in}
+use Rattle.ep_ext.specs.Chains.{IpVersion, ipv4, ipv6, ExtensionChain, chain_of, Demand, ends, takes, misplaced, demand_of, is_taken, IsChainBehind, IsExtensionChain, RefusesChainBehind, RefusesExtensionChain, NoKindTwice, further_in}
 use Rattle.ep_ext.proofs.PartLemmas.{HeaderLaws, ReadPart, IsReadPart, IsKind, is_hop_by_hop, is_routing, is_fragment, is_authentication, is_destination, part_decided, part_lens, part_behind_fits, part_numbered}
 
 -- bytes of a number are a chain behind the headers that were taken

@@ -1,4 +1,6 @@
+pub mod ChainBytes
 pub mod ChainLemmas
+pub mod Comparisons
 pub mod FragmentHeaderLemmas
 pub mod HeaderLaws
 pub mod IpAuthLemmas
@@ -7,5 +9,7 @@ pub mod PartLemmas
 pub mod RawExtensionLemmas
 pub mod ReadLemmas
 pub mod ShownLemmas
+pub mod ValueLaws
 pub mod ValueLemmas
+pub mod WalkLaws
 pub mod WalkLemmas

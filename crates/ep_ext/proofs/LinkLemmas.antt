@@ -1,11 +1,11 @@
 -- That linked headers are walked, all of them, and that written headers are a chain.
-use Rattle.std.proofs.Common.{◌≡◌, ◌⊎◌, ℕ, ◌+◌, ◌<◌, ◌==◌, ◌&&◌, ◌^◌, Bool, true, false, not, if◌then◌else◌, List, [], ◌∷◌, ◌++◌, Option, Some, None, refl, sym, ap, subst, ◌∙◌, inl, inr, arith, append_assoc}
+use Rattle.std.proofs.Common.{◌≡◌, ℕ, ◌==◌, ◌&&◌, Bool, true, false, not, if◌then◌else◌, List, [], ◌∷◌, ◌++◌, Option, Some, None, refl, sym, ap, subst, ◌∙◌, arith, append_assoc}
 use Rattle.std.specs.Option.{option_map, is_some}
-use Rattle.std.specs.Prelude.{Result, Ok}
-use Rattle.std.proofs.lemmas.Bool.{cases_Bool, false≢true, true≢false}
+use Rattle.std.specs.Prelude.{Ok}
+use Rattle.std.proofs.lemmas.Bool.{true≢false}
 use Rattle.std.proofs.lemmas.Option.{none-some}
 use Rattle.std.proofs.lemmas.Grind.{common_steps}
-use Rattle.ep_base.specs.Layer.{Reading, headers}
+use Rattle.ep_base.specs.Layer.{headers}
 use Rattle.ep_base.specs.declared.ip_number.IpNumber.{IpNumber}
 use Rattle.ep_ext.specs.declared.ip_auth_header.IpAuthHeader.{IpAuthHeader}
 use Rattle.ep_ext.specs.declared.ipv6_fragment_header.Ipv6FragmentHeader.{Ipv6FragmentHeader}
@@ -17,9 +17,9 @@ use Rattle.ep_ext.specs.declared.ipv6_exts_walk.Marks.{Marks}
 use Rattle.ep_ext.specs.IpAuth.{ip_auth_bytes}
 use Rattle.ep_ext.specs.FragmentHeader.{fragment_header_bytes}
 use Rattle.ep_ext.specs.ExtensionParts.{ExtensionPart, hop_by_hop, destination_options, routing, fragment, authentication, part_number, part_next, part_bytes, FitsPart, IsExtensionPart}
-use Rattle.ep_ext.specs.Chains.{ipv4, ipv6, is_first, is_taken, is_ipv6_extension, parts_bytes, chain_of, demand_of, takes, FitParts, IsChainBehind, IsExtensionChain}
+use Rattle.ep_ext.specs.Chains.{ipv4, ipv6, is_first, is_ipv6_extension, parts_bytes, chain_of, FitParts, IsChainBehind, IsExtensionChain}
 use Rattle.ep_ext.specs.Ipv4Chains.{ipv4_first, ipv4_linked, ipv4_parts, ipv4_walk}
-use Rattle.ep_ext.specs.Ipv6Chains.{no_ipv6_extensions, extensions_of, with_part, with_parts, has_kind, final_by, routing_header, header_for, IsWalkBehind, is_left, missing_number, WalksAll, ipv6_first, ipv6_linked, ipv6_parts}
+use Rattle.ep_ext.specs.Ipv6Chains.{no_ipv6_extensions, extensions_of, with_part, with_parts, final_by, routing_header, header_for, IsWalkBehind, missing_number, WalksAll, ipv6_first, ipv6_linked, ipv6_parts}
 use Rattle.ep_ext.specs.Walks.{no_marks, marked, header_at, missing_at}
 use Rattle.ep_ext.proofs.ChainLemmas.{ends_at_once, one_authentication}
 use Rattle.ep_ext.proofs.ValueLemmas.{headers_take, headers_end, first_none_taken}

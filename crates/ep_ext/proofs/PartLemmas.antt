@@ -1,5 +1,5 @@
 -- An extension header of any kind: that bytes of a kind's number are one or are refused, and how long it is.
-use Rattle.std.proofs.Common.{◌≡◌, ◌⊎◌, ℕ, ◌+◌, ◌≤◌, ◌<◌, Bool, true, false, List, [], ◌∷◌, ◌++◌, length, Some, None, refl, sym, ap, subst, ◌∙◌, inl, inr, arith, length-append}
+use Rattle.std.proofs.Common.{◌≡◌, ℕ, ◌+◌, ◌≤◌, Bool, true, false, List, [], ◌∷◌, ◌++◌, length, Some, refl, ap, subst, ◌∙◌, arith, length-append}
 use Rattle.std.proofs.lemmas.Option.{none-some}
 use Rattle.std.proofs.lemmas.Grind.{common_steps}
 use Rattle.ep_base.specs.Bytes.{AreBytes}
@@ -7,17 +7,14 @@ use Rattle.ep_base.specs.Tables.{IsDecided, Refuses, first_row, rows_as}
 use Rattle.ep_base.proofs.BytesLemmas.{AreBytes-back}
 use Rattle.ep_base.proofs.DecidedLemmas.{IsImage, decided_as}
 use Rattle.ep_base.proofs.TableLemmas.{first_row-as_some}
-use Rattle.ep_base.specs.declared.err.ip_auth.HeaderSliceError.{HeaderSliceError as AuthSliceError}
-use Rattle.ep_base.specs.declared.err.len_error.LenError.{LenError}
-use Rattle.ep_base.specs.declared.err.ipv6_exts.HeaderSliceError.{HeaderSliceError}
 use Rattle.ep_base.specs.declared.err.ipv6_exts.HeaderSliceError.TheVariants as header_error
 use Rattle.ep_ext.specs.declared.ip_auth_header.IpAuthHeader.{IpAuthHeader}
 use Rattle.ep_ext.specs.declared.ipv6_fragment_header.Ipv6FragmentHeader.{Ipv6FragmentHeader}
 use Rattle.ep_ext.specs.declared.ipv6_raw_ext_header.Ipv6RawExtHeader.{Ipv6RawExtHeader}
-use Rattle.ep_ext.specs.IpAuth.{IsIpAuth, RefusesIpAuth, EncodesIpAuth, ip_auth_rows, ip_auth_bytes_with, ip_auth_len}
-use Rattle.ep_ext.specs.FragmentHeader.{IsFragmentHeader, RefusesFragmentHeader, EncodesFragmentHeader, fragment_header_rows, fragment_header_bytes_with}
+use Rattle.ep_ext.specs.IpAuth.{IsIpAuth, RefusesIpAuth, ip_auth_rows, ip_auth_bytes_with, ip_auth_len}
+use Rattle.ep_ext.specs.FragmentHeader.{IsFragmentHeader, RefusesFragmentHeader, fragment_header_rows}
 use Rattle.ep_ext.specs.RawExtension.{IsRawExtension, RefusesRawExtension, raw_extension_rows, raw_extension_bytes, raw_extension_len}
-use Rattle.ep_ext.specs.ExtensionParts.{ExtensionPart, hop_by_hop, destination_options, routing, fragment, authentication, part_number, part_next, part_len, IsExtensionPart, RefusesExtensionPart, auth_refusal}
+use Rattle.ep_ext.specs.ExtensionParts.{ExtensionPart, hop_by_hop, destination_options, routing, fragment, authentication, part_number, part_len, IsExtensionPart, RefusesExtensionPart, auth_refusal}
 
 -- the laws of the headers
 pub record HeaderLaws : Type 0 where

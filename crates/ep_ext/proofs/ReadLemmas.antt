@@ -1,16 +1,16 @@
 -- How far a chain was read: its first headers, and what a chain or a refusal behind them means for the whole.
-use Rattle.std.proofs.Common.{◌≡◌, ◌⊎◌, ℕ, zero, suc, ◌+◌, ◌-◌, ◌≤◌, ◌<◌, ◌==◌, Bool, true, false, not, ◌||◌, List, [], ◌∷◌, ◌++◌, length, take, refl, sym, ap, subst, ◌∙◌, inl, inr, arith, append_assoc, length-append, add-zero}
+use Rattle.std.proofs.Common.{◌≡◌, ℕ, ◌+◌, ◌-◌, ◌≤◌, ◌<◌, ◌==◌, Bool, true, false, ◌||◌, List, [], ◌∷◌, ◌++◌, length, take, refl, sym, ap, subst, ◌∙◌, inl, inr, arith, append_assoc, length-append}
 use Rattle.std.proofs.lemmas.Grind.{common_steps}
 use Rattle.std.proofs.lemmas.Bool.{eq-eqb, ne_eqb}
 use Rattle.std.proofs.lemmas.List.{append-nil, take_at}
 use Rattle.ep_ext.specs.ShownChains.{shown_parts}
 use Rattle.ep_ext.proofs.ShownLemmas.{front_shown}
-use Rattle.ep_base.specs.Layer.{Reading, slices, headers}
+use Rattle.ep_base.specs.Layer.{Reading, slices}
 use Rattle.ep_base.specs.declared.err.ipv6_exts.HeaderError.TheVariants as content
 use Rattle.ep_base.specs.declared.err.ipv6_exts.HeaderSliceError.{HeaderSliceError}
 use Rattle.ep_base.specs.declared.err.ipv6_exts.HeaderSliceError.TheVariants as header_error
 use Rattle.ep_ext.specs.ExtensionParts.{ExtensionPart, part_next, part_len, part_fragments, IsExtensionPart, RefusesExtensionPart}
-use Rattle.ep_ext.specs.Chains.{IpVersion, ipv6, ExtensionChain, chain_of, ends, takes, misplaced, demand_of, is_first, is_ipv6_extension, chain_fragments, IsChainBehind, IsExtensionChain, RefusesChainBehind, RefusesExtensionChain, further_in}
+use Rattle.ep_ext.specs.Chains.{IpVersion, ipv6, chain_of, ends, takes, misplaced, demand_of, is_first, is_ipv6_extension, chain_fragments, IsChainBehind, IsExtensionChain, RefusesChainBehind, RefusesExtensionChain, further_in}
 use Rattle.ep_ext.proofs.PartLemmas.{part_cut}
 
 -- Bytes of a number begin with these headers, and then comes the rest of this number.

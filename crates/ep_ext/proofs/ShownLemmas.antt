@@ -1,8 +1,7 @@
 -- That the headers which bytes show are the headers of the chain that they are.
-use Rattle.std.proofs.Common.{◌≡◌, ◌⊎◌, ℕ, zero, suc, ◌+◌, ◌-◌, ◌≤◌, ◌<◌, ◌==◌, Bool, true, false, if◌then◌else◌, List, [], ◌∷◌, ◌++◌, get_or, length, take, drop, Option, Some, None, is_none, refl, sym, ap, subst, ◌∙◌, inl, inr, arith, append_assoc, length-append, length-drop}
+use Rattle.std.proofs.Common.{◌≡◌, ℕ, zero, suc, ◌+◌, ◌≤◌, true, false, if◌then◌else◌, List, [], ◌∷◌, ◌++◌, get_or, length, take, drop, Option, None, is_none, refl, sym, ap, subst, ◌∙◌, inl, inr, arith, append_assoc, length-append, length-drop}
 use Rattle.std.proofs.lemmas.Bool.{cases_Bool, and_left, and_right}
 use Rattle.std.proofs.lemmas.Grind.{common_steps}
-use Rattle.std.proofs.lemmas.List.{take_at, drop_at}
 use Rattle.ep_base.proofs.BytesLemmas.{same_parts}
 use Rattle.ep_base.specs.Layer.{slices}
 use Rattle.ep_base.specs.Tables.{first_row, rows_as}
@@ -12,17 +11,17 @@ use Rattle.ep_base.specs.declared.err.ipv6_exts.HeaderSliceError.TheVariants as 
 use Rattle.ep_ext.specs.declared.ip_auth_header.IpAuthHeader.{IpAuthHeader}
 use Rattle.ep_ext.specs.declared.ipv6_fragment_header.Ipv6FragmentHeader.{Ipv6FragmentHeader}
 use Rattle.ep_ext.specs.declared.ipv6_raw_ext_header.Ipv6RawExtHeader.{Ipv6RawExtHeader}
-use Rattle.ep_ext.specs.IpAuth.{IsIpAuth, ip_auth_rows, ip_auth_len_of}
+use Rattle.ep_ext.specs.IpAuth.{IsIpAuth, ip_auth_rows}
 use Rattle.ep_ext.specs.FragmentHeader.{IsFragmentHeader, fragment_header_rows}
-use Rattle.ep_ext.specs.RawExtension.{IsRawExtension, raw_extension_rows, raw_extension_len_of, raw_extension_bytes}
-use Rattle.ep_ext.specs.ExtensionParts.{ExtensionPart, hop_by_hop, destination_options, routing, fragment, authentication, part_next, part_len, IsExtensionPart, RefusesExtensionPart, extension_part_rows, auth_refusal}
-use Rattle.ep_ext.specs.Chains.{ipv6, chain_of, ends, takes, demand_of, is_ipv6_extension, IsChainBehind, IsExtensionChain, IpVersion}
+use Rattle.ep_ext.specs.RawExtension.{IsRawExtension, raw_extension_rows, raw_extension_bytes}
+use Rattle.ep_ext.specs.ExtensionParts.{ExtensionPart, hop_by_hop, destination_options, routing, fragment, authentication, part_next, part_len, IsExtensionPart, RefusesExtensionPart, auth_refusal}
+use Rattle.ep_ext.specs.Chains.{ipv6, chain_of, ends, demand_of, is_ipv6_extension, IsChainBehind, IsExtensionChain, IpVersion}
 use Rattle.ep_base.specs.Layer.{Reading}
 use Rattle.ep_ext.specs.ShownChains.{part_of, part_len_of, begins_part, shown_parts_in, shown_parts}
 use Rattle.ep_ext.proofs.IpAuthLemmas.{ip_auth_is_read}
 use Rattle.ep_ext.proofs.FragmentHeaderLemmas.{fragment_header_is_read}
 use Rattle.ep_ext.proofs.RawExtensionLemmas.{raw_extension_is_read}
-use Rattle.ep_ext.proofs.PartLemmas.{part_cut, part_lens}
+use Rattle.ep_ext.proofs.PartLemmas.{part_lens}
 
 -- what is known of a header that bytes begin with
 pub record ShowsFirst (number : ℕ) (bytes : List ℕ) (part : ExtensionPart) (behind : List ℕ) : Type 0 where

@@ -1,10 +1,10 @@
 -- What a value of extension headers has to do with the headers that were taken into it.
-use Rattle.std.proofs.Common.{◌≡◌, ◌⊎◌, ℕ, ◌+◌, ◌-◌, ◌≤◌, ◌<◌, ◌==◌, Bool, true, false, not, List, [], ◌∷◌, ◌++◌, length, Option, Some, None, refl, sym, ap, subst, ◌∙◌, inl, inr, arith, length-append}
+use Rattle.std.proofs.Common.{◌≡◌, ℕ, ◌+◌, ◌-◌, ◌≤◌, ◌<◌, true, false, List, [], ◌∷◌, ◌++◌, length, Option, Some, None, refl, sym, ap, subst, ◌∙◌, arith, length-append}
 use Rattle.std.proofs.lemmas.Bool.{false≢true}
 use Rattle.std.proofs.lemmas.Grind.{common_steps}
 use Rattle.std.proofs.lemmas.List.{append-nil}
 use Rattle.std.specs.Option.{option_map_or, option_map}
-use Rattle.ep_base.specs.Layer.{Reading, slices, headers}
+use Rattle.ep_base.specs.Layer.{headers}
 use Rattle.ep_base.specs.declared.err.ipv6_exts.HeaderError.TheVariants as content
 use Rattle.ep_base.specs.declared.err.ipv6_exts.HeaderSliceError.{HeaderSliceError}
 use Rattle.ep_base.specs.declared.err.ipv6_exts.HeaderSliceError.TheVariants as header_error
@@ -17,7 +17,7 @@ use Rattle.ep_ext.specs.ExtensionParts.{ExtensionPart, hop_by_hop, destination_o
 use Rattle.ep_ext.specs.IpAuth.{ip_auth_bytes, ip_auth_len}
 use Rattle.ep_ext.specs.FragmentHeader.{fragment_header_bytes}
 use Rattle.ep_ext.specs.RawExtension.{raw_extension_bytes, raw_extension_len}
-use Rattle.ep_ext.specs.Chains.{ipv6, ExtensionChain, chain_of, ends, takes, misplaced, demand_of, is_first, is_taken, is_ipv6_extension, parts_bytes, IsExtensionChain, RefusesExtensionChain, further_in}
+use Rattle.ep_ext.specs.Chains.{ipv6, chain_of, ends, takes, demand_of, is_first, is_taken, is_ipv6_extension, parts_bytes, IsExtensionChain, RefusesExtensionChain, further_in}
 use Rattle.ep_ext.specs.Ipv6Chains.{no_ipv6_extensions, extensions_of, with_part, with_parts, with_destination, has_kind, ipv6_parts, routing_header, final_by}
 use Rattle.ep_ext.proofs.PartLemmas.{part_numbered, auth_len}
 use Rattle.ep_ext.proofs.ReadLemmas.{IsRead, read_nothing, read_part, read_all, read_refused, read_misplaced, read_as, misplaced_0, at_start, past_start, front_len}
@@ -30,7 +30,7 @@ pub none_taken : HasTaken [] no_ipv6_extensions
 none_taken number = grind (arith, common_steps)
 
 -- the value of these fields
-abbrev value_of : Option Ipv6RawExtHeader → Option Ipv6RawExtHeader → Option Ipv6RoutingExtensions
+abbrev pub value_of : Option Ipv6RawExtHeader → Option Ipv6RawExtHeader → Option Ipv6RoutingExtensions
     → Option Ipv6FragmentHeader → Option IpAuthHeader → Ipv6Extensions
 value_of hop destination behind fragmenting auth = record {
   hop_by_hop_options = hop;

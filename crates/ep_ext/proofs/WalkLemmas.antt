@@ -1,13 +1,11 @@
 -- A walk along the extension headers of IPv6, and the marks that it leaves.
-use Rattle.std.proofs.Common.{◌≡◌, ◌⊎◌, ℕ, suc, ◌+◌, ◌<◌, ◌==◌, ◌&&◌, Bool, true, false, not, if◌then◌else◌, List, [], ◌∷◌, ◌++◌, Option, Some, None, refl, sym, ap, subst, ◌∙◌, inl, inr, arith, append_assoc}
+use Rattle.std.proofs.Common.{◌≡◌, ℕ, ◌<◌, ◌&&◌, Bool, true, false, not, if◌then◌else◌, List, [], ◌∷◌, ◌++◌, Option, Some, None, refl, sym, ap, subst, ◌∙◌, inl, inr, arith, append_assoc}
 use Rattle.std.specs.Option.{option_map, is_some}
 use Rattle.std.specs.Prelude.{Result, Ok, Err, OnOk, is_err}
-use Rattle.std.proofs.lemmas.Bool.{cases_eq, cases_Bool, false≢true, true≢false, ne_eqb}
+use Rattle.std.proofs.lemmas.Bool.{cases_eq, false≢true, true≢false}
 use Rattle.std.proofs.lemmas.Option.{none-some}
 use Rattle.std.proofs.lemmas.Grind.{common_steps}
 use Rattle.std.proofs.lemmas.List.{append-nil}
-use Rattle.ep_ext.specs.declared.ip_auth_header.IpAuthHeader.{IpAuthHeader}
-use Rattle.ep_ext.specs.declared.ipv6_fragment_header.Ipv6FragmentHeader.{Ipv6FragmentHeader}
 use Rattle.ep_ext.specs.declared.ipv6_raw_ext_header.Ipv6RawExtHeader.{Ipv6RawExtHeader}
 use Rattle.ep_ext.specs.declared.ipv6_exts.Ipv6Extensions.{Ipv6Extensions}
 use Rattle.ep_ext.specs.declared.ipv6_routing_exts.Ipv6RoutingExtensions.{Ipv6RoutingExtensions}
@@ -15,7 +13,7 @@ use Rattle.ep_ext.specs.declared.ipv6_exts_walk.Marks.{Marks}
 use Rattle.ep_base.specs.declared.err.ipv6_exts.ExtsWalkError.{ExtsWalkError}
 use Rattle.ep_ext.specs.ExtensionParts.{ExtensionPart, hop_by_hop, destination_options, routing, fragment, authentication, part_number, part_next, part_bytes, FitsPart}
 use Rattle.ep_ext.specs.Chains.{is_first, is_taken, parts_bytes, FitParts}
-use Rattle.ep_ext.specs.Ipv6Chains.{no_ipv6_extensions, extensions_of, with_part, with_destination, has_destination, has_kind, final_by, routing_header, header_for, IsWalkBehind, is_left, missing_number, walk_refusal, WalksAll, RefusesWalk}
+use Rattle.ep_ext.specs.Ipv6Chains.{no_ipv6_extensions, extensions_of, with_part, with_destination, has_destination, final_by, header_for, IsWalkBehind, missing_number, walk_refusal, WalksAll, RefusesWalk}
 use Rattle.ep_ext.specs.Walks.{no_marks, marked, marks_left, unmarked, header_at, missing_at}
 use Rattle.ep_ext.proofs.ValueLemmas.{HasTaken, none_taken, taken_more, with_parts-append}
 
@@ -320,7 +318,7 @@ destination_fewer marks false is free =
     let before : unmarked marks.destination_options ≡ 1 = ap unmarked free in
     omega (arith, before)
 
-fewer_after : (taken : List ℕ) (walked : Ipv6Extensions) (marks : Marks) (part : ExtensionPart)
+pub fewer_after : (taken : List ℕ) (walked : Ipv6Extensions) (marks : Marks) (part : ExtensionPart)
     → IsMarked taken walked marks → is_taken taken (part_number part) ≡ false
     → marks_left (marked marks part) < marks_left marks
 fewer_after taken walked marks (hop_by_hop header) m free =

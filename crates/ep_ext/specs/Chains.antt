@@ -5,7 +5,7 @@ use Rattle.ep_base.specs.Layer.{Reading, slices, headers}
 use Rattle.ep_base.specs.declared.err.ipv6_exts.HeaderError.TheVariants as content
 use Rattle.ep_base.specs.declared.err.ipv6_exts.HeaderSliceError.{HeaderSliceError}
 use Rattle.ep_base.specs.declared.err.ipv6_exts.HeaderSliceError.TheVariants as header_error
-use Rattle.ep_ext.specs.ExtensionParts.{ExtensionPart, part_number, part_next, part_len, part_bytes, part_fragments, FitsPart, IsExtensionPart, RefusesExtensionPart}
+use Rattle.ep_ext.specs.ExtensionParts.{ExtensionPart, part_number, part_next, part_len, part_bytes, part_fragments, FitsPart, EncodesPart, IsExtensionPart, RefusesExtensionPart}
 
 -- the version of IP whose header stands before the chain
 pub data IpVersion : Type 0 where
@@ -93,6 +93,12 @@ chain_fragments (part ∷ parts) = part_fragments part || chain_fragments parts
 abbrev pub parts_bytes : List ExtensionPart → List ℕ
 parts_bytes [] = []
 parts_bytes (part ∷ parts) = part_bytes part ++ parts_bytes parts
+
+-- the bytes are those of these headers, one after another, whatever the reserved bits
+abbrev pub EncodesParts : List ℕ → List ExtensionPart → Type 0
+EncodesParts bytes [] = bytes ≡ []
+EncodesParts bytes (part ∷ parts) =
+    (front behind : List ℕ) × EncodesPart front part × EncodesParts behind parts × (bytes ≡ front ++ behind)
 
 -- each field of the headers fits its place
 abbrev pub FitParts : List ExtensionPart → Type 0

@@ -10,8 +10,8 @@ use Rattle.ep_base.specs.declared.err.ipv6_exts.HeaderSliceError.TheVariants as 
 use Rattle.ep_ext.specs.declared.ip_auth_header.IpAuthHeader.{IpAuthHeader}
 use Rattle.ep_ext.specs.declared.ipv6_fragment_header.Ipv6FragmentHeader.{Ipv6FragmentHeader}
 use Rattle.ep_ext.specs.declared.ipv6_raw_ext_header.Ipv6RawExtHeader.{Ipv6RawExtHeader}
-use Rattle.ep_ext.specs.IpAuth.{IsIpAuth, FitsIpAuth, ip_auth_rows, ip_auth_bytes, ip_auth_len}
-use Rattle.ep_ext.specs.FragmentHeader.{IsFragmentHeader, FitsFragmentHeader, fragment_header_rows, fragment_header_bytes, is_ipv6_fragment}
+use Rattle.ep_ext.specs.IpAuth.{IsIpAuth, FitsIpAuth, EncodesIpAuth, ip_auth_rows, ip_auth_bytes, ip_auth_len}
+use Rattle.ep_ext.specs.FragmentHeader.{IsFragmentHeader, FitsFragmentHeader, EncodesFragmentHeader, fragment_header_rows, fragment_header_bytes, is_ipv6_fragment}
 use Rattle.ep_ext.specs.RawExtension.{IsRawExtension, FitsRawExtension, raw_extension_rows, raw_extension_bytes, raw_extension_len}
 
 -- an extension header, by its kind
@@ -66,6 +66,14 @@ FitsPart (destination_options header) = FitsRawExtension header
 FitsPart (routing header) = FitsRawExtension header
 FitsPart (fragment header) = FitsFragmentHeader header
 FitsPart (authentication header) = FitsIpAuth header
+
+-- the bytes are the header's, whatever the reserved bits
+abbrev pub EncodesPart : List ℕ → ExtensionPart → Type 0
+EncodesPart bytes (hop_by_hop header) = FitsRawExtension header × (bytes ≡ raw_extension_bytes header)
+EncodesPart bytes (destination_options header) = FitsRawExtension header × (bytes ≡ raw_extension_bytes header)
+EncodesPart bytes (routing header) = FitsRawExtension header × (bytes ≡ raw_extension_bytes header)
+EncodesPart bytes (fragment header) = EncodesFragmentHeader bytes header
+EncodesPart bytes (authentication header) = EncodesIpAuth bytes header
 
 -- whether it says that the packet carries one fragment of a longer payload
 abbrev pub part_fragments : ExtensionPart → Bool

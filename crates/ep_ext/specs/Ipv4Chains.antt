@@ -1,5 +1,5 @@
 -- The extension headers of IPv4 by value and in slices: an authentication header, or none (RFC 4302, 3.1.1).
-use Rattle.std.specs.Prelude.{◌≡◌, ℕ, ◌==◌, if◌then◌else◌, List, [], ◌∷◌, Option, Some, None, Result, Ok, Err, option_map}
+use Rattle.std.specs.Prelude.{ℕ, ◌==◌, if◌then◌else◌, List, [], Option, Some, None, Result, Ok, Err, option_map}
 use Rattle.ep_base.specs.IpNumbers.{authentication_number}
 use Rattle.ep_base.specs.declared.err.ipv4_exts.ExtsWalkError.{ExtsWalkError}
 use Rattle.ep_base.specs.declared.err.ipv4_exts.ExtsWalkError.TheVariants as walk_error

@@ -5,7 +5,6 @@ use Rattle.ep_base.specs.IpNumbers.{hop_by_hop_number, routing_number, fragment_
 use Rattle.ep_base.specs.declared.err.ipv6_exts.ExtsWalkError.{ExtsWalkError}
 use Rattle.ep_base.specs.declared.err.ipv6_exts.ExtsWalkError.TheVariants as walk_error
 use Rattle.ep_base.specs.declared.ip_number.IpNumber.{IpNumber}
-use Rattle.ep_ext.specs.declared.ip_auth_header.IpAuthHeader.{IpAuthHeader}
 use Rattle.ep_ext.specs.declared.ipv6_fragment_header.Ipv6FragmentHeader.{Ipv6FragmentHeader}
 use Rattle.ep_ext.specs.declared.ipv6_raw_ext_header.Ipv6RawExtHeader.{Ipv6RawExtHeader}
 use Rattle.ep_ext.specs.declared.ipv6_exts.Ipv6Extensions.{Ipv6Extensions}
@@ -194,6 +193,10 @@ walk_refusal missing last =
 abbrev pub WalksAll : Ipv6Extensions → ℕ → List ExtensionPart → ℕ → Type 0
 WalksAll extensions first parts last =
     IsWalkBehind extensions [] first parts last × (missing_number extensions (extensions_of parts) ≡ None)
+
+-- the headers of a walk, and the number in which it ends
+abbrev pub IsWalk : Ipv6Extensions → ℕ → List ExtensionPart × ℕ → Type 0
+IsWalk extensions first walk = WalksAll extensions first walk.0 walk.1
 
 -- the numbers do not lead from the first one through all headers
 abbrev pub RefusesWalk : Ipv6Extensions → ℕ → ExtsWalkError → Type 0

@@ -1,5 +1,5 @@
 -- What slices of extension headers of IPv6 show.
-use Rattle.std.specs.Prelude.{ℕ, List}
+use Rattle.std.specs.Prelude.{◌≡◌, ℕ, List, [], ◌∷◌, ◌++◌, Option, Some, None}
 use Rattle.ep_ext.specs.declared.ipv6_ext_slice.Ipv6ExtensionSlice.{Ipv6ExtensionSlice}
 use Rattle.ep_ext.specs.declared.ipv6_ext_slice.Ipv6ExtensionSlice.TheVariants as slice
 use Rattle.ep_ext.specs.declared.ipv6_exts_slice.Ipv6ExtensionsSlice.{Ipv6ExtensionsSlice}
@@ -30,10 +30,36 @@ extension_slice_bytes (slice.Authentication header) = ip_auth_slice_bytes header
 abbrev pub ipv6_slice_bytes : Ipv6ExtensionsSlice → List ℕ
 ipv6_slice_bytes extensions = extensions.shown.slice.now
 
+-- the number of the first header, or of what follows where there are none
+abbrev pub ipv6_slice_number : Ipv6ExtensionsSlice → ℕ
+ipv6_slice_number extensions = extensions.shown.first.0
+
 -- all headers
 abbrev pub ipv6_slice_parts : Ipv6ExtensionsSlice → List ExtensionPart
-ipv6_slice_parts extensions = shown_parts extensions.shown.first.0 extensions.shown.slice.now
+ipv6_slice_parts extensions = shown_parts (ipv6_slice_number extensions) (ipv6_slice_bytes extensions)
 
--- the headers that an iterator has still to give
+-- the number of the next header, or of what stands behind the last one
+abbrev pub number_left : Ipv6ExtensionSliceIter → ℕ
+number_left iterator = iterator.number.0
+
+-- the bytes that an iterator has still to show
+abbrev pub bytes_left : Ipv6ExtensionSliceIter → List ℕ
+bytes_left iterator = iterator.rest.now
+
+-- the headers that it has still to give
 abbrev pub parts_left : Ipv6ExtensionSliceIter → List ExtensionPart
-parts_left iterator = shown_parts iterator.number.0 iterator.rest.now
+parts_left iterator = shown_parts (number_left iterator) (bytes_left iterator)
+
+-- an iterator begins with all headers, and with their bytes
+pub record BeginsIteration (extensions : Ipv6ExtensionsSlice) (iterator : Ipv6ExtensionSliceIter) : Type 0 where
+  pub parts : parts_left iterator ≡ ipv6_slice_parts extensions
+  pub bytes : bytes_left iterator ≡ ipv6_slice_bytes extensions
+
+-- A call gives the first of the headers, which shows the bytes at the front, and keeps the others and the bytes behind
+-- it, or there are no headers left, and nothing changes.
+abbrev pub YieldsExtension : Ipv6ExtensionSliceIter → Option Ipv6ExtensionSlice → Ipv6ExtensionSliceIter → Type 0
+YieldsExtension iterator None after =
+    (parts_left iterator ≡ []) × (parts_left after ≡ []) × (bytes_left after ≡ bytes_left iterator)
+YieldsExtension iterator (Some header) after =
+    (parts_left iterator ≡ extension_slice_part header ∷ parts_left after)
+    × (bytes_left iterator ≡ extension_slice_bytes header ++ bytes_left after)

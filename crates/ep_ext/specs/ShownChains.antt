@@ -1,5 +1,5 @@
 -- The extension headers that bytes show, one after another (RFC 8200, 4).
-use Rattle.std.specs.Prelude.{◌≡◌, ℕ, zero, suc, ◌==◌, ◌&&◌, Bool, if◌then◌else◌, List, [], ◌∷◌, length, take, drop, slice_index, is_none}
+use Rattle.std.specs.Prelude.{ℕ, zero, suc, ◌==◌, ◌&&◌, Bool, if◌then◌else◌, List, [], ◌∷◌, length, take, drop, slice_index, is_none}
 use Rattle.ep_base.specs.IpNumbers.{hop_by_hop_number, routing_number, fragment_number, authentication_number}
 use Rattle.ep_base.specs.Tables.{first_row}
 use Rattle.ep_ext.specs.IpAuth.{ip_auth_of, ip_auth_len_of}

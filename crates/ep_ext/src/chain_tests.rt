@@ -2,9 +2,9 @@
 
 use crate::err::ip_auth;
 use crate::{
-    IpAuthHeader, IpNumber, Ipv4Extensions, Ipv4ExtensionsSlice, Ipv6ExtensionSlice,
-    Ipv6Extensions, Ipv6ExtensionsSlice, Ipv6RawExtHeader, Ipv6RoutingExtensions, Layer, LenError,
-    LenSource,
+    IpAuthHeader, IpFragOffset, IpNumber, Ipv4Extensions, Ipv4ExtensionsSlice, Ipv6ExtensionSlice,
+    Ipv6Extensions, Ipv6ExtensionsSlice, Ipv6FragmentHeader, Ipv6RawExtHeader,
+    Ipv6RoutingExtensions, Layer, LenError, LenSource,
 };
 use ep_base::err::ipv4_exts;
 use ep_base::err::ipv6_exts::{ExtsWalkError, HeaderError, HeaderSliceError, HeaderWriteError};
@@ -92,6 +92,7 @@ fn each_kind_in_both_readings(rt: HostRuntime) -> Result<(), Fail> {
 fn each_header_cut(rt: HostRuntime) {
     for (start, size, layer) in PLACES {
         for len in start..start + size {
+            assert!(rt; len <= EVERY_KIND.len());
             let expected = HeaderSliceError::Len(LenError {
                 required_len: size,
                 len: len - start,
@@ -99,7 +100,6 @@ fn each_header_cut(rt: HostRuntime) {
                 layer: copy_of(&layer),
                 layer_start_offset: start,
             });
-            assert!(rt; len <= EVERY_KIND.len());
             let bytes = &EVERY_KIND[..len];
             let number = IpNumber::IPV6_HEADER_HOP_BY_HOP;
             let refused = Ipv6ExtensionsSlice::from_slice(number, bytes).err();
@@ -196,6 +196,65 @@ fn linked_headers_are_read_again(rt: HostRuntime) -> Result<(), Fail> {
     assert_eq!(rt; none.header_len(), 0);
     none.write(&mut written, IpNumber::UDP)?;
     assert_eq!(rt; written.len(), 52);
+    Ok(())
+}
+
+/// A header of the greatest length.
+fn greatest() -> Result<Ipv6RawExtHeader, Fail> {
+    Ok(Ipv6RawExtHeader::new_raw(IpNumber::UDP, &[0xab; 2046])?)
+}
+
+#[test]
+fn greatest_headers_are_read_again(rt: HostRuntime) -> Result<(), Fail> {
+    let mut extensions = Ipv6Extensions {
+        hop_by_hop_options: Some(greatest()?),
+        destination_options: Some(greatest()?),
+        routing: Some(Ipv6RoutingExtensions {
+            routing: greatest()?,
+            final_destination_options: Some(greatest()?),
+        }),
+        fragment: Some(Ipv6FragmentHeader {
+            next_header: IpNumber::UDP,
+            fragment_offset: IpFragOffset::try_new(8191)?,
+            more_fragments: true,
+            identification: 1,
+        }),
+        auth: Some(IpAuthHeader::new(IpNumber::UDP, 5, 6, &[0xcd; 1016])?),
+    };
+    let first = extensions.set_next_headers(IpNumber::TCP);
+    let mut written = vec![in rt.alloc();]?;
+    extensions.write(&mut written, first)?;
+    assert_eq!(rt; written.len(), 9228);
+    let (read, last, rest) = Ipv6Extensions::from_slice(first, &written)?;
+    assert_eq!(rt; last, IpNumber::TCP);
+    assert_eq!(rt; rest.len(), 0);
+    assert_eq!(rt; read, extensions);
+
+    let values = Ipv4Extensions {
+        auth: extensions.auth,
+    };
+    values.write(&mut written, IpNumber::AUTHENTICATION_HEADER)?;
+    assert_eq!(rt; written.len(), 9228 + 1028);
+    Ok(())
+}
+
+#[test]
+fn clones(rt: HostRuntime) -> Result<(), Fail> {
+    let extensions = full()?;
+    assert_eq!(rt; extensions.clone()?, extensions);
+    let behind = extensions.routing.ok_or("no routing header")?;
+    assert_eq!(rt; behind.clone()?, behind);
+    let number = IpNumber::IPV6_HEADER_HOP_BY_HOP;
+    let (slices, _, _) = Ipv6ExtensionsSlice::from_slice(number, EVERY_KIND)?;
+    let mut iterator = slices.into_iter();
+    assert_eq!(rt; iterator.clone()?, iterator);
+    let header = iterator.next().ok_or("no header")?;
+    assert_eq!(rt; header.clone()?, header);
+    let number = IpNumber::AUTHENTICATION_HEADER;
+    let (values, _, _) = Ipv4Extensions::from_slice(number, &EVERY_KIND[40..])?;
+    assert_eq!(rt; values.clone()?, values);
+    let (slices, _, _) = Ipv4ExtensionsSlice::from_slice(number, &EVERY_KIND[40..])?;
+    assert_eq!(rt; slices.clone()?, slices);
     Ok(())
 }
 

@@ -9,7 +9,8 @@ use crate::ipv6_exts_slice_iter::Ipv6ExtensionSliceIter;
 use ep_base::err::ipv6_exts::{HeaderError, HeaderSliceError};
 use ep_base::{IpNumber, ip_number};
 
-/// The bytes of extension headers, the number of the first, and whether one of them is a fragment's.
+/// The bytes of extension headers, the number of the first, and whether a fragment header among them says that the
+/// packet carries one fragment of a longer payload.
 #[derive(Clone, Copy, Debug, PartialEq, Eq)]
 pub(crate) struct ShownExtensions<'a> {
     pub(crate) first: IpNumber,
@@ -85,14 +86,13 @@ impl<'a> Ipv6ExtensionsSlice<'a> {
 }
 
 impl<'a> IntoIterator for Ipv6ExtensionsSlice<'a> {
-    ghost use Rattle.std.specs.Prelude.{◌≡◌};
-    ghost use Rattle.ep_ext.specs.Ipv6Slices.{ipv6_slice_parts, parts_left};
+    ghost use Rattle.ep_ext.specs.Ipv6Slices.{BeginsIteration};
 
     type Item = Ipv6ExtensionSlice<'a>;
 
     type IntoIter = Ipv6ExtensionSliceIter<'a>;
 
-    ghost into_iter_gives = { λ extensions iterator. parts_left iterator ≡ ipv6_slice_parts extensions };
+    ghost into_iter_gives = { BeginsIteration };
 
     #[inline]
     fn into_iter(self) -> Ipv6ExtensionSliceIter<'a> {

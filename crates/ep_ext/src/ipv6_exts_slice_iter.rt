@@ -13,12 +13,12 @@ pub struct Ipv6ExtensionSliceIter<'a> {
 }
 
 impl<'a> Iterator for Ipv6ExtensionSliceIter<'a> {
-    ghost use Rattle.std.specs.Iterator.{YieldsFirstBy, item_count};
-    ghost use Rattle.ep_ext.specs.Ipv6Slices.{extension_slice_part, parts_left};
+    ghost use Rattle.std.specs.Iterator.{item_count};
+    ghost use Rattle.ep_ext.specs.Ipv6Slices.{YieldsExtension, parts_left};
 
     type Item = Ipv6ExtensionSlice<'a>;
 
-    ghost next_gives = { YieldsFirstBy extension_slice_part parts_left };
+    ghost next_gives = { YieldsExtension };
 
     ghost remaining = { item_count parts_left };
 

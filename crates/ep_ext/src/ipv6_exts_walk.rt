@@ -225,7 +225,9 @@ impl Ipv6Extensions {
     }
 }
 
-/// Why a walk that ended at this number, and left the header of the other, is none.
+/// The refusal of a walk that ended at the number `last` and did not come to the header of the number `missing_ext`:
+/// hop by hop options that it came to behind other headers are not at the start, and any other header that it left is
+/// not referenced.
 fn walk_error(missing_ext: IpNumber, last: IpNumber) -> ExtsWalkError
     ensures { result ≡ walk_refusal missing_ext.0 last.0 }
 {

@@ -1,13 +1,29 @@
 //! What holds of every list of bytes, each law the contract of a function that does nothing.
 
-ghost use Rattle.std.specs.Prelude.{◌≡◌, ℕ, List};
+ghost use Rattle.std.specs.Prelude.{◌≡◌, ◌↔◌, ℕ, List, IsTrue, option_map};
 ghost use Rattle.ep_base.specs.Bytes.{AreBytes};
 ghost use Rattle.ep_base.specs.Tables.{IsDecided};
 ghost use Rattle.ep_ext.specs.FragmentHeader.{IsFragmentHeader, RefusesFragmentHeader};
-ghost use Rattle.ep_ext.specs.IpAuth.{IsIpAuth, RefusesIpAuth};
-ghost use Rattle.ep_ext.specs.RawExtension.{IsRawExtension, RefusesRawExtension};
+ghost use Rattle.ep_ext.specs.IpAuth.{FitsIpAuth, IsIpAuth, RefusesIpAuth};
+ghost use Rattle.ep_ext.specs.IpAuthSlices.{ip_auth_slice_bytes};
+ghost use Rattle.ep_ext.specs.RawExtension.{FitsRawExtension, IsRawExtension, RefusesRawExtension};
+ghost use Rattle.ep_ext.specs.RawExtensionSlices.{raw_extension_slice_bytes};
+ghost use Rattle.ep_ext.specs.FragmentHeaderSlices.{fragment_slice_bytes};
+ghost use Rattle.ep_ext.specs.ExtensionParts.{part_number};
+ghost use Rattle.ep_ext.specs.Ipv6Slices.{bytes_left, extension_slice_bytes, extension_slice_part, ipv6_slice_bytes, ipv6_slice_number, number_left};
+ghost use Rattle.ep_ext.specs.Chains.{FitParts};
+ghost use Rattle.ep_ext.specs.Ipv4Chains.{ipv4_parts};
+ghost use Rattle.ep_ext.specs.Ipv6Chains.{ipv6_parts};
 
-use crate::{IpAuthHeader, Ipv6FragmentHeader, Ipv6RawExtHeader};
+pub mod chains;
+
+use crate::err::ip_auth::IcvLenError;
+use crate::err::ipv6_exts::ExtPayloadLenError;
+use crate::{
+    IpAuthHeader, IpAuthHeaderSlice, Ipv4Extensions, Ipv4ExtensionsSlice, Ipv6ExtensionSlice,
+    Ipv6ExtensionSliceIter, Ipv6Extensions, Ipv6ExtensionsSlice, Ipv6FragmentHeader,
+    Ipv6FragmentHeaderSlice, Ipv6RawExtHeader, Ipv6RawExtHeaderSlice,
+};
 
 /// Bytes begin with an authentication header, of one value and with one rest behind it, or are refused with one error,
 /// and never both.
@@ -33,4 +49,43 @@ pub fn constants()
     ensures raw_extension { (Ipv6RawExtHeader.MIN_LEN ≡ 8) × (Ipv6RawExtHeader.MAX_LEN ≡ 2048) }
     ensures raw_payload { (Ipv6RawExtHeader.MIN_PAYLOAD_LEN ≡ 6) × (Ipv6RawExtHeader.MAX_PAYLOAD_LEN ≡ 2046) }
     ensures fragment_header { Ipv6FragmentHeader.LEN ≡ 8 }
+{}
+
+/// Headers, and values of extension headers, are equal where each field is, check values and payloads by their bytes.
+/// Slices are equal where they show the same bytes of the same kinds, and errors where they are the same.
+pub fn comparisons()
+    ensures icv_errors { (a b : IcvLenError) → IsTrue (⟦<IcvLenError as PartialEq>⟧.eq a b) ↔ (a ≡ b) }
+    ensures payload_errors { (a b : ExtPayloadLenError) →
+        IsTrue (⟦<ExtPayloadLenError as PartialEq>⟧.eq a b) ↔ (a ≡ b) }
+    ensures fragment_header { (a b : Ipv6FragmentHeader) →
+        IsTrue (⟦<Ipv6FragmentHeader as PartialEq>⟧.eq a b) ↔ (a ≡ b) }
+    ensures ip_auth { (a b : IpAuthHeader) → FitsIpAuth a → FitsIpAuth b →
+        IsTrue (⟦<IpAuthHeader as PartialEq>⟧.eq a b) ↔ (a ≡ b) }
+    ensures raw_extension { (a b : Ipv6RawExtHeader) → FitsRawExtension a → FitsRawExtension b →
+        IsTrue (⟦<Ipv6RawExtHeader as PartialEq>⟧.eq a b) ↔ (a ≡ b) }
+    ensures ip_auth_slice { (a b : IpAuthHeaderSlice) → IsTrue (⟦<IpAuthHeaderSlice<'static> as PartialEq>⟧.eq a b)
+        ↔ (ip_auth_slice_bytes a ≡ ip_auth_slice_bytes b) }
+    ensures raw_extension_slice { (a b : Ipv6RawExtHeaderSlice) →
+        IsTrue (⟦<Ipv6RawExtHeaderSlice<'static> as PartialEq>⟧.eq a b)
+        ↔ (raw_extension_slice_bytes a ≡ raw_extension_slice_bytes b) }
+    ensures fragment_slice { (a b : Ipv6FragmentHeaderSlice) →
+        IsTrue (⟦<Ipv6FragmentHeaderSlice<'static> as PartialEq>⟧.eq a b)
+        ↔ (fragment_slice_bytes a ≡ fragment_slice_bytes b) }
+    ensures ipv4_slices { (a b : Ipv4ExtensionsSlice) →
+        IsTrue (⟦<Ipv4ExtensionsSlice<'static> as PartialEq>⟧.eq a b)
+        ↔ (option_map ip_auth_slice_bytes a.auth ≡ option_map ip_auth_slice_bytes b.auth) }
+    ensures ipv6_slice { (a b : Ipv6ExtensionSlice) →
+        IsTrue (⟦<Ipv6ExtensionSlice<'static> as PartialEq>⟧.eq a b)
+        ↔ ((part_number (extension_slice_part a) ≡ part_number (extension_slice_part b))
+        × (extension_slice_bytes a ≡ extension_slice_bytes b)) }
+    ensures ipv6_slices { (a b : Ipv6ExtensionsSlice) →
+        IsTrue (⟦<Ipv6ExtensionsSlice<'static> as PartialEq>⟧.eq a b)
+        ↔ ((ipv6_slice_number a ≡ ipv6_slice_number b) × (ipv6_slice_bytes a ≡ ipv6_slice_bytes b)) }
+    ensures iterators { (a b : Ipv6ExtensionSliceIter) →
+        IsTrue (⟦<Ipv6ExtensionSliceIter<'static> as PartialEq>⟧.eq a b)
+        ↔ ((number_left a ≡ number_left b) × (bytes_left a ≡ bytes_left b)) }
+    ensures ipv4 { (a b : Ipv4Extensions) → FitParts (ipv4_parts a) → FitParts (ipv4_parts b) →
+        IsTrue (⟦<Ipv4Extensions as PartialEq>⟧.eq a b) ↔ (a ≡ b) }
+    ensures ipv6 { (a b : Ipv6Extensions) → FitParts (ipv6_parts a) → FitParts (ipv6_parts b) →
+        IsTrue (⟦<Ipv6Extensions as PartialEq>⟧.eq a b) ↔ (a ≡ b) }
 {}

@@ -1,7 +1,6 @@
 //! The extension headers of IP: the authentication header of IPv4 and IPv6, and the extension headers of IPv6.
 #![tactic(auto)]
 
-pub mod chain_laws;
 #[cfg(test)]
 mod chain_tests;
 pub mod err;

@@ -1,25 +1,20 @@
 -- The bytes of an IPv4 header and of a packet, and what is read from them.
 use Rattle.std.proofs.Common.{◌≡◌, ℕ, zero, suc, ◌+◌, ◌-◌, ◌*◌, ◌/◌, ◌%◌, ◌^◌, ◌<◌, ◌≤◌}
-use Rattle.std.proofs.Common.{Option, Some, None, slice_index}
+use Rattle.std.proofs.Common.{None, slice_index}
 use Rattle.std.proofs.Common.{List, [], ◌∷◌, ◌++◌, length, take, drop, refl, sym, ap, subst, ◌∙◌, arith}
 use Rattle.std.proofs.lemmas.Grind.{common_steps}
 use Rattle.std.proofs.lemmas.List.{length-take, length-drop, length-append, take-append-drop, append_assoc, append-nil}
 use Rattle.std.proofs.lemmas.List.{take_at, drop_at, drop_all, drop-drop}
 use Rattle.ep_base.specs.Bytes.{AreBytes, word_at, bit}
-use Rattle.ep_base.specs.Layer.{len_error}
-use Rattle.ep_base.specs.Tables.{Parts, parts_of, Refuses, first_row}
-use Rattle.ep_base.specs.declared.err.layer.Layer.TheVariants as layer
-use Rattle.ep_base.specs.declared.len_source.LenSource.TheVariants as source
-use Rattle.ep_base.specs.declared.err.ipv4.SliceError.{SliceError}
-use Rattle.ep_base.specs.declared.err.ipv4.SliceError.TheVariants as slice_error
+use Rattle.ep_base.specs.Tables.{Parts, parts_of, first_row}
 use Rattle.ep_base.proofs.BytesLemmas.{elements, drop-elements, cells_4, AreBytes-take, AreBytes-drop}
 use Rattle.ep_base.proofs.BytesLemmas.{bit_le, bit_read, bit_of_read}
 use Rattle.ep_base.proofs.TableLemmas.{IsReadBy}
 use Rattle.ep_ip.specs.declared.ipv4_header.Ipv4Header.{Ipv4Header}
 use Rattle.ep_ip.specs.Ip.{version_of}
-use Rattle.ep_ip.specs.Ipv4.{FitsIpv4, EncodesIpv4, IsIpv4Header, IsIpv4}
+use Rattle.ep_ip.specs.Ipv4.{FitsIpv4, EncodesIpv4, IsIpv4Header, IsIpv4Packet}
 use Rattle.ep_ip.specs.Ipv4.{ipv4_flags_with, ipv4_bytes_with, ipv4_header_of, ihl_of, four_at}
-use Rattle.ep_ip.specs.Ipv4.{ipv4_header_rows, ipv4_rows}
+use Rattle.ep_ip.specs.Ipv4.{ipv4_header_rows, ipv4_packet_rows}
 use Rattle.ep_ip.proofs.CutLemmas.{cut_parts}
 
 -- the bytes begin with a whole header
@@ -246,22 +241,23 @@ ipv4_header_is_read = record { reads = header_reads; is_read = header_is_read }
 -- ---- packets
 
 -- what no row refuses has these numbers of bytes
-rows_none : (bytes : List ℕ) → first_row (ipv4_rows bytes) ≡ None
+rows_none : (bytes : List ℕ) → first_row (ipv4_packet_rows bytes) ≡ None
     → (first_row (ipv4_header_rows bytes) ≡ None) × (4 * ihl_of bytes ≤ word_at bytes 2)
     × (word_at bytes 2 ≤ length bytes)
 rows_none bytes none = (grind (arith, common_steps), grind (arith, common_steps), grind (arith, common_steps))
 
 none_rows : (bytes : List ℕ) → Begins bytes → 4 * ihl_of bytes ≤ word_at bytes 2 → word_at bytes 2 ≤ length bytes
-    → first_row (ipv4_rows bytes) ≡ None
+    → first_row (ipv4_packet_rows bytes) ≡ None
 none_rows bytes begins enough within = grind (arith, common_steps)
 
-abbrev pub ipv4_read : List ℕ → Parts Ipv4Header
-ipv4_read bytes =
+abbrev pub ipv4_packet_read : List ℕ → Parts Ipv4Header
+ipv4_packet_read bytes =
     let n = 4 * ihl_of bytes in
     let t = word_at bytes 2 in
     parts_of (ipv4_header_of bytes) (take (t - n) (drop n bytes)) (drop t bytes)
 
-reads : (bytes : List ℕ) → AreBytes bytes → first_row (ipv4_rows bytes) ≡ None → IsIpv4 bytes (ipv4_read bytes)
+reads : (bytes : List ℕ) → AreBytes bytes → first_row (ipv4_packet_rows bytes) ≡ None
+    → IsIpv4Packet bytes (ipv4_packet_read bytes)
 unfolding header_reads
 reads bytes fits none =
     let stands = rows_none bytes none in
@@ -277,8 +273,8 @@ reads bytes fits none =
       cut = omega (arith, size, stands.1, stands.2, length-take (t - n) (drop n bytes), length-drop n bytes);
     }
 
-is_read : (bytes : List ℕ) (packet : Parts Ipv4Header) → IsIpv4 bytes packet
-    → (first_row (ipv4_rows bytes) ≡ None) × (packet ≡ ipv4_read bytes)
+is_read : (bytes : List ℕ) (packet : Parts Ipv4Header) → IsIpv4Packet bytes packet
+    → (first_row (ipv4_packet_rows bytes) ≡ None) × (packet ≡ ipv4_packet_read bytes)
 is_read bytes packet is =
     let e = is.encoded in
     let payload = packet.payload in
@@ -300,8 +296,8 @@ is_read bytes packet is =
       λ i. parts_of (front.same i) (sym shown i) (sym rest i),
     )
 
-pub ipv4_is_read : IsReadBy IsIpv4 ipv4_rows ipv4_read
-ipv4_is_read = record { reads = reads; is_read = is_read }
+pub ipv4_packet_is_read : IsReadBy IsIpv4Packet ipv4_packet_rows ipv4_packet_read
+ipv4_packet_is_read = record { reads = reads; is_read = is_read }
 
 -- ---- what a slice shows
 
@@ -312,49 +308,6 @@ header_there bytes e rest a parts =
 
 -- a packet, and what its total length left
 pub packet_there : (bytes e payload left : List ℕ) → IsWhole e → bytes ≡ (e ++ payload) ++ left
-    → word_at e 2 ≡ length e + length payload → IsIpv4 bytes (parts_of (ipv4_header_of e) payload left)
+    → word_at e 2 ≡ length e + length payload → IsIpv4Packet bytes (parts_of (ipv4_header_of e) payload left)
 packet_there bytes e payload left a parts cut =
     record { encoded = e; encodes = whole_encodes e a; parts = parts; cut = cut }
-
--- ---- what the packet's rows refuse, where a header shows the lengths
-
-short_row : (bytes : List ℕ) → Begins bytes → word_at bytes 2 < 4 * ihl_of bytes
-    → Refuses (ipv4_rows bytes)
-    (slice_error.Len (len_error (4 * ihl_of bytes) (word_at bytes 2) source.Ipv4HeaderTotalLen layer.Ipv4Packet))
-short_row bytes begins short = grind (arith, common_steps)
-
-cut_row : (bytes : List ℕ) → Begins bytes → 4 * ihl_of bytes ≤ word_at bytes 2 → length bytes < word_at bytes 2
-    → Refuses (ipv4_rows bytes)
-    (slice_error.Len (len_error (word_at bytes 2) (length bytes) source.Slice layer.Ipv4Packet))
-cut_row bytes begins enough missing = grind (arith, common_steps)
-
--- the lengths are those of the bytes that the header begins
-record HasLens (bytes : List ℕ) (n t : ℕ) : Type 0 where
-  pub begins : Begins bytes
-  pub size : 4 * ihl_of bytes ≡ n
-  pub total : word_at bytes 2 ≡ t
-
-shown_lens : (bytes e rest : List ℕ) (n t : ℕ) → IsWhole e → bytes ≡ e ++ rest → n ≡ length e → t ≡ word_at e 2
-    → HasLens bytes n t
-shown_lens bytes e rest n t a parts len total =
-    let front = front_read bytes e rest (ipv4_header_of e) (whole_encodes e a) parts in
-    let same : word_at e 2 ≡ word_at bytes 2 = ap (λ (h : Ipv4Header). h.total_len) front.same in
-    record { begins = front.begins; size = sym front.size ∙ sym len; total = sym same ∙ sym total }
-
-pub total_len_short : (bytes e rest : List ℕ) (n t : ℕ) → IsWhole e → bytes ≡ e ++ rest → n ≡ length e → t ≡ word_at e 2
-    → t < n → Refuses (ipv4_rows bytes) (slice_error.Len (len_error n t source.Ipv4HeaderTotalLen layer.Ipv4Packet))
-total_len_short bytes e rest n t a parts len total short =
-    let at = shown_lens bytes e rest n t a parts len total in
-    let refusal : ℕ → ℕ → Option SliceError = λ n t.
-    Some (slice_error.Len (len_error n t source.Ipv4HeaderTotalLen layer.Ipv4Packet)) in
-    short_row bytes at.begins (omega (arith, at.size, at.total, short)) ∙ (λ i. refusal (at.size i) (at.total i))
-
-pub packet_cut_off : (bytes e rest : List ℕ) (n t : ℕ) → IsWhole e → bytes ≡ e ++ rest → n ≡ length e → t ≡ word_at e 2
-    → n ≤ t → length bytes < t
-    → Refuses (ipv4_rows bytes) (slice_error.Len (len_error t (length bytes) source.Slice layer.Ipv4Packet))
-packet_cut_off bytes e rest n t a parts len total enough missing =
-    let at = shown_lens bytes e rest n t a parts len total in
-    let refusal : ℕ → Option SliceError = λ t.
-    Some (slice_error.Len (len_error t (length bytes) source.Slice layer.Ipv4Packet)) in
-    let whole : 4 * ihl_of bytes ≤ word_at bytes 2 = omega (arith, at.size, at.total, enough) in
-    cut_row bytes at.begins whole (omega (arith, at.total, missing)) ∙ (λ i. refusal (at.total i))

@@ -229,6 +229,31 @@ header_there bytes e rest fits version whole parts =
     header_bytes e fits long version ∙ ap (λ (s : List ℕ). encoded ++ s) none ∙ append-nil encoded in
     record { fits = header_fits e fits long; parts = parts ∙ ap (λ (s : List ℕ). s ++ rest) same }
 
+-- how the payload length of a header cuts the bytes behind it
+cut_by_length : (field t : ℕ) (bytes : List ℕ) → 40 ≤ t → t ≤ length bytes
+    → ((0 < field) × (t ≡ 40 + field)) ⊎ ((field ≡ 0) × (t ≡ length bytes))
+    → IsCut field (take (t - 40) (drop 40 bytes)) (drop t bytes)
+cut_by_length field t bytes enough within (inl some) =
+    inl (some.0, omega (arith, some.1, enough, within, length-take (t - 40) (drop 40 bytes), length-drop 40 bytes))
+cut_by_length field t bytes enough within (inr none) = inr (none.0, drop_all t bytes (omega (arith, none.1)))
+
+-- a packet of t bytes, and what its payload length left
+pub packet_there : (bytes e rest : List ℕ) (t : ℕ) → bytes ≡ e ++ rest → length e ≡ 40
+    → IsIpv6Header bytes (ipv6_header_of e, rest) → 40 ≤ t → t ≤ length bytes
+    → ((0 < word_at e 4) × (t ≡ 40 + word_at e 4)) ⊎ ((word_at e 4 ≡ 0) × (t ≡ length bytes))
+    → (left : List ℕ) × (bytes ≡ (e ++ take (t - 40) (drop 40 bytes)) ++ left)
+    × IsIpv6Packet bytes (parts_of (ipv6_header_of e) (take (t - 40) (drop 40 bytes)) left)
+packet_there bytes e rest t parts whole header enough within field =
+    let h = ipv6_header_of e in (
+      drop t bytes,
+      cut_parts bytes e rest 40 t parts (sym whole) enough,
+      record {
+        fits = header.fits;
+        parts = cut_parts bytes (ipv6_bytes h) rest 40 t header.parts (sym (bytes_len h header.fits)) enough;
+        cut = cut_by_length (word_at e 4) t bytes enough within field;
+      },
+    )
+
 -- a front has the version of all bytes
 pub front_version : (n : ℕ) (bytes : List ℕ) → 0 < n → version_of (take n bytes) ≡ version_of bytes
 front_version n bytes some = ap (λ (k : ℕ). k / 16) (get_or-take n bytes 0 0 some)

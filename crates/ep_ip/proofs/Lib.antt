@@ -1,3 +1,7 @@
 pub mod CutLemmas
+pub mod ExtensionLaws
 pub mod Ipv4Lemmas
 pub mod Ipv6Lemmas
+pub mod PacketLemmas
+pub mod IpBytesLemmas
+pub mod RefusalPlaces

@@ -5,7 +5,6 @@ use Rattle.std.specs.Prelude.{List, [], ◌∷◌, ◌++◌, length, take, drop,
 use Rattle.std.specs.Int.{w16, to_be_bytes}
 use Rattle.ep_base.specs.Bytes.{AreBytes, word_at, bit}
 use Rattle.ep_base.specs.Checksum.{checksum_of}
-use Rattle.ep_base.specs.IpPayload.{IpPayload}
 use Rattle.ep_base.specs.Layer.{len_error}
 use Rattle.ep_base.specs.Tables.{Parts, Refuses, rows_as}
 use Rattle.ep_base.specs.declared.err.layer.Layer.TheVariants as layer
@@ -121,10 +120,10 @@ ipv4_header_of bytes = record {
   options = take (4 * ihl_of bytes - 20) (drop 20 bytes);
 }
 
--- ---- packets
+-- ---- packets, up to the authentication header, which belongs to the payload here
 
 -- The bytes are a packet and what its total length leaves behind it, as padding.
-pub record IsIpv4 (bytes : List ℕ) (packet : Parts Ipv4Header) : Type 0 where
+pub record IsIpv4Packet (bytes : List ℕ) (packet : Parts Ipv4Header) : Type 0 where
   pub encoded : List ℕ
   pub encodes : EncodesIpv4 encoded packet.header
   pub parts : bytes ≡ (encoded ++ packet.payload) ++ packet.left
@@ -136,8 +135,8 @@ of_header_error (header_error.Len error) = slice_error.Len error
 of_header_error (header_error.Content error) = slice_error.Header error
 
 -- why bytes begin with no packet
-abbrev pub ipv4_rows : List ℕ → List (Bool × SliceError)
-ipv4_rows bytes =
+abbrev pub ipv4_packet_rows : List ℕ → List (Bool × SliceError)
+ipv4_packet_rows bytes =
     let len = length bytes in
     let header_len = 4 * ihl_of bytes in
     let total_len = word_at bytes 2 in
@@ -147,21 +146,12 @@ ipv4_rows bytes =
     ∷ (nat_lt len total_len, slice_error.Len (len_error total_len len source.Slice layer.Ipv4Packet))
     ∷ []
 
-abbrev pub RefusesIpv4 : List ℕ → SliceError → Type 0
-RefusesIpv4 bytes = Refuses (ipv4_rows bytes)
+abbrev pub RefusesIpv4Packet : List ℕ → SliceError → Type 0
+RefusesIpv4Packet bytes = Refuses (ipv4_packet_rows bytes)
 
 -- whether a packet carries one fragment of a longer payload
 abbrev pub is_ipv4_fragment : Ipv4Header → Bool
 is_ipv4_fragment header = header.more_fragments || nat_lt 0 header.fragment_offset
-
--- the payload of a packet with this header and these bytes behind it
-abbrev pub ipv4_payload : Ipv4Header → List ℕ → IpPayload
-ipv4_payload header bytes = record {
-  number = header.protocol.0;
-  fragmented = is_ipv4_fragment header;
-  source = source.Ipv4HeaderTotalLen;
-  bytes = bytes;
-}
 
 -- ---- headers that are made
 

@@ -1,9 +1,12 @@
 -- What slices of IPv4 show.
 use Rattle.std.specs.Prelude.{ℕ, List, ◌++◌}
-use Rattle.ep_base.specs.Tables.{Parts, parts_of}
+use Rattle.ep_base.specs.IpPayload.{IpPayload, ip_payload_of}
+use Rattle.ep_ext.specs.ExtensionParts.{ExtensionPart}
+use Rattle.ep_ext.specs.Ipv4Chains.{ipv4_slice_parts as extension_parts, ipv4_slice_bytes as extension_bytes}
 use Rattle.ep_ip.specs.declared.ipv4_header.Ipv4Header.{Ipv4Header}
 use Rattle.ep_ip.specs.declared.ipv4_header_slice.Ipv4HeaderSlice.{Ipv4HeaderSlice}
 use Rattle.ep_ip.specs.declared.ipv4_slice.Ipv4Slice.{Ipv4Slice}
+use Rattle.ep_ip.specs.IpPackets.{IpPacket}
 use Rattle.ep_ip.specs.Ipv4.{ipv4_header_of}
 
 -- the bytes of a header
@@ -18,14 +21,27 @@ ipv4_header_slice_header slice = ipv4_header_of (ipv4_header_slice_bytes slice)
 abbrev pub ipv4_slice_header : Ipv4Slice → Ipv4Header
 ipv4_slice_header slice = ipv4_header_slice_header slice.header
 
--- the bytes of a packet's payload
-abbrev pub ipv4_slice_payload : Ipv4Slice → List ℕ
-ipv4_slice_payload slice = slice.payload.payload.now
+-- its extension headers
+abbrev pub ipv4_slice_extensions : Ipv4Slice → List ExtensionPart
+ipv4_slice_extensions slice = extension_parts slice.extensions
 
--- the bytes of a packet
+-- its payload
+abbrev pub ipv4_slice_payload : Ipv4Slice → IpPayload
+ipv4_slice_payload slice = ip_payload_of slice.payload
+
+-- the bytes behind its header: those of its extension headers, and those of its payload
+abbrev pub ipv4_slice_content : Ipv4Slice → List ℕ
+ipv4_slice_content slice = extension_bytes slice.extensions ++ (ipv4_slice_payload slice).bytes
+
+-- its bytes
 abbrev pub ipv4_slice_bytes : Ipv4Slice → List ℕ
-ipv4_slice_bytes slice = ipv4_header_slice_bytes slice.header ++ ipv4_slice_payload slice
+ipv4_slice_bytes slice = ipv4_header_slice_bytes slice.header ++ ipv4_slice_content slice
 
--- header and payload, and what the cut left
-abbrev pub ipv4_slice_parts : Ipv4Slice → List ℕ → Parts Ipv4Header
-ipv4_slice_parts slice left = parts_of (ipv4_slice_header slice) (ipv4_slice_payload slice) left
+-- the packet, and what its total length left
+abbrev pub ipv4_slice_packet : Ipv4Slice → List ℕ → IpPacket Ipv4Header
+ipv4_slice_packet slice left = record {
+  header = ipv4_slice_header slice;
+  extensions = ipv4_slice_extensions slice;
+  payload = ipv4_slice_payload slice;
+  left = left;
+}

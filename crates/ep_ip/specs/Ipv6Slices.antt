@@ -1,7 +1,12 @@
 -- What slices of IPv6 show.
-use Rattle.std.specs.Prelude.{ℕ, List}
+use Rattle.std.specs.Prelude.{ℕ, List, ◌++◌}
+use Rattle.ep_base.specs.IpPayload.{IpPayload, ip_payload_of}
+use Rattle.ep_ext.specs.ExtensionParts.{ExtensionPart}
+use Rattle.ep_ext.specs.Ipv6Slices.{ipv6_slice_parts as extension_parts, ipv6_slice_bytes as extension_bytes}
 use Rattle.ep_ip.specs.declared.ipv6_header.Ipv6Header.{Ipv6Header}
 use Rattle.ep_ip.specs.declared.ipv6_header_slice.Ipv6HeaderSlice.{Ipv6HeaderSlice}
+use Rattle.ep_ip.specs.declared.ipv6_slice.Ipv6Slice.{Ipv6Slice}
+use Rattle.ep_ip.specs.IpPackets.{IpPacket}
 use Rattle.ep_ip.specs.Ipv6.{ipv6_header_of}
 
 -- the bytes of a header
@@ -11,3 +16,32 @@ ipv6_header_slice_bytes slice = slice.bytes.slice.now
 -- the header as a value
 abbrev pub ipv6_header_slice_header : Ipv6HeaderSlice → Ipv6Header
 ipv6_header_slice_header slice = ipv6_header_of (ipv6_header_slice_bytes slice)
+
+-- the header of a packet
+abbrev pub ipv6_slice_header : Ipv6Slice → Ipv6Header
+ipv6_slice_header slice = ipv6_header_slice_header slice.header
+
+-- its extension headers
+abbrev pub ipv6_slice_extensions : Ipv6Slice → List ExtensionPart
+ipv6_slice_extensions slice = extension_parts slice.extensions
+
+-- its payload
+abbrev pub ipv6_slice_payload : Ipv6Slice → IpPayload
+ipv6_slice_payload slice = ip_payload_of slice.payload
+
+-- the bytes behind its header: those of its extension headers, and those of its payload
+abbrev pub ipv6_slice_content : Ipv6Slice → List ℕ
+ipv6_slice_content slice = extension_bytes slice.extensions ++ (ipv6_slice_payload slice).bytes
+
+-- its bytes
+abbrev pub ipv6_slice_bytes : Ipv6Slice → List ℕ
+ipv6_slice_bytes slice = ipv6_header_slice_bytes slice.header ++ ipv6_slice_content slice
+
+-- the packet, and what its payload length left
+abbrev pub ipv6_slice_packet : Ipv6Slice → List ℕ → IpPacket Ipv6Header
+ipv6_slice_packet slice left = record {
+  header = ipv6_slice_header slice;
+  extensions = ipv6_slice_extensions slice;
+  payload = ipv6_slice_payload slice;
+  left = left;
+}

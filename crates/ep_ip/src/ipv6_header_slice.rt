@@ -57,6 +57,14 @@ impl<'a> Ipv6HeaderSlice<'a> {
         })
     }
 
+    /// The header again.
+    #[inline]
+    pub(crate) fn copied(&self) -> Ipv6HeaderSlice<'a>
+        ensures { result ≡ self.now }
+    {
+        Ipv6HeaderSlice { bytes: self.bytes }
+    }
+
     /// The bytes of the header.
     #[inline]
     pub fn slice(&self) -> &'a [u8]

@@ -1,10 +1,20 @@
 //! What holds of every list of bytes, and the constants: each law the contract of a function that does nothing else.
 
-ghost use Rattle.std.specs.Prelude.{◌≡◌, ℕ, true, false, List, [], ◌∷◌, replicate};
+ghost use Rattle.std.specs.Prelude.{◌≡◌, ◌≤◌, ◌↔◌, length, ℕ, true, false, List, [], ◌∷◌, replicate};
 ghost use Rattle.ep_base.specs.Bytes.{AreBytes};
+ghost use Rattle.ep_base.specs.Layer.{Reading};
 ghost use Rattle.ep_base.specs.Tables.{IsDecided};
-ghost use Rattle.ep_ip.specs.Ipv4.{IsIpv4Header, RefusesIpv4Header, IsIpv4, RefusesIpv4};
+ghost use Rattle.ep_base.specs.declared.err.len_error.LenError.{LenError};
+ghost use Rattle.ep_base.specs.declared.err.ipv4.SliceError.TheVariants as ipv4_error;
+ghost use Rattle.ep_base.specs.declared.err.ipv6.SliceError.TheVariants as ipv6_error;
+ghost use Rattle.ep_ip.specs.Ip.{version_of};
+ghost use Rattle.ep_ip.specs.Ipv4.{IsIpv4Header, RefusesIpv4Header, IsIpv4Packet, RefusesIpv4Packet};
 ghost use Rattle.ep_ip.specs.Ipv6.{IsIpv6Header, RefusesIpv6Header, IsIpv6Packet, RefusesIpv6Packet};
+ghost use Rattle.ep_ip.specs.IpBytes.{AreIpv4Bytes, AreIpv6Bytes};
+ghost use Rattle.ep_ip.specs.IpPackets.{IpPart, IpPacket, ipv4_part, ipv6_part};
+ghost use Rattle.ep_ip.specs.IpPackets.{IsIpv4, RefusesIpv4, IsIpv6, RefusesIpv6, IsIp, RefusesIp};
+ghost use Rattle.ep_ip.specs.declared.ipv4_header.Ipv4Header.{Ipv4Header};
+ghost use Rattle.ep_ip.specs.declared.ipv6_header.Ipv6Header.{Ipv6Header};
 
 use crate::{Ipv4Header, Ipv4Options, Ipv6Header};
 
@@ -13,9 +23,9 @@ pub fn ipv4_header()
     ensures { (bytes : List ℕ) → AreBytes bytes → IsDecided (IsIpv4Header bytes) (RefusesIpv4Header bytes) }
 {}
 
-/// Bytes are a packet, of one header, payload and rest, or are refused with one error, and never both.
-pub fn ipv4()
-    ensures { (bytes : List ℕ) → AreBytes bytes → IsDecided (IsIpv4 bytes) (RefusesIpv4 bytes) }
+/// Bytes are a packet, of one header, content and rest, or are refused with one error, and never both.
+pub fn ipv4_packet()
+    ensures { (bytes : List ℕ) → AreBytes bytes → IsDecided (IsIpv4Packet bytes) (RefusesIpv4Packet bytes) }
 {}
 
 /// Bytes begin with a header, of one value and with one rest behind it, or are refused with one error, and never both.
@@ -23,9 +33,56 @@ pub fn ipv6_header()
     ensures { (bytes : List ℕ) → AreBytes bytes → IsDecided (IsIpv6Header bytes) (RefusesIpv6Header bytes) }
 {}
 
-/// Bytes are a packet, of one header, payload and rest, or are refused with one error, and never both.
+/// Bytes are a packet, of one header, content and rest, or are refused with one error, and never both.
 pub fn ipv6_packet()
     ensures { (bytes : List ℕ) → AreBytes bytes → IsDecided (IsIpv6Packet bytes) (RefusesIpv6Packet bytes) }
+{}
+
+/// Bytes are a packet with its extension headers, in each reading, of one header, one chain, one payload and one rest,
+/// or are refused with one error, and never both.
+pub fn ipv4()
+    ensures { (reading : Reading) (bytes : List ℕ) → AreBytes bytes
+        → IsDecided (IsIpv4 reading bytes) (RefusesIpv4 reading bytes) }
+{}
+
+/// Bytes are a packet with its extension headers, in each reading, of one header, one chain, one payload and one rest,
+/// or are refused with one error, and never both.
+pub fn ipv6()
+    ensures { (reading : Reading) (bytes : List ℕ) → AreBytes bytes
+        → IsDecided (IsIpv6 reading bytes) (RefusesIpv6 reading bytes) }
+{}
+
+/// Bytes are a packet of one of the versions, in each reading, or are refused with one error, and never both.
+pub fn ip()
+    ensures { (reading : Reading) (bytes : List ℕ) → AreBytes bytes
+        → IsDecided (IsIp reading bytes) (RefusesIp reading bytes) }
+{}
+
+/// The bytes of a packet are its header, its extension headers, its payload, and what its length field leaves.
+pub fn ip_bytes()
+    ensures ipv4 { (reading : Reading) (bytes : List ℕ) (packet : IpPacket Ipv4Header) → IsIpv4 reading bytes packet
+        → AreIpv4Bytes bytes packet }
+    ensures ipv6 { (reading : Reading) (bytes : List ℕ) (packet : IpPacket Ipv6Header) → IsIpv6 reading bytes packet
+        → AreIpv6Bytes bytes packet }
+{}
+
+/// The layer whose bytes are missing, where bytes are refused, starts within the bytes.
+pub fn refusal_places()
+    ensures ipv4 { (reading : Reading) (bytes : List ℕ) (error : LenError)
+        → RefusesIpv4 reading bytes (ipv4_error.Len error) → error.layer_start_offset ≤ length bytes }
+    ensures ipv6 { (reading : Reading) (bytes : List ℕ) (error : LenError)
+        → RefusesIpv6 reading bytes (ipv6_error.Len error) → error.layer_start_offset ≤ length bytes }
+{}
+
+/// Bytes that begin with a version are a packet where the version is open exactly where they are one of this version,
+/// with the same parts.
+pub fn open_version()
+    ensures ipv4 { (reading : Reading) (bytes : List ℕ) → version_of bytes ≡ 4 → (part : IpPart)
+        → IsIp reading bytes part ↔ ((packet : IpPacket Ipv4Header) × IsIpv4 reading bytes packet
+        × (part ≡ ipv4_part packet)) }
+    ensures ipv6 { (reading : Reading) (bytes : List ℕ) → version_of bytes ≡ 6 → (part : IpPart)
+        → IsIp reading bytes part ↔ ((packet : IpPacket Ipv6Header) × IsIpv6 reading bytes packet
+        × (part ≡ ipv6_part packet)) }
 {}
 
 /// The lengths in bytes of headers and of options.

@@ -1,24 +1,29 @@
-//! The headers of IP.
+//! IP: headers, and packets with their extension headers.
 #![tactic(auto)]
 
+mod behind_header;
+mod ip_slice;
 mod ipv4_header;
 mod ipv4_header_slice;
 mod ipv4_options;
 mod ipv4_slice;
 mod ipv6_header;
 mod ipv6_header_slice;
+mod ipv6_slice;
 pub mod laws;
 #[cfg(test)]
 mod tests;
 
 pub use arrayvec::ArrayVec;
-pub use ep_base::err::{Layer, LenError, ValueTooBigError, ValueType, ipv4, ipv6};
+pub use ep_base::err::{Layer, LenError, ValueTooBigError, ValueType, ip, ipv4, ipv6};
 pub use ep_base::{
     IpFragOffset, IpNumber, IpPayloadSlice, Ipv4Dscp, Ipv4Ecn, Ipv6FlowLabel, LenSource,
 };
+pub use ip_slice::IpSlice;
 pub use ipv4_header::Ipv4Header;
 pub use ipv4_header_slice::Ipv4HeaderSlice;
 pub use ipv4_options::{BadOptionsLen, Ipv4Options};
 pub use ipv4_slice::Ipv4Slice;
 pub use ipv6_header::Ipv6Header;
 pub use ipv6_header_slice::Ipv6HeaderSlice;
+pub use ipv6_slice::Ipv6Slice;

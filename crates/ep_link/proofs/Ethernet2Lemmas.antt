@@ -1,5 +1,6 @@
 -- The bytes of an Ethernet II frame, and what is read from them.
-use Rattle.std.proofs.Common.{◌≡◌, ℕ, ◌≤◌, List, [], ◌∷◌, ◌++◌, None, length, get_or, drop, sym, ap, subst, ◌∙◌, arith, refl}
+use Rattle.std.proofs.Common.{◌≡◌, ℕ, ◌≤◌, List, [], ◌∷◌, ◌++◌, None, length}
+use Rattle.std.proofs.Common.{get_or, drop, sym, ap, subst, ◌∙◌, arith, refl}
 use Rattle.std.proofs.lemmas.Grind.{common_steps}
 use Rattle.std.proofs.lemmas.List.{append-nil}
 use Rattle.ep_base.specs.Bytes.{AreBytes, word_at}
@@ -7,7 +8,8 @@ use Rattle.ep_base.specs.Tables.{Parts, first_row}
 use Rattle.ep_base.proofs.BytesLemmas.{cells_6, AreBytes-take, AreBytes-drop}
 use Rattle.ep_base.proofs.TableLemmas.{IsReadBy}
 use Rattle.ep_link.specs.declared.link.ethernet2_header.Ethernet2Header.{Ethernet2Header}
-use Rattle.ep_link.specs.Ethernet2.{FitsEthernet2, IsEthernet2, ethernet2_bytes, ethernet2_header_of, ethernet2_parts, ethernet2_rows}
+use Rattle.ep_link.specs.Ethernet2.{FitsEthernet2, IsEthernet2, ethernet2_bytes}
+use Rattle.ep_link.specs.Ethernet2.{ethernet2_header_of, ethernet2_parts, ethernet2_rows}
 
 -- ---- bytes are those of the header that is read from them
 

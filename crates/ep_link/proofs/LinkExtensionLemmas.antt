@@ -13,8 +13,11 @@ use Rattle.ep_base.specs.declared.err.macsec.HeaderSliceError.TheVariants as ref
 use Rattle.ep_link.specs.declared.link_ext.single_vlan_header.SingleVlanHeader.{SingleVlanHeader}
 use Rattle.ep_link.specs.declared.link_ext.macsec_header.MacsecHeader.{MacsecHeader}
 use Rattle.ep_link.specs.Vlan.{IsVlan, vlan_bytes, vlan_rows}
-use Rattle.ep_link.specs.Macsec.{IsMacsec, RefusesMacsec, MacsecPayload, macsec_len_source, macsec_payload, macsec_payload_bytes}
-use Rattle.ep_link.specs.LinkExtensions.{LinkExtension, vlan, macsec, IsVlanType, IsMacsecType, BeginsLinkExtension, EncodesTag, IsLinkExtension, RefusesLinkExtension, extension_header, extension_payload, link_ext_header_len}
+use Rattle.ep_link.specs.Macsec.{IsMacsec, RefusesMacsec, MacsecPayload}
+use Rattle.ep_link.specs.Macsec.{macsec_len_source, macsec_payload, macsec_payload_bytes}
+use Rattle.ep_link.specs.LinkExtensions.{LinkExtension, vlan, macsec, IsVlanType, IsMacsecType}
+use Rattle.ep_link.specs.LinkExtensions.{BeginsLinkExtension, EncodesTag, IsLinkExtension, RefusesLinkExtension}
+use Rattle.ep_link.specs.LinkExtensions.{extension_header, extension_payload, link_ext_header_len}
 use Rattle.ep_link.proofs.MacsecLemmas.{macsec_is_read, payload_by_bytes}
 use Rattle.ep_link.proofs.MacsecReads.{encoded_len}
 use Rattle.ep_link.proofs.VlanLemmas.{vlan_is_read}

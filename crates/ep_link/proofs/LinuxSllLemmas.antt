@@ -1,5 +1,6 @@
 -- The bytes of a Linux cooked capture, and what is read from them.
-use Rattle.std.proofs.Common.{◌≡◌, ℕ, ◌+◌, ◌/◌, ◌%◌, ◌^◌, ◌<◌, ◌≤◌, true, List, [], ◌∷◌, ◌++◌, None, length, get_or, take, drop, sym, ap, ap₂, subst, ◌∙◌, slice_index, slice_range, arith, inl, inr, refl}
+use Rattle.std.proofs.Common.{◌≡◌, ℕ, ◌+◌, ◌/◌, ◌%◌, ◌^◌, ◌<◌, ◌≤◌, true, List, [], ◌∷◌, ◌++◌, None, length, get_or}
+use Rattle.std.proofs.Common.{take, drop, sym, ap, ap₂, subst, ◌∙◌, slice_index, slice_range, arith, inl, inr, refl}
 use Rattle.std.proofs.lemmas.Grind.{common_steps}
 use Rattle.std.proofs.lemmas.Bool.Decides.{nat_tests}
 use Rattle.std.proofs.lemmas.List.{append-nil}
@@ -11,7 +12,9 @@ use Rattle.ep_base.proofs.TableLemmas.{IsReadBy}
 use Rattle.ep_link.specs.declared.link.linux_sll_protocol_type.LinuxSllProtocolType.{LinuxSllProtocolType}
 use Rattle.ep_link.specs.declared.link.linux_sll_protocol_type.LinuxSllProtocolType.TheVariants as protocol
 use Rattle.ep_link.specs.declared.link.linux_sll_header.LinuxSllHeader.{LinuxSllHeader}
-use Rattle.ep_link.specs.LinuxSll.{HasEtherTypes, HasNoProtocol, knows_hardware, IsProtocolOf, protocol_number, protocol_of, FitsLinuxSll, IsLinuxSll, linux_sll_bytes, linux_sll_header_of, linux_sll_parts, linux_sll_rows}
+use Rattle.ep_link.specs.LinuxSll.{HasEtherTypes, HasNoProtocol, knows_hardware, IsProtocolOf}
+use Rattle.ep_link.specs.LinuxSll.{protocol_number, protocol_of, FitsLinuxSll, IsLinuxSll}
+use Rattle.ep_link.specs.LinuxSll.{linux_sll_bytes, linux_sll_header_of, linux_sll_parts, linux_sll_rows}
 
 -- ---- the protocol field
 

@@ -1,9 +1,11 @@
 -- MACsec tags and packets at the front of bytes.
-use Rattle.std.proofs.Common.{◌≡◌, ◌⊎◌, ℕ, zero, suc, ◌+◌, ◌-◌, ◌*◌, ◌/◌, ◌%◌, ◌<◌, ◌≤◌, List, [], ◌∷◌, None, Some, ◌++◌, length, take, drop, get_or, refl, sym, ap, subst, ◌∙◌, arith, inl, inr}
+use Rattle.std.proofs.Common.{◌≡◌, ◌⊎◌, ℕ, zero, suc, ◌+◌, ◌-◌, ◌*◌, ◌/◌, ◌%◌, ◌<◌, ◌≤◌, List, [], ◌∷◌, None}
+use Rattle.std.proofs.Common.{Some, ◌++◌, length, take, drop, get_or, refl, sym, ap, subst, ◌∙◌, arith, inl, inr}
 use Rattle.std.proofs.lemmas.Bool.{cases_eq}
 use Rattle.std.proofs.lemmas.Grind.{common_steps}
 use Rattle.std.proofs.lemmas.Option.{none-some}
-use Rattle.std.proofs.lemmas.List.{get_or-take, get_or_append_left, length-take, length-drop, length-append, take-append-drop, append_assoc, take_at, drop_at, drop-drop}
+use Rattle.std.proofs.lemmas.List.{get_or-take, get_or_append_left, length-take, length-drop, length-append}
+use Rattle.std.proofs.lemmas.List.{take-append-drop, append_assoc, take_at, drop_at, drop-drop}
 use Rattle.ep_base.specs.Bytes.{AreBytes, word_at}
 use Rattle.ep_base.specs.Tables.{Parts, first_row, parts_of}
 use Rattle.ep_base.proofs.BytesLemmas.{AreBytes-take}
@@ -13,7 +15,9 @@ use Rattle.ep_base.specs.declared.len_source.LenSource.{LenSource}
 use Rattle.ep_link.specs.declared.link_ext.macsec_ptype.MacsecPType.{MacsecPType}
 use Rattle.ep_link.specs.declared.link_ext.macsec_ptype.MacsecPType.TheVariants as ptype
 use Rattle.ep_link.specs.declared.link_ext.macsec_header.MacsecHeader.{MacsecHeader}
-use Rattle.ep_link.specs.Macsec.{ptype_len, macsec_len_of, IsMacsecHeader, IsMacsec, IsMacsecCut, macsec_header_rows, macsec_rows, HasNoRoomForType, short_len_of, modification_of, sci_bit_of, type_len_by, tag_len_of, payload_len_of, macsec_header_of, macsec_payload_bytes, payload_by}
+use Rattle.ep_link.specs.Macsec.{ptype_len, macsec_len_of, IsMacsecHeader, IsMacsec, IsMacsecCut, macsec_header_rows}
+use Rattle.ep_link.specs.Macsec.{macsec_rows, HasNoRoomForType, short_len_of, modification_of, sci_bit_of, type_len_by}
+use Rattle.ep_link.specs.Macsec.{tag_len_of, payload_len_of, macsec_header_of, macsec_payload_bytes, payload_by}
 use Rattle.ep_link.proofs.MacsecReads.{IsWhole, encoded_read, encoded_whole, whole_encodes, type_len_by_same}
 
 -- ---- a whole tag at the front of bytes

@@ -1,5 +1,7 @@
 -- The fields of a MACsec tag, read from its bytes.
-use Rattle.std.proofs.Common.{◌≡◌, ℕ, zero, suc, ◌+◌, ◌*◌, ◌/◌, ◌%◌, ◌^◌, ◌<◌, ◌≤◌, Option, Some, None, List, [], ◌∷◌, ◌++◌, length, drop, get_or, refl, sym, ap, add-zero, subst, ◌∙◌, arith, slice_index, slice_range}
+use Rattle.std.proofs.Common.{◌≡◌, ℕ, zero, suc, ◌+◌, ◌*◌, ◌/◌, ◌%◌, ◌^◌, ◌<◌, ◌≤◌, Option}
+use Rattle.std.proofs.Common.{Some, None, List, [], ◌∷◌, ◌++◌, length, drop, get_or, refl}
+use Rattle.std.proofs.Common.{sym, ap, add-zero, subst, ◌∙◌, arith, slice_index, slice_range}
 use Rattle.std.proofs.lemmas.Grind.{common_steps}
 use Rattle.std.proofs.lemmas.Nat.{from_be_bytes-to_be_bytes_4, from_be_bytes-to_be_bytes_8, be_bytes_4, be_bytes_8}
 use Rattle.std.proofs.lemmas.List.{length-take, length-drop, take-append-drop, drop-drop, drop_all, get_or-drop}
@@ -9,7 +11,10 @@ use Rattle.ep_base.proofs.BytesLemmas.{AreBytes-take, AreBytes-drop, bit_le, bit
 use Rattle.ep_link.specs.declared.link_ext.macsec_ptype.MacsecPType.{MacsecPType}
 use Rattle.ep_link.specs.declared.link_ext.macsec_ptype.MacsecPType.TheVariants as ptype
 use Rattle.ep_link.specs.declared.link_ext.macsec_header.MacsecHeader.{MacsecHeader}
-use Rattle.ep_link.specs.Macsec.{encryption_bit, changed_text_bit, ptype_bytes, sci_bit, sci_bytes, macsec_bytes_with, ptype_len, sci_len, macsec_header_len, FitsPType, FitsSci, FitsMacsec, EncodesMacsec, short_len_of, modification_of, sci_bit_of, type_len_by, tag_len_of, HasNoRoomForType, ptype_by, sci_by, macsec_header_of}
+use Rattle.ep_link.specs.Macsec.{encryption_bit, changed_text_bit, ptype_bytes, sci_bit, sci_bytes}
+use Rattle.ep_link.specs.Macsec.{macsec_bytes_with, ptype_len, sci_len, macsec_header_len, FitsPType, FitsSci}
+use Rattle.ep_link.specs.Macsec.{FitsMacsec, EncodesMacsec, short_len_of, modification_of, sci_bit_of}
+use Rattle.ep_link.specs.Macsec.{type_len_by, tag_len_of, HasNoRoomForType, ptype_by, sci_by, macsec_header_of}
 
 -- the bytes are a whole tag: as long as their flags say
 pub record IsWhole (bytes : List ℕ) : Type 0 where

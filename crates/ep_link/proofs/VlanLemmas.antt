@@ -1,5 +1,6 @@
 -- The bytes of VLAN tags, and what is read from them.
-use Rattle.std.proofs.Common.{◌≡◌, ℕ, ◌+◌, ◌*◌, ◌/◌, ◌%◌, ◌^◌, ◌<◌, ◌≤◌, ◌==◌, List, [], ◌∷◌, ◌++◌, None, length, slice_index, drop, sym, ap, ◌∙◌, arith, refl}
+use Rattle.std.proofs.Common.{◌≡◌, ℕ, ◌+◌, ◌*◌, ◌/◌, ◌%◌, ◌^◌, ◌<◌, ◌≤◌, ◌==◌, List, [], ◌∷◌}
+use Rattle.std.proofs.Common.{◌++◌, None, length, slice_index, drop, sym, ap, ◌∙◌, arith, refl}
 use Rattle.std.proofs.lemmas.Grind.{common_steps}
 use Rattle.std.proofs.lemmas.List.{append-nil, append_assoc, length-append, length-drop}
 use Rattle.ep_base.specs.Bytes.{AreBytes, word_at, bit}
@@ -8,7 +9,8 @@ use Rattle.ep_base.proofs.BytesLemmas.{AreBytes-drop, bit_le, bit_read, bit_of_r
 use Rattle.ep_base.proofs.TableLemmas.{IsReadBy}
 use Rattle.ep_link.specs.declared.link_ext.single_vlan_header.SingleVlanHeader.{SingleVlanHeader}
 use Rattle.ep_link.specs.declared.link_ext.double_vlan_header.DoubleVlanHeader.{DoubleVlanHeader}
-use Rattle.ep_link.specs.Vlan.{FitsVlan, IsVlan, vlan_bytes, vlan_header_of, vlan_parts, vlan_rows, IsDoubleVlan, double_vlan_header_of, double_vlan_rows}
+use Rattle.ep_link.specs.Vlan.{FitsVlan, IsVlan, vlan_bytes, vlan_header_of, vlan_parts}
+use Rattle.ep_link.specs.Vlan.{vlan_rows, IsDoubleVlan, double_vlan_header_of, double_vlan_rows}
 
 -- ---- one tag
 

@@ -14,7 +14,8 @@ use Rattle.ep_link.specs.declared.link_ext.link_ext_slice.LinkExtSlice.{LinkExtS
 use Rattle.ep_link.specs.declared.link_ext.link_ext_slice.LinkExtSlice.TheVariants as slice
 use Rattle.ep_link.specs.Vlan.{vlan_bytes, vlan_header_len, FitsVlan, IsVlan, vlan_rows}
 use Rattle.ep_link.specs.VlanSlices.{vlan_slice_bytes, vlan_slice_header, vlan_slice_payload}
-use Rattle.ep_link.specs.Macsec.{macsec_bytes, macsec_header_len, EncodesMacsec, IsMacsec, RefusesMacsec, MacsecPayload, macsec_payload, macsec_payload_bytes, macsec_payload_type, ptype_type}
+use Rattle.ep_link.specs.Macsec.{macsec_bytes, macsec_header_len, EncodesMacsec, IsMacsec, RefusesMacsec}
+use Rattle.ep_link.specs.Macsec.{MacsecPayload, macsec_payload, macsec_payload_bytes, macsec_payload_type, ptype_type}
 use Rattle.ep_link.specs.EtherPayloads.{EtherPayload, macsec_ether_payload}
 use Rattle.ep_link.specs.MacsecSlices.{macsec_slice_bytes, macsec_slice_header, macsec_slice_payload}
 

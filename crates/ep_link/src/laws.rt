@@ -1,6 +1,7 @@
 //! What holds of every list of bytes, each law the contract of a function that does nothing.
 
 ghost use Rattle.std.specs.Prelude.{◌≡◌, ◌+◌, ◌++◌, ◌⊎◌, false, ℕ, List, [], length};
+ghost use Rattle.std.specs.Ordering.{nat_cmp};
 ghost use Rattle.ep_base.specs.Bytes.{AreBytes};
 ghost use Rattle.ep_base.specs.Tables.{IsDecided};
 ghost use Rattle.ep_base.specs.declared.ether_type.EtherType.{EtherType};
@@ -8,7 +9,9 @@ ghost use Rattle.ep_base.specs.declared.err.macsec.HeaderSliceError.{HeaderSlice
 ghost use Rattle.ep_link.specs.Arp.{IsArp, RefusesArp};
 ghost use Rattle.ep_link.specs.Ethernet2.{IsEthernet2, RefusesEthernet2};
 ghost use Rattle.ep_link.specs.LinuxSll.{IsLinuxSll, RefusesLinuxSll};
-ghost use Rattle.ep_link.specs.LinkExtensions.{BeginsLinkExtension, EncodesTag, IsLinkExtension, LinkExtension, RefusesLinkExtension, extension_header, extension_payload, link_ext_header_len, link_extension_of, vlan};
+ghost use Rattle.ep_link.specs.LinkExtensions.{BeginsLinkExtension, EncodesTag, IsLinkExtension, LinkExtension};
+ghost use Rattle.ep_link.specs.LinkExtensions.{RefusesLinkExtension, extension_header, extension_payload};
+ghost use Rattle.ep_link.specs.LinkExtensions.{link_ext_header_len, link_extension_of, vlan};
 ghost use Rattle.ep_link.specs.Macsec.{IsMacsecHeader, RefusesMacsecHeader, IsMacsec, RefusesMacsec};
 ghost use Rattle.ep_link.specs.declared.link_ext.link_ext_header.LinkExtHeader.TheVariants as header;
 ghost use Rattle.ep_link.specs.Vlan.{IsVlan, RefusesVlan, IsDoubleVlan, RefusesDoubleVlan};
@@ -98,6 +101,12 @@ pub fn constants()
     ensures vlan { SingleVlanHeader.LEN ≡ 4 }
     ensures double_vlan { DoubleVlanHeader.LEN ≡ 8 }
     ensures macsec { (MacsecHeader.MIN_LEN ≡ 6) × (MacsecHeader.MAX_LEN ≡ 16) }
+{}
+
+/// Hardware types and operations are ordered as numbers.
+pub fn comparisons()
+    ensures hardware_types { (a b : ArpHardwareId) → ⟦<ArpHardwareId as Ord>⟧.cmp a b ≡ nat_cmp a.0 b.0 }
+    ensures operations { (a b : ArpOperation) → ⟦<ArpOperation as Ord>⟧.cmp a b ≡ nat_cmp a.0 b.0 }
 {}
 
 /// The default of a link extension and of its slice: a VLAN tag of four bytes 0, and no payload.

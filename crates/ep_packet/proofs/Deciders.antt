@@ -9,7 +9,10 @@ use Rattle.ep_link.specs.Ethernet2.{IsEthernet2, RefusesEthernet2}
 use Rattle.ep_base.specs.declared.err.macsec.HeaderSliceError.{HeaderSliceError as ExtensionError}
 use Rattle.ep_link.specs.LinkExtensions.{LinkExtension, BeginsLinkExtension, EncodesTag, IsLinkExtension, RefusesLinkExtension, extension_payload}
 use Rattle.ep_link.specs.LinuxSll.{IsLinuxSll, RefusesLinuxSll}
-use Rattle.ep_ip.specs.Ipv4.{IsIpv4, RefusesIpv4}
+use Rattle.ep_ip.specs.declared.ipv4_header.Ipv4Header.{Ipv4Header}
+use Rattle.ep_ip.specs.declared.ipv6_header.Ipv6Header.{Ipv6Header}
+use Rattle.ep_ip.specs.IpBytes.{AreIpv4Bytes, AreIpv6Bytes}
+use Rattle.ep_ip.specs.IpPackets.{IpPacket, IsIpv4, RefusesIpv4, IsIpv6, RefusesIpv6, IsIp, RefusesIp}
 use Rattle.ep_transport.specs.TransportParts.{TransportLayer, AreTransport, IsTransportPart, RefusesTransportPart}
 
 -- a link extension and what its cut leaves
@@ -34,7 +37,16 @@ pub record Deciders : Type 0 where
   pub linux_sll : (bytes : List ℕ) → AreBytes bytes → IsDecided (IsLinuxSll bytes) (RefusesLinuxSll bytes)
   pub extension : ExtensionLaws
   pub arp : (bytes : List ℕ) → AreBytes bytes → IsDecided (IsArp bytes) (RefusesArp bytes)
-  pub ipv4 : (bytes : List ℕ) → AreBytes bytes → IsDecided (IsIpv4 bytes) (RefusesIpv4 bytes)
+  pub ipv4 : (reading : Reading) (bytes : List ℕ) → AreBytes bytes
+      → IsDecided (IsIpv4 reading bytes) (RefusesIpv4 reading bytes)
+  pub ipv6 : (reading : Reading) (bytes : List ℕ) → AreBytes bytes
+      → IsDecided (IsIpv6 reading bytes) (RefusesIpv6 reading bytes)
+  pub ip : (reading : Reading) (bytes : List ℕ) → AreBytes bytes
+      → IsDecided (IsIp reading bytes) (RefusesIp reading bytes)
+  pub ipv4_bytes : (reading : Reading) (bytes : List ℕ) (packet : IpPacket Ipv4Header) → IsIpv4 reading bytes packet
+      → AreIpv4Bytes bytes packet
+  pub ipv6_bytes : (reading : Reading) (bytes : List ℕ) (packet : IpPacket Ipv6Header) → IsIpv6 reading bytes packet
+      → AreIpv6Bytes bytes packet
   pub transport : (reading : Reading) (number : ℕ) (fragmented : Bool) (bytes : List ℕ) → AreBytes bytes
       → IsDecided (IsTransportPart reading number fragmented bytes) (RefusesTransportPart reading number fragmented bytes)
   pub transport_bytes : (reading : Reading) (number : ℕ) (fragmented : Bool) (bytes : List ℕ)

@@ -1,5 +1,5 @@
 -- That bytes are a frame of one list of layers, or are refused with one error, from the same of each layer.
-use Rattle.std.proofs.Common.{◌≡◌, ◌⊎◌, ℕ, List, Option, Some, refl, ap, inl, inr}
+use Rattle.std.proofs.Common.{◌≡◌, ◌⊎◌, ℕ, List, [], Option, Some, None, refl, ap, ◌∙◌, inl, inr}
 use Rattle.ep_base.specs.Bytes.{AreBytes}
 use Rattle.ep_base.specs.Layer.{Reading}
 use Rattle.ep_base.specs.Tables.{IsDecided, Parts, RefusesAs}
@@ -8,15 +8,17 @@ use Rattle.ep_base.proofs.DecidedLemmas.{same_image, decided_as, refused_as, IsB
 use Rattle.ep_base.specs.declared.ether_type.EtherType.{EtherType}
 use Rattle.ep_base.specs.declared.len_source.LenSource.TheVariants as source
 use Rattle.ep_link.specs.Ethernet2.{ethernet2_bytes, ethernet2_header_len, IsEthernet2, RefusesEthernet2}
+use Rattle.ep_link.specs.LinkExtensions.{LinkExtension}
 use Rattle.ep_link.specs.LinkSlices.{LinkLayer, ethernet2, linux_sll as sll, ether_payload}
 use Rattle.ep_link.specs.LinuxSll.{linux_sll_bytes, linux_sll_header_len, IsLinuxSll, RefusesLinuxSll, protocol_ether_type}
 use Rattle.ep_packet.specs.declared.err.slice_error.SliceError.{SliceError}
 use Rattle.ep_packet.specs.declared.err.slice_error.SliceError.TheVariants.{Len}
-use Rattle.ep_packet.specs.Layers.{Entry, ethernet, linux_sll, ether_type, Layers}
-use Rattle.ep_packet.specs.Frame.{IsInside, most_link_exts, IsFrameIn}
+use Rattle.ep_packet.specs.Layers.{Entry, ethernet, linux_sll, ether_type, ip, Layers}
+use Rattle.ep_packet.specs.Frame.{any_ip, IsInside, most_link_exts, IsFrameIn}
 use Rattle.ep_packet.specs.Refusals.{RefusesInside, RefusesFrameIn, linux_sll_refusal}
 use Rattle.ep_packet.proofs.Deciders.{Deciders}
 use Rattle.ep_packet.proofs.InsideLemmas.{Inside, HoldsInside, inside_decided}
+use Rattle.ep_packet.proofs.NetLemmas.{NetPart, net_decided}
 
 -- a header with its payload and what its cut leaves, and what the payload holds
 abbrev FramePart : Type 0 → Type 0
@@ -56,6 +58,13 @@ RefusesFrameOf reading Is Refuses type len =
 same_layers : (link : LinkLayer) (layers : Layers) → layers.link ≡ Some link
     → layers ≡ layers_in link (layers.link_exts, layers.net, layers.transport)
 same_layers link layers same = ap (λ (x : Option LinkLayer). record layers { link = x }) same
+
+-- layers without a link layer and link extensions are a net layer and a transport layer
+no_link_layers : (layers : Layers) → layers.link ≡ None → layers.link_exts ≡ []
+    → layers ≡ record { link = None; link_exts = []; net = layers.net; transport = layers.transport }
+no_link_layers layers no_link no_tags =
+    ap (λ (x : Option LinkLayer). record layers { link = x }) no_link
+    ∙ ap (λ (x : List LinkExtension). record layers { link = None; link_exts = x }) no_tags
 
 -- bytes are one frame behind a link header of this kind, or are refused
 frame_decided : {H : Type 0} {Is : Parts H → Type 0} {Refuses : SliceError → Type 0}
@@ -97,5 +106,13 @@ frames_decided deciders reading (ether_type type) bytes fits =
         frame.1,
         same_layers (ether_payload type source.Slice bytes) layers frame.0,
       );
+    })
+    (same_image (λ error refused. refused) (λ error refused. refused))
+frames_decided deciders reading ip bytes fits =
+    decided_as (λ (part : NetPart). record { link = None; link_exts = []; net = part.0; transport = part.1 })
+    (λ (error : SliceError). error) (net_decided deciders reading 0 (Some any_ip) bytes fits)
+    (record {
+      there = λ part is. (refl, refl, is);
+      back = λ layers frame. ((layers.net, layers.transport), frame.2, no_link_layers layers frame.0 frame.1);
     })
     (same_image (λ error refused. refused) (λ error refused. refused))

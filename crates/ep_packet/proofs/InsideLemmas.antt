@@ -11,7 +11,7 @@ use Rattle.ep_link.specs.LinkExtensions.{LinkExtension, BeginsLinkExtension, IsL
 use Rattle.ep_transport.specs.TransportParts.{TransportLayer}
 use Rattle.ep_packet.specs.declared.err.slice_error.SliceError.{SliceError}
 use Rattle.ep_packet.specs.Layers.{NetLayer}
-use Rattle.ep_packet.specs.Frame.{IsInside}
+use Rattle.ep_packet.specs.Frame.{net_kind, IsInside}
 use Rattle.ep_packet.specs.Refusals.{RefusesNetPart, RefusesExtensionAt, RefusesInside, extension_refusal}
 use Rattle.ep_packet.proofs.Deciders.{Deciders, ExtensionLaws, ExtensionPart}
 use Rattle.ep_packet.proofs.NetLemmas.{NetPart, IsNetPartOf, net_decided}
@@ -64,7 +64,7 @@ untyped_only reading room bytes (extensions, net, transport) part =
 -- where no extensions are taken, bytes hold a net layer alone
 no_room_back : (reading : Reading) (type : EtherType) (bytes : List ℕ) (inside : Inside)
     → HoldsInside reading zero (Some type) bytes inside
-    → (part : NetPart) × IsNetPartOf reading type bytes part × (inside ≡ bare part)
+    → (part : NetPart) × IsNetPartOf reading (net_kind type) bytes part × (inside ≡ bare part)
 no_room_back reading type bytes ([], net, transport) part = ((net, transport), part, refl)
 no_room_back reading type bytes (extension ∷ others, net, transport) part = absurd part
 
@@ -72,7 +72,7 @@ no_room_back reading type bytes (extension ∷ others, net, transport) part = ab
 no_tag_back : ExtensionLaws → (reading : Reading) (room : ℕ) (type : EtherType) (bytes : List ℕ)
     → (¬ BeginsLinkExtension type)
     → (inside : Inside) → HoldsInside reading (suc room) (Some type) bytes inside
-    → (part : NetPart) × IsNetPartOf reading type bytes part × (inside ≡ bare part)
+    → (part : NetPart) × IsNetPartOf reading (net_kind type) bytes part × (inside ≡ bare part)
 no_tag_back laws reading room type bytes none ([], net, transport) part = ((net, transport), part.1, refl)
 no_tag_back laws reading room type bytes none (extension ∷ others, net, transport) part =
     absurd (none (laws.begins type bytes (extension, part.0.0) part.0.1))
@@ -80,7 +80,7 @@ no_tag_back laws reading room type bytes none (extension ∷ others, net, transp
 -- and they are refused as such
 no_tag_refused_back : ExtensionLaws → (reading : Reading) (room offset : ℕ) (type : EtherType) (bytes : List ℕ)
     → (¬ BeginsLinkExtension type) → (error : SliceError)
-    → RefusesInside reading (suc room) offset (Some type) bytes error → RefusesNetPart reading offset type bytes error
+    → RefusesInside reading (suc room) offset (Some type) bytes error → RefusesNetPart reading offset (net_kind type) bytes error
 no_tag_refused_back laws reading room offset type bytes none error (inl refused) = refused.1
 no_tag_refused_back laws reading room offset type bytes none error (inr (inl refused)) =
     absurd (none (laws.refused type bytes refused.0 refused.1))
@@ -118,7 +118,7 @@ pub inside_decided : Deciders → (reading : Reading) (room offset : ℕ) (type 
 inside_decided deciders reading room offset None bytes fits =
     decided_by ([], None, None) (refl, refl, refl) (untyped_only reading room bytes) (λ error refused. refused)
 inside_decided deciders reading zero offset (Some type) bytes fits =
-    decided_as bare (λ error. error) (net_decided deciders reading offset type bytes fits)
+    decided_as bare (λ error. error) (net_decided deciders reading offset (net_kind type) bytes fits)
     (record { there = λ part is. is; back = no_room_back reading type bytes })
     (same_image (λ error refused. refused) (λ error refused. refused))
 inside_decided deciders reading (suc room) offset (Some type) bytes fits =
@@ -132,7 +132,7 @@ inside_decided deciders reading (suc room) offset (Some type) bytes fits =
           (record { there = λ layers is. ((layers.0.1, is.0), is.1); back = tag_back reading room type bytes begins })
           (same_image (tag_refused_there reading room offset type bytes)
           (tag_refused_back reading room offset type bytes begins))
-      | inr none ↦ decided_as bare (λ error. error) (net_decided deciders reading offset type bytes fits)
+      | inr none ↦ decided_as bare (λ error. error) (net_decided deciders reading offset (net_kind type) bytes fits)
           (record { there = λ part is. (none, is); back = no_tag_back deciders.extension reading room type bytes none })
           (same_image (λ error refused. inl (none, refused)) (no_tag_refused_back deciders.extension reading room offset type bytes none))
     ]

@@ -8,7 +8,8 @@ use Rattle.ep_link.proofs.ArpLemmas.{arp_is_read}
 use Rattle.ep_link.proofs.Ethernet2Lemmas.{ethernet2_is_read}
 use Rattle.ep_link.proofs.LinkExtensionLemmas.{cases_begins, extension_begins, extension_bytes, extension_decided, refused_begins}
 use Rattle.ep_link.proofs.LinuxSllLemmas.{linux_sll_is_read}
-use Rattle.ep_ip.proofs.Ipv4Lemmas.{ipv4_is_read}
+use Rattle.ep_ip.proofs.IpBytesLemmas.{ipv4_packet_bytes, ipv6_packet_bytes}
+use Rattle.ep_ip.proofs.PacketLemmas.{ip_decided, ipv4_decided, ipv6_decided}
 use Rattle.ep_transport.proofs.TransportLemmas.{transport_bytes_are, transport_is_read}
 use Rattle.ep_packet.specs.Layers.{Entry}
 use Rattle.ep_packet.specs.Frame.{IsFrame}
@@ -28,7 +29,11 @@ layer_laws = record {
     bytes = extension_bytes;
   };
   arp = decided arp_is_read;
-  ipv4 = decided ipv4_is_read;
+  ipv4 = ipv4_decided;
+  ipv6 = ipv6_decided;
+  ip = ip_decided;
+  ipv4_bytes = ipv4_packet_bytes;
+  ipv6_bytes = ipv6_packet_bytes;
   transport = λ reading number fragmented. decided (transport_is_read reading number fragmented);
   transport_bytes = transport_bytes_are;
 }

@@ -5,6 +5,8 @@ pub mod FrameLemmas
 pub mod InsideLemmas
 pub mod LayerLaws
 pub mod NetLemmas
+pub mod NetBytesLemmas
 pub mod PayloadLemmas
 pub mod TagLemmas
 pub mod WalkLemmas
+pub mod NetWalkLemmas

@@ -13,7 +13,7 @@ use Rattle.ep_transport.specs.TransportParts.{TransportLayer, transport_layer_of
 use Rattle.ep_packet.specs.declared.err.slice_error.SliceError.{SliceError}
 use Rattle.ep_packet.specs.declared.net_slice.NetSlice.{NetSlice}
 use Rattle.ep_packet.specs.Layers.{Layers, NetLayer, net_layer_of}
-use Rattle.ep_packet.specs.Frame.{IsInside, IsNetPart}
+use Rattle.ep_packet.specs.Frame.{net_kind, IsInside, IsNetPart}
 use Rattle.ep_packet.specs.Refusals.{RefusesInside}
 use Rattle.ep_packet.specs.ShownBytes.{BeginsWith}
 use Rattle.ep_packet.specs.Walk.{AppendsInside, HoldsNet}
@@ -41,7 +41,7 @@ appends_nothing room type bytes old is = record {
 
 -- the extensions end where no more are taken, or at a type that begins none
 ends_here : (room : ℕ) (type : EtherType) (bytes : List ℕ) → ((room ≡ 0) ⊎ (¬ BeginsLinkExtension type))
-    → (net : Option NetLayer) (transport : Option TransportLayer) → IsNetPart slices type bytes net transport
+    → (net : Option NetLayer) (transport : Option TransportLayer) → IsNetPart slices (net_kind type) bytes net transport
     → IsInside slices room (Some type) bytes [] net transport
 ends_here zero type bytes why net transport part = part
 ends_here (suc room) type bytes (inl full) net transport part = absurd (omega (arith, full))
@@ -50,7 +50,7 @@ ends_here (suc room) type bytes (inr none) net transport part = (none, part)
 -- then nothing is appended to those before them
 pub appends_no_more : (room : ℕ) (type : Option EtherType) (known : EtherType) (bytes : List ℕ) (old : List LinkExtSlice)
     → type ≡ Some known → ((room ≡ 0) ⊎ (¬ BeginsLinkExtension known))
-    → (net : Option NetSlice) (transport : Option TransportSlice) → HoldsNet known bytes net transport
+    → (net : Option NetSlice) (transport : Option TransportSlice) → HoldsNet (net_kind known) bytes net transport
     → AppendsInside room type bytes old old net transport
 appends_no_more room type known bytes old is why net transport holds = record {
   extensions = [];

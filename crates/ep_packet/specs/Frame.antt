@@ -1,50 +1,75 @@
 -- Which bytes are a frame, of which layers. Each layer's bytes are the payload of the layer before it, and what a
 -- layer's cut leaves stands behind its payload: so the bytes are the headers from the outside in, the payload of the last
 -- layer, and what the cuts left, the innermost first.
-use Rattle.std.specs.Prelude.{◌≡◌, ◌≢◌, ℕ, zero, suc, List, [], ◌∷◌, Option, Some, None}
-use Rattle.ep_base.specs.EtherTypes.{ipv4_type, arp_type}
+use Rattle.std.specs.Prelude.{◌≡◌, ◌==◌, if◌then◌else◌, ℕ, zero, suc, List, [], ◌∷◌, Option, Some, None}
+use Rattle.ep_base.specs.EtherTypes.{ipv4_type, ipv6_type, arp_type}
 use Rattle.ep_base.specs.Layer.{Reading, slices}
-use Rattle.ep_base.specs.Tables.{Parts, parts_of}
+use Rattle.ep_base.specs.Tables.{Parts}
 use Rattle.ep_base.specs.declared.ether_type.EtherType.{EtherType}
 use Rattle.ep_base.specs.declared.len_source.LenSource.TheVariants as source
 use Rattle.ep_link.specs.declared.link.ethernet2_header.Ethernet2Header.{Ethernet2Header}
 use Rattle.ep_link.specs.declared.link.linux_sll_header.LinuxSllHeader.{LinuxSllHeader}
-use Rattle.ep_link.specs.Arp.{IsArp}
+use Rattle.ep_link.specs.Arp.{Arp, IsArp}
 use Rattle.ep_link.specs.Ethernet2.{IsEthernet2}
 use Rattle.ep_link.specs.LinuxSll.{IsLinuxSll, protocol_ether_type}
 use Rattle.ep_link.specs.LinkSlices.{ethernet2, linux_sll as sll, ether_payload}
 use Rattle.ep_link.specs.LinkExtensions.{LinkExtension, BeginsLinkExtension, IsLinkExtension, extension_type, extension_payload}
 use Rattle.ep_base.specs.IpPayload.{IpPayload}
-use Rattle.ep_ip.specs.Ipv4.{IsIpv4, ipv4_payload}
-use Rattle.ep_transport.specs.TransportParts.{IsTransportPart}
-use Rattle.ep_transport.specs.TransportParts.{TransportLayer}
-use Rattle.ep_packet.specs.Layers.{Entry, ethernet, linux_sll, ether_type, NetLayer, ipv4, arp, Layers}
+use Rattle.ep_ip.specs.declared.ipv4_header.Ipv4Header.{Ipv4Header}
+use Rattle.ep_ip.specs.declared.ipv6_header.Ipv6Header.{Ipv6Header}
+use Rattle.ep_ip.specs.IpPackets.{IpPacket, IpPart, IsIpv4, IsIpv6, IsIp}
+use Rattle.ep_transport.specs.TransportParts.{TransportLayer, IsTransportPart}
+use Rattle.ep_packet.specs.Layers.{Entry, ethernet, linux_sll, ether_type, ip, NetLayer, arp, Layers, ipv4_layer, ipv6_layer, ip_layer, net_payload}
+
+-- how a net layer is known: by its own ether type, or, as an IP packet, by the version in its first byte
+pub data NetKind : Type 0 where
+  only_ipv4 : NetKind
+  only_ipv6 : NetKind
+  only_arp : NetKind
+  any_ip : NetKind
+
+-- the net layer that an ether type begins, where its header is read
+abbrev pub net_kind : EtherType → Option NetKind
+net_kind type =
+    if type.0 == ipv4_type then Some only_ipv4
+    else if type.0 == ipv6_type then Some only_ipv6
+    else if type.0 == arp_type then Some only_arp
+    else None
+
+-- the bytes are a net layer of this kind, and then what its cut leaves
+abbrev pub IsNetLayer : Reading → NetKind → List ℕ → NetLayer → Type 0
+IsNetLayer reading only_ipv4 bytes layer =
+    (packet : IpPacket Ipv4Header) × IsIpv4 reading bytes packet × (layer ≡ ipv4_layer packet)
+IsNetLayer reading only_ipv6 bytes layer =
+    (packet : IpPacket Ipv6Header) × IsIpv6 reading bytes packet × (layer ≡ ipv6_layer packet)
+IsNetLayer reading only_arp bytes layer =
+    (part : Arp × List ℕ) × IsArp bytes part × (layer ≡ arp part.0)
+IsNetLayer reading any_ip bytes layer = (part : IpPart) × IsIp reading bytes part × (layer ≡ ip_layer part)
 
 -- the transport layer of an IP payload, where it has one
 abbrev pub IsTransportIn : Reading → IpPayload → Option TransportLayer → Type 0
 IsTransportIn reading payload = IsTransportPart reading payload.number payload.fragmented payload.bytes
 
--- the type begins no net layer whose header is read
-abbrev pub HasNoNet : EtherType → Type 0
-HasNoNet type = (type.0 ≢ ipv4_type) × (type.0 ≢ arp_type)
+-- the transport layer in the payload of a net layer, where it has one
+abbrev pub IsTransportBehind : Reading → Option IpPayload → Option TransportLayer → Type 0
+IsTransportBehind reading None transport = transport ≡ None
+IsTransportBehind reading (Some payload) transport = IsTransportIn reading payload transport
 
--- the net layer that bytes of a type are, where they are one, and the transport layer in it
-abbrev pub IsNetPart : Reading → EtherType → List ℕ → Option NetLayer → Option TransportLayer → Type 0
-IsNetPart reading type bytes None transport = HasNoNet type × (transport ≡ None)
-IsNetPart reading type bytes (Some (ipv4 header payload)) transport =
-    (type.0 ≡ ipv4_type) × ((left : List ℕ) × IsIpv4 bytes (parts_of header payload.bytes left))
-    × (payload ≡ ipv4_payload header payload.bytes) × IsTransportIn reading payload transport
-IsNetPart reading type bytes (Some (arp packet)) transport =
-    (type.0 ≡ arp_type) × ((left : List ℕ) × IsArp bytes (packet, left)) × (transport ≡ None)
+-- the net layer of a kind that bytes are, and the transport layer in it; bytes of no kind have neither
+abbrev pub IsNetPart : Reading → Option NetKind → List ℕ → Option NetLayer → Option TransportLayer → Type 0
+IsNetPart reading None bytes net transport = (net ≡ None) × (transport ≡ None)
+IsNetPart reading (Some kind) bytes net transport =
+    (layer : NetLayer) × IsNetLayer reading kind bytes layer × (net ≡ Some layer)
+    × IsTransportBehind reading (net_payload layer) transport
 
 -- What bytes of a type hold: at most so many link extensions, the net layer and the transport layer. The extensions end
 -- where no more are taken, or at a type that begins none. Bytes whose type can't be read hold nothing.
 abbrev pub IsInside : Reading → ℕ → Option EtherType → List ℕ
     → List LinkExtension → Option NetLayer → Option TransportLayer → Type 0
 IsInside reading room None bytes extensions net transport = (extensions ≡ []) × (net ≡ None) × (transport ≡ None)
-IsInside reading zero (Some type) bytes [] net transport = IsNetPart reading type bytes net transport
+IsInside reading zero (Some type) bytes [] net transport = IsNetPart reading (net_kind type) bytes net transport
 IsInside reading (suc room) (Some type) bytes [] net transport =
-    (¬ BeginsLinkExtension type) × IsNetPart reading type bytes net transport
+    (¬ BeginsLinkExtension type) × IsNetPart reading (net_kind type) bytes net transport
 IsInside reading zero (Some type) bytes (extension ∷ others) net transport = ⊥
 IsInside reading (suc room) (Some type) bytes (extension ∷ others) net transport =
     ((left : List ℕ) × IsLinkExtension type bytes (extension, left))
@@ -69,6 +94,8 @@ IsFrameIn reading linux_sll bytes layers =
 IsFrameIn reading (ether_type type) bytes layers =
     (layers.link ≡ Some (ether_payload type source.Slice bytes))
     × IsInside reading most_link_exts (Some type) bytes layers.link_exts layers.net layers.transport
+IsFrameIn reading ip bytes layers =
+    (layers.link ≡ None) × (layers.link_exts ≡ []) × IsNetPart reading (Some any_ip) bytes layers.net layers.transport
 
 -- the bytes are a frame of these layers, as slices are read
 abbrev pub IsFrame : Entry → List ℕ → Layers → Type 0

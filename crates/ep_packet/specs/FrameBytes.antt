@@ -5,9 +5,9 @@ use Rattle.ep_link.specs.Ethernet2.{FitsEthernet2, ethernet2_bytes}
 use Rattle.ep_link.specs.LinuxSll.{FitsLinuxSll, linux_sll_bytes}
 use Rattle.ep_link.specs.LinkSlices.{LinkLayer, ethernet2, linux_sll, ether_payload, linux_sll_payload, link_layer_payload}
 use Rattle.ep_link.specs.LinkExtensions.{LinkExtension, EncodesTag, extension_payload}
-use Rattle.ep_ip.specs.Ipv4.{EncodesIpv4}
+use Rattle.ep_ip.specs.IpBytes.{EncodesIpv4Headers, EncodesIpv6Headers}
 use Rattle.ep_transport.specs.TransportParts.{TransportLayer, EncodesTransport, payload_in}
-use Rattle.ep_packet.specs.Layers.{NetLayer, ipv4, arp, Layers}
+use Rattle.ep_packet.specs.Layers.{NetLayer, ipv4, ipv6, arp, Layers}
 
 -- the bytes are the link header's, where there is one
 abbrev pub EncodesLink : Option LinkLayer → List ℕ → Type 0
@@ -23,10 +23,11 @@ EncodesTags [] bytes = bytes ≡ []
 EncodesTags (extension ∷ others) bytes =
     (tag rest : List ℕ) × EncodesTag extension tag × EncodesTags others rest × (bytes ≡ tag ++ rest)
 
--- the bytes are the net header's, up to its reserved bits, where there is one
+-- the bytes are the net header's and its extension headers', up to their reserved bits, where there is one
 abbrev pub EncodesNet : Option NetLayer → List ℕ → Type 0
 EncodesNet None bytes = bytes ≡ []
-EncodesNet (Some (ipv4 header payload)) bytes = EncodesIpv4 bytes header
+EncodesNet (Some (ipv4 header extensions payload)) bytes = EncodesIpv4Headers bytes header extensions
+EncodesNet (Some (ipv6 header extensions payload)) bytes = EncodesIpv6Headers bytes header extensions
 EncodesNet (Some (arp packet)) bytes = FitsArp packet × (bytes ≡ arp_bytes packet)
 
 -- the payload of a link layer, where there is one
@@ -42,7 +43,8 @@ payload_behind bytes (extension ∷ others) = payload_behind (extension_payload 
 -- the bytes behind the net layer, where there is one in some bytes
 abbrev pub behind_net : List ℕ → Option NetLayer → List ℕ
 behind_net bytes None = bytes
-behind_net bytes (Some (ipv4 header payload)) = payload.bytes
+behind_net bytes (Some (ipv4 header extensions payload)) = payload.bytes
+behind_net bytes (Some (ipv6 header extensions payload)) = payload.bytes
 behind_net bytes (Some (arp packet)) = []
 
 -- the payload of the net layer and of the transport layer, which lie in some bytes

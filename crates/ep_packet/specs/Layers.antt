@@ -1,31 +1,49 @@
 -- The layers of a frame, as plain data, and which of them a sliced packet shows.
-use Rattle.std.specs.Prelude.{List, map, Option, Some, None, Bool, false}
+use Rattle.std.specs.Prelude.{List, [], map, Option, Some, None, Bool, false}
 use Rattle.std.specs.Option.{option_map, option_and_then, option_map_or}
 use Rattle.ep_base.specs.declared.ether_type.EtherType.{EtherType}
 use Rattle.ep_link.specs.Arp.{Arp}
 use Rattle.ep_link.specs.ArpSlices.{arp_slice_packet}
 use Rattle.ep_link.specs.LinkSlices.{LinkLayer, link_layer_of}
 use Rattle.ep_link.specs.LinkExtensions.{LinkExtension, link_extension_of}
-use Rattle.ep_ip.specs.declared.ipv4_header.Ipv4Header.{Ipv4Header}
 use Rattle.ep_base.specs.IpPayload.{IpPayload}
-use Rattle.ep_ip.specs.Ipv4.{ipv4_payload}
-use Rattle.ep_ip.specs.Ipv4Slices.{ipv4_slice_header, ipv4_slice_payload}
+use Rattle.ep_ext.specs.ExtensionParts.{ExtensionPart}
+use Rattle.ep_ip.specs.declared.ipv4_header.Ipv4Header.{Ipv4Header}
+use Rattle.ep_ip.specs.declared.ipv6_header.Ipv6Header.{Ipv6Header}
+use Rattle.ep_ip.specs.IpPackets.{IpPacket, IpPart, ipv4_part, ipv6_part}
+use Rattle.ep_ip.specs.Ipv4Slices.{ipv4_slice_packet}
+use Rattle.ep_ip.specs.Ipv6Slices.{ipv6_slice_packet}
 use Rattle.ep_transport.specs.TransportParts.{TransportLayer, transport_layer_of}
 use Rattle.ep_packet.specs.declared.net_slice.NetSlice.{NetSlice}
 use Rattle.ep_packet.specs.declared.net_slice.NetSlice.TheVariants as slice
 use Rattle.ep_packet.specs.declared.sliced_packet.SlicedPacket.{SlicedPacket}
 
--- what stands at the front of the bytes: an Ethernet II header, the header of a Linux cooked capture, or the payload of a
--- link layer with its type
+-- what stands at the front of the bytes: an Ethernet II header, the header of a Linux cooked capture, the payload of a
+-- link layer with its type, or an IP packet, whose first byte has its version
 pub data Entry : Type 0 where
   ethernet : Entry
   linux_sll : Entry
   ether_type : EtherType → Entry
+  ip : Entry
 
--- a net layer: its header and its payload, or an ARP packet
+-- a net layer: its header, the extension headers behind it and its payload, or an ARP packet
 pub data NetLayer : Type 0 where
-  ipv4 : Ipv4Header → IpPayload → NetLayer
+  ipv4 : Ipv4Header → List ExtensionPart → IpPayload → NetLayer
+  ipv6 : Ipv6Header → List ExtensionPart → IpPayload → NetLayer
   arp : Arp → NetLayer
+
+-- an IPv4 packet as a net layer
+abbrev pub ipv4_layer : IpPacket Ipv4Header → NetLayer
+ipv4_layer packet = ipv4 packet.header packet.extensions packet.payload
+
+-- an IPv6 packet as a net layer
+abbrev pub ipv6_layer : IpPacket Ipv6Header → NetLayer
+ipv6_layer packet = ipv6 packet.header packet.extensions packet.payload
+
+-- an IP packet of either version as a net layer
+abbrev pub ip_layer : IpPart → NetLayer
+ip_layer (ipv4_part packet) = ipv4_layer packet
+ip_layer (ipv6_part packet) = ipv6_layer packet
 
 -- the layers of a frame, each where it stands
 pub record Layers : Type 0 where
@@ -36,8 +54,8 @@ pub record Layers : Type 0 where
 
 -- the net layer that a slice shows
 abbrev pub net_layer_of : NetSlice → NetLayer
-net_layer_of (slice.Ipv4 packet) =
-    ipv4 (ipv4_slice_header packet) (ipv4_payload (ipv4_slice_header packet) (ipv4_slice_payload packet))
+net_layer_of (slice.Ipv4 packet) = ipv4_layer (ipv4_slice_packet packet [])
+net_layer_of (slice.Ipv6 packet) = ipv6_layer (ipv6_slice_packet packet [])
 net_layer_of (slice.Arp packet) = arp (arp_slice_packet packet)
 
 -- the layers that a sliced packet shows
@@ -51,7 +69,8 @@ layers_of packet = record {
 
 -- the payload of a net layer, where it is IP
 abbrev pub net_payload : NetLayer → Option IpPayload
-net_payload (ipv4 header payload) = Some payload
+net_payload (ipv4 header extensions payload) = Some payload
+net_payload (ipv6 header extensions payload) = Some payload
 net_payload (arp packet) = None
 
 -- the payload of the IP packet, where the net layer is one

@@ -1,5 +1,6 @@
 pub mod Layers
 pub mod Frame
+pub mod Fragments
 pub mod Refusals
 pub mod NetSlices
 pub mod FrameBytes

@@ -1,12 +1,17 @@
 -- Why bytes are no frame: some layers stand, and the bytes of the next one meet a row of its refusal table.
 use Rattle.std.specs.Prelude.{◌≡◌, ℕ, zero, suc, ◌+◌, ◌⊎◌, List, Option, Some, None}
-use Rattle.ep_base.specs.EtherTypes.{ipv4_type, arp_type}
 use Rattle.ep_base.specs.Layer.{Reading, slices}
 use Rattle.ep_base.specs.Tables.{Parts, RefusesAs}
 use Rattle.ep_base.specs.declared.ether_type.EtherType.{EtherType}
 use Rattle.ep_base.specs.declared.err.len_error.LenError.{LenError}
 use Rattle.ep_base.specs.declared.err.ipv4.SliceError.{SliceError as Ipv4SliceError}
 use Rattle.ep_base.specs.declared.err.ipv4.SliceError.TheVariants as ipv4_error
+use Rattle.ep_base.specs.declared.err.ipv6.SliceError.{SliceError as Ipv6SliceError}
+use Rattle.ep_base.specs.declared.err.ipv6.SliceError.TheVariants as ipv6_error
+use Rattle.ep_base.specs.declared.err.ip.SliceError.{SliceError as IpSliceError}
+use Rattle.ep_base.specs.declared.err.ip.SliceError.TheVariants as ip_error
+use Rattle.ep_base.specs.declared.err.ip.HeadersError.{HeadersError as IpHeadersError}
+use Rattle.ep_base.specs.declared.err.ip.HeadersError.TheVariants as ip_content
 use Rattle.ep_base.specs.declared.err.linux_sll.HeaderSliceError.{HeaderSliceError as LinuxSllError}
 use Rattle.ep_base.specs.declared.err.linux_sll.HeaderSliceError.TheVariants as linux_sll_error
 use Rattle.ep_base.specs.declared.err.macsec.HeaderSliceError.{HeaderSliceError as ExtensionError}
@@ -14,34 +19,25 @@ use Rattle.ep_base.specs.declared.err.macsec.HeaderSliceError.TheVariants as ext
 use Rattle.ep_base.specs.declared.err.tcp.HeaderSliceError.{HeaderSliceError as TransportError}
 use Rattle.ep_base.specs.declared.err.tcp.HeaderSliceError.TheVariants as transport_error
 use Rattle.ep_base.specs.declared.len_source.LenSource.{LenSource}
-use Rattle.ep_base.specs.declared.len_source.LenSource.TheVariants as source
 use Rattle.ep_link.specs.declared.link.ethernet2_header.Ethernet2Header.{Ethernet2Header}
 use Rattle.ep_link.specs.declared.link.linux_sll_header.LinuxSllHeader.{LinuxSllHeader}
 use Rattle.ep_link.specs.Arp.{RefusesArp}
 use Rattle.ep_link.specs.Ethernet2.{ethernet2_header_len, IsEthernet2, RefusesEthernet2}
 use Rattle.ep_link.specs.LinuxSll.{linux_sll_header_len, IsLinuxSll, RefusesLinuxSll, protocol_ether_type}
 use Rattle.ep_link.specs.LinkExtensions.{LinkExtension, BeginsLinkExtension, IsLinkExtension, RefusesLinkExtension, extension_header, extension_payload, extension_type, link_ext_header_len}
-use Rattle.ep_ip.specs.declared.ipv4_header.Ipv4Header.{Ipv4Header}
 use Rattle.ep_base.specs.IpPayload.{IpPayload}
-use Rattle.ep_ip.specs.Ipv4.{ipv4_header_len, IsIpv4, RefusesIpv4, ipv4_payload}
+use Rattle.ep_ip.specs.Ip.{cut_by}
+use Rattle.ep_ip.specs.IpBytes.{ipv4_headers_len, ipv6_headers_len}
+use Rattle.ep_ip.specs.IpPackets.{RefusesIpv4, RefusesIpv6, RefusesIp}
 use Rattle.ep_transport.specs.TransportParts.{RefusesTransportPart}
 use Rattle.ep_packet.specs.declared.err.slice_error.SliceError.{SliceError}
-use Rattle.ep_packet.specs.declared.err.slice_error.SliceError.TheVariants.{Len, LinuxSll, Macsec, Ipv4, Ipv4Exts, Tcp}
-use Rattle.ep_packet.specs.Layers.{Entry, ethernet, linux_sll, ether_type}
-use Rattle.ep_packet.specs.Frame.{most_link_exts}
+use Rattle.ep_packet.specs.declared.err.slice_error.SliceError.TheVariants.{Len, LinuxSll, Macsec, Ip, Ipv4, Ipv6, Ipv4Exts, Ipv6Exts, Tcp}
+use Rattle.ep_packet.specs.Layers.{Entry, ethernet, linux_sll, ether_type, ip, NetLayer, ipv4, ipv6, arp, net_payload}
+use Rattle.ep_packet.specs.Frame.{NetKind, only_ipv4, only_ipv6, only_arp, any_ip, net_kind, IsNetLayer, most_link_exts}
 
 -- the refusal of a layer that begins this many bytes further behind
 abbrev pub further_behind : ℕ → LenError → LenError
 further_behind offset error = record error { layer_start_offset = error.layer_start_offset + offset }
-
--- what set the bytes at hand of a layer whose slice another layer has cut
-abbrev pub cut_by : LenSource → LenSource → LenSource
-cut_by outer source.Slice = outer
-cut_by outer source.MacsecShortLength = source.MacsecShortLength
-cut_by outer source.Ipv4HeaderTotalLen = source.Ipv4HeaderTotalLen
-cut_by outer source.Ipv6HeaderPayloadLen = source.Ipv6HeaderPayloadLen
-cut_by outer source.UdpHeaderLen = source.UdpHeaderLen
-cut_by outer source.ArpAddrLengths = source.ArpAddrLengths
 
 -- a refusal of an SLL header, with which the frame begins
 abbrev pub linux_sll_refusal : LinuxSllError → SliceError
@@ -63,6 +59,23 @@ ipv4_refusal offset (ipv4_error.Len error) = len_refusal offset error
 ipv4_refusal offset (ipv4_error.Header error) = Ipv4 error
 ipv4_refusal offset (ipv4_error.Exts error) = Ipv4Exts error
 
+-- a refusal of an IPv6 packet that lies `offset` bytes behind the frame's start
+abbrev pub ipv6_refusal : ℕ → Ipv6SliceError → SliceError
+ipv6_refusal offset (ipv6_error.Len error) = len_refusal offset error
+ipv6_refusal offset (ipv6_error.Header error) = Ipv6 error
+ipv6_refusal offset (ipv6_error.Exts error) = Ipv6Exts error
+
+-- what no IP packet can be read for
+abbrev pub ip_content_refusal : IpHeadersError → SliceError
+ip_content_refusal (ip_content.Ip error) = Ip error
+ip_content_refusal (ip_content.Ipv4Ext error) = Ipv4Exts error
+ip_content_refusal (ip_content.Ipv6Ext error) = Ipv6Exts error
+
+-- a refusal of an IP packet of either version that lies `offset` bytes behind the frame's start
+abbrev pub ip_refusal : ℕ → IpSliceError → SliceError
+ip_refusal offset (ip_error.Len error) = len_refusal offset error
+ip_refusal offset (ip_error.IpHeaders error) = ip_content_refusal error
+
 -- a refusal of the transport layer, in a payload whose end this set and that lies `offset` bytes behind the frame's start
 abbrev pub transport_refusal : ℕ → LenSource → TransportError → SliceError
 transport_refusal offset source (transport_error.Len error) =
@@ -75,15 +88,31 @@ RefusesTransportIn reading offset payload = RefusesAs
     (transport_refusal offset payload.source)
     (RefusesTransportPart reading payload.number payload.fragmented payload.bytes)
 
--- why bytes of a type have no net layer, or none with a transport layer, where they must
-abbrev pub RefusesNetPart : Reading → ℕ → EtherType → List ℕ → SliceError → Type 0
-RefusesNetPart reading offset type bytes error =
-    ((type.0 ≡ ipv4_type)
-    × (RefusesAs (ipv4_refusal offset) (RefusesIpv4 bytes) error
-    ⊎ ((packet : Parts Ipv4Header) × IsIpv4 bytes packet
-    × RefusesTransportIn reading (offset + ipv4_header_len packet.header)
-    (ipv4_payload packet.header packet.payload) error)))
-    ⊎ ((type.0 ≡ arp_type) × RefusesAs (len_refusal offset) (RefusesArp bytes) error)
+-- why bytes are no net layer of this kind
+abbrev pub RefusesNetLayer : Reading → NetKind → ℕ → List ℕ → SliceError → Type 0
+RefusesNetLayer reading only_ipv4 offset bytes = RefusesAs (ipv4_refusal offset) (RefusesIpv4 reading bytes)
+RefusesNetLayer reading only_ipv6 offset bytes = RefusesAs (ipv6_refusal offset) (RefusesIpv6 reading bytes)
+RefusesNetLayer reading only_arp offset bytes = RefusesAs (len_refusal offset) (RefusesArp bytes)
+RefusesNetLayer reading any_ip offset bytes = RefusesAs (ip_refusal offset) (RefusesIp reading bytes)
+
+-- the number of bytes of the header of a net layer and of its extension headers
+abbrev pub net_header_len : NetLayer → ℕ
+net_header_len (ipv4 header extensions payload) = ipv4_headers_len header extensions
+net_header_len (ipv6 header extensions payload) = ipv6_headers_len extensions
+net_header_len (arp packet) = 0
+
+-- why the payload of a net layer has no transport layer where it must have one
+abbrev pub RefusesTransportBehind : Reading → ℕ → Option IpPayload → SliceError → Type 0
+RefusesTransportBehind reading offset None error = ⊥
+RefusesTransportBehind reading offset (Some payload) error = RefusesTransportIn reading offset payload error
+
+-- why bytes have no net layer of a kind, or none with a transport layer, where they must
+abbrev pub RefusesNetPart : Reading → ℕ → Option NetKind → List ℕ → SliceError → Type 0
+RefusesNetPart reading offset None bytes error = ⊥
+RefusesNetPart reading offset (Some kind) bytes error =
+    RefusesNetLayer reading kind offset bytes error
+    ⊎ ((layer : NetLayer) × IsNetLayer reading kind bytes layer
+    × RefusesTransportBehind reading (offset + net_header_len layer) (net_payload layer) error)
 
 -- why bytes of a type have no link extension where they must
 abbrev pub RefusesExtensionAt : ℕ → EtherType → List ℕ → SliceError → Type 0
@@ -93,9 +122,9 @@ RefusesExtensionAt offset type bytes = RefusesAs (extension_refusal offset) (Ref
 -- none of the bytes before a layer that lies in its payload.
 abbrev pub RefusesInside : Reading → ℕ → ℕ → Option EtherType → List ℕ → SliceError → Type 0
 RefusesInside reading room offset None bytes error = ⊥
-RefusesInside reading zero offset (Some type) bytes error = RefusesNetPart reading offset type bytes error
+RefusesInside reading zero offset (Some type) bytes error = RefusesNetPart reading offset (net_kind type) bytes error
 RefusesInside reading (suc room) offset (Some type) bytes error =
-    ((¬ BeginsLinkExtension type) × RefusesNetPart reading offset type bytes error)
+    ((¬ BeginsLinkExtension type) × RefusesNetPart reading offset (net_kind type) bytes error)
     ⊎ RefusesExtensionAt offset type bytes error
     ⊎ ((extension : LinkExtension) × (left : List ℕ) × IsLinkExtension type bytes (extension, left)
     × RefusesInside reading room (offset + link_ext_header_len (extension_header extension)) (extension_type extension)
@@ -113,6 +142,7 @@ RefusesFrameIn reading linux_sll bytes error =
     × RefusesInside reading most_link_exts linux_sll_header_len
     (protocol_ether_type frame.header.protocol_type) frame.payload error)
 RefusesFrameIn reading (ether_type type) bytes error = RefusesInside reading most_link_exts 0 (Some type) bytes error
+RefusesFrameIn reading ip bytes error = RefusesNetPart reading 0 (Some any_ip) bytes error
 
 -- why bytes are no frame, as slices are read
 abbrev pub RefusesFrame : Entry → List ℕ → SliceError → Type 0

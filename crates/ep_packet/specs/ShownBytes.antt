@@ -9,6 +9,7 @@ use Rattle.ep_link.specs.LinuxSllSlices.{linux_sll_slice_bytes}
 use Rattle.ep_link.specs.LinkSlices.{link_layer_of, link_layer_payload}
 use Rattle.ep_link.specs.LinkExtensions.{extension_payload, link_extension_of, link_ext_slice_bytes}
 use Rattle.ep_ip.specs.Ipv4Slices.{ipv4_slice_bytes, ipv4_slice_payload}
+use Rattle.ep_ip.specs.Ipv6Slices.{ipv6_slice_bytes, ipv6_slice_payload}
 use Rattle.ep_transport.specs.declared.transport_slice.TransportSlice.{TransportSlice}
 use Rattle.ep_transport.specs.TransportParts.{transport_slice_bytes}
 use Rattle.ep_packet.specs.declared.net_slice.NetSlice.{NetSlice}
@@ -29,11 +30,13 @@ link_slice_bytes (link_slice.LinuxSllPayload payload) = payload.payload.now
 -- the bytes of a net slice
 abbrev pub net_slice_bytes : NetSlice → List ℕ
 net_slice_bytes (slice.Ipv4 packet) = ipv4_slice_bytes packet
+net_slice_bytes (slice.Ipv6 packet) = ipv6_slice_bytes packet
 net_slice_bytes (slice.Arp packet) = arp_slice_bytes packet
 
 -- the bytes in which the transport layer of a net slice lies
 abbrev pub net_slice_payload : NetSlice → List ℕ
-net_slice_payload (slice.Ipv4 packet) = ipv4_slice_payload packet
+net_slice_payload (slice.Ipv4 packet) = (ipv4_slice_payload packet).bytes
+net_slice_payload (slice.Ipv6 packet) = (ipv6_slice_payload packet).bytes
 net_slice_payload (slice.Arp packet) = []
 
 -- the transport slice, where there is one, shows the front of these bytes

@@ -2,5 +2,5 @@
 
 mod slice_error;
 
-pub use ep_base::err::{ip_auth, ipv4, linux_sll, macsec};
+pub use ep_base::err::{ip, ip_auth, ipv4, ipv6, ipv6_exts, linux_sll, macsec, tcp};
 pub use slice_error::SliceError;

@@ -25,6 +25,9 @@ pub fn frames()
     ep_link::laws::link_extension_bytes();
     ep_link::laws::arp();
     ep_ip::laws::ipv4();
+    ep_ip::laws::ipv6();
+    ep_ip::laws::ip();
+    ep_ip::laws::ip_bytes();
     ep_transport::laws::transport();
     ep_transport::laws::transport_bytes();
 }
@@ -40,6 +43,9 @@ pub fn frame_bytes()
     ep_link::laws::link_extension_bytes();
     ep_link::laws::arp();
     ep_ip::laws::ipv4();
+    ep_ip::laws::ipv6();
+    ep_ip::laws::ip();
+    ep_ip::laws::ip_bytes();
     ep_transport::laws::transport();
     ep_transport::laws::transport_bytes();
 }

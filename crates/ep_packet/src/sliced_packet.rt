@@ -2,21 +2,26 @@
 
 ghost use Rattle.std.specs.Prelude.{◌≡◌, ◌+◌, ◌-◌, ◌<◌, ◌^◌, length, IfOk, IfErr, Some};
 ghost use Rattle.std.specs.Option.{option_map};
-ghost use Rattle.ep_base.specs.EtherTypes.{ipv4_type, arp_type};
 ghost use Rattle.ep_base.specs.Layer.{slices};
 ghost use Rattle.ep_base.specs.IpPayload.{ip_payload_of};
+ghost use Rattle.ep_ext.specs.Ipv4Chains.{ipv4_slice_bytes};
+ghost use Rattle.ep_ip.specs.Ip.{cut_by};
 ghost use Rattle.ep_transport.specs.TransportParts.{transport_layer_of};
-ghost use Rattle.ep_packet.specs.Frame.{IsTransportIn, most_link_exts};
-ghost use Rattle.ep_packet.specs.Refusals.{RefusesInside, RefusesNetPart, RefusesTransportIn, further_behind, cut_by};
-ghost use Rattle.ep_packet.specs.ShownBytes.{ShowsTransport};
-ghost use Rattle.ep_packet.specs.Walk.{AppendsInside, HoldsBehind, HoldsNet};
+ghost use Rattle.ep_packet.specs.Frame.{IsTransportBehind, IsTransportIn, most_link_exts};
+ghost use Rattle.ep_packet.specs.Frame.{only_ipv4, only_ipv6, only_arp, any_ip, net_kind};
+ghost use Rattle.ep_packet.specs.Layers.{net_layer_of, net_payload};
+ghost use Rattle.ep_packet.specs.Refusals.{RefusesInside, RefusesNetPart, RefusesTransportBehind, RefusesTransportIn};
+ghost use Rattle.ep_packet.specs.Refusals.{further_behind, net_header_len};
+ghost use Rattle.ep_packet.specs.ShownBytes.{ShowsTransport, net_slice_bytes, net_slice_payload};
+ghost use Rattle.ep_packet.specs.Walk.{AppendsInside, HasHeaders, HoldsBehind, HoldsNet};
 
 use crate::err::SliceError;
 use crate::net_slice::NetSlice;
 use arrayvec::ArrayVec;
-use ep_base::err::{LenError, ipv4, linux_sll, macsec, tcp};
+use ep_base::err::{LenError, ip, ipv4, ipv6, linux_sll, macsec, tcp};
 use ep_base::{EtherPayloadSlice, EtherType, IpPayloadSlice, LenSource, VlanId, ether_type};
-use ep_ip::Ipv4Slice;
+use ep_ext::Ipv4ExtensionsSlice;
+use ep_ip::{IpSlice, Ipv4Slice, Ipv6Header, Ipv6Slice};
 use ep_link::{
     ArpPacketSlice, DoubleVlanSlice, Ethernet2Header, Ethernet2Slice, LinkExtSlice, LinkSlice,
     LinuxSllHeader, LinuxSllSlice, VlanSlice,
@@ -41,7 +46,7 @@ impl<'a> SlicedPacket<'a> {
     ghost use Rattle.std.specs.Prelude.{◌≡◌, IfOk, IfErr, IsOkAnd};
     ghost use Rattle.std.specs.Option.{option_copied, option_map};
     ghost use Rattle.ep_base.specs.IpPayload.{ip_payload_of};
-    ghost use Rattle.ep_packet.specs.Layers.{ethernet, linux_sll, ether_type as of_type, Layers, layers_of, ip_payload_in, carries_fragment};
+    ghost use Rattle.ep_packet.specs.Layers.{ethernet, linux_sll, ether_type as of_type, ip, Layers, layers_of, ip_payload_in, carries_fragment};
     ghost use Rattle.ep_link.specs.EtherPayloads.{ether_payload_of};
     ghost use Rattle.ep_packet.specs.Frame.{IsFrame};
     ghost use Rattle.ep_packet.specs.Payloads.{ether_payload_in, extensions_len_source, payload_ether_type_in};
@@ -116,6 +121,23 @@ impl<'a> SlicedPacket<'a> {
             payload: slice,
         });
         slice_behind(link, 0, Some(ether_type), slice)
+    }
+
+    /// The packet that is an IP packet of either version, which has no link layer.
+    pub fn from_ip(slice: &'a [u8]) -> Result<SlicedPacket<'a>, SliceError>
+        ensures ok { IfOk result (λ packet. IsFrame ip slice.now (layers_of packet)) }
+        ensures only { (layers : Layers) → IsFrame ip slice.now layers
+            → IsOkAnd result (λ packet. layers_of packet ≡ layers) }
+        ensures bytes { IfOk result (ShowsBytes slice.now) }
+        ensures err { IfErr result (RefusesFrame ip slice.now) }
+    {
+        let (net, transport) = slice_ip(slice)?;
+        Ok(SlicedPacket {
+            link: None,
+            link_exts: ArrayVec::new(),
+            net,
+            transport,
+        })
     }
 
     /// The type of the bytes behind the link layer and its extensions, if no layer in them is read. It is not known
@@ -279,11 +301,12 @@ fn slice_net(
     slice: &[u8],
 ) -> Result<(Option<NetSlice<'_>>, Option<TransportSlice<'_>>), SliceError>
     requires { offset + length slice.now < 2 ^ 64 }
-    ensures ok { IfOk result (λ parts. HoldsNet ether_type slice.now parts.0 parts.1) }
-    ensures err { IfErr result (RefusesNetPart slices offset ether_type slice.now) }
+    ensures ok { IfOk result (λ parts. HoldsNet (net_kind ether_type) slice.now parts.0 parts.1) }
+    ensures err { IfErr result (RefusesNetPart slices offset (net_kind ether_type) slice.now) }
 {
     match ether_type {
         ether_type::IPV4 => slice_ipv4(offset, slice),
+        ether_type::IPV6 => slice_ipv6(offset, slice),
         ether_type::ARP => slice_arp(offset, slice),
         _ => Ok((None, None)),
     }
@@ -295,8 +318,8 @@ fn slice_ipv4(
     slice: &[u8],
 ) -> Result<(Option<NetSlice<'_>>, Option<TransportSlice<'_>>), SliceError>
     requires { offset + length slice.now < 2 ^ 64 }
-    ensures ok { IfOk result (λ parts. HoldsNet (record { 0 = ipv4_type }) slice.now parts.0 parts.1) }
-    ensures err { IfErr result (RefusesNetPart slices offset (record { 0 = ipv4_type }) slice.now) }
+    ensures ok { IfOk result (λ parts. HoldsNet (Some only_ipv4) slice.now parts.0 parts.1) }
+    ensures err { IfErr result (RefusesNetPart slices offset (Some only_ipv4) slice.now) }
 {
     let packet = match Ipv4Slice::from_slice(slice) {
         Ok(packet) => packet,
@@ -304,8 +327,48 @@ fn slice_ipv4(
         Err(ipv4::SliceError::Header(error)) => return Err(SliceError::Ipv4(error)),
         Err(ipv4::SliceError::Exts(error)) => return Err(SliceError::Ipv4Exts(error)),
     };
-    let transport = slice_transport(offset + packet.header().header_len(), packet.payload())?;
-    Ok((Some(NetSlice::Ipv4(packet)), transport))
+    let net = NetSlice::Ipv4(packet);
+    let transport = slice_transport_in(offset, &net)?;
+    Ok((Some(net), transport))
+}
+
+/// The IPv6 packet that bytes are, and the transport layer in it. The bytes lie `offset` bytes behind the packet's start.
+fn slice_ipv6(
+    offset: usize,
+    slice: &[u8],
+) -> Result<(Option<NetSlice<'_>>, Option<TransportSlice<'_>>), SliceError>
+    requires { offset + length slice.now < 2 ^ 64 }
+    ensures ok { IfOk result (λ parts. HoldsNet (Some only_ipv6) slice.now parts.0 parts.1) }
+    ensures err { IfErr result (RefusesNetPart slices offset (Some only_ipv6) slice.now) }
+{
+    let packet = match Ipv6Slice::from_slice(slice) {
+        Ok(packet) => packet,
+        Err(ipv6::SliceError::Len(error)) => return Err(SliceError::Len(error.add_offset(offset))),
+        Err(ipv6::SliceError::Header(error)) => return Err(SliceError::Ipv6(error)),
+        Err(ipv6::SliceError::Exts(error)) => return Err(SliceError::Ipv6Exts(error)),
+    };
+    let net = NetSlice::Ipv6(packet);
+    let transport = slice_transport_in(offset, &net)?;
+    Ok((Some(net), transport))
+}
+
+/// The IP packet of either version that bytes are, with which the packet begins, and the transport layer in it.
+fn slice_ip(slice: &[u8]) -> Result<(Option<NetSlice<'_>>, Option<TransportSlice<'_>>), SliceError>
+    ensures ok { IfOk result (λ parts. HoldsNet (Some any_ip) slice.now parts.0 parts.1) }
+    ensures err { IfErr result (RefusesNetPart slices 0 (Some any_ip) slice.now) }
+{
+    let packet = match IpSlice::from_slice(slice) {
+        Ok(packet) => packet,
+        Err(ip::SliceError::Len(error)) => return Err(SliceError::Len(error)),
+        Err(ip::SliceError::IpHeaders(error)) => return Err(match error {
+            ip::HeadersError::Ip(error) => SliceError::Ip(error),
+            ip::HeadersError::Ipv4Ext(error) => SliceError::Ipv4Exts(error),
+            ip::HeadersError::Ipv6Ext(error) => SliceError::Ipv6Exts(error),
+        }),
+    };
+    let net = NetSlice::from(packet);
+    let transport = slice_transport_in(0, &net)?;
+    Ok((Some(net), transport))
 }
 
 /// The ARP packet that bytes are. The bytes lie `offset` bytes behind the packet's start.
@@ -314,12 +377,50 @@ fn slice_arp(
     slice: &[u8],
 ) -> Result<(Option<NetSlice<'_>>, Option<TransportSlice<'_>>), SliceError>
     requires { offset + length slice.now < 2 ^ 64 }
-    ensures ok { IfOk result (λ parts. HoldsNet (record { 0 = arp_type }) slice.now parts.0 parts.1) }
-    ensures err { IfErr result (RefusesNetPart slices offset (record { 0 = arp_type }) slice.now) }
+    ensures ok { IfOk result (λ parts. HoldsNet (Some only_arp) slice.now parts.0 parts.1) }
+    ensures err { IfErr result (RefusesNetPart slices offset (Some only_arp) slice.now) }
 {
     match ArpPacketSlice::from_slice(slice) {
         Ok(packet) => Ok((Some(NetSlice::Arp(packet)), None)),
         Err(error) => Err(SliceError::Len(error.add_offset(offset))),
+    }
+}
+
+/// The transport layer in the payload of a net layer, where it has one. The net layer begins `offset` bytes behind the
+/// packet's start.
+fn slice_transport_in<'a>(
+    offset: usize,
+    net: &NetSlice<'a>,
+) -> Result<Option<TransportSlice<'a>>, SliceError>
+    requires place { offset + length (net_slice_bytes net.now) < 2 ^ 64 }
+    requires headers { HasHeaders net.now }
+    ensures ok { IfOk result (λ transport.
+        IsTransportBehind slices (net_payload (net_layer_of net.now)) (option_map transport_layer_of transport)) }
+    ensures bytes { IfOk result (ShowsTransport (net_slice_payload net.now)) }
+    ensures err { IfErr result (RefusesTransportBehind slices (offset + net_header_len (net_layer_of net.now))
+        (net_payload (net_layer_of net.now))) }
+{
+    match net {
+        NetSlice::Ipv4(packet) => {
+            let extensions_len = ipv4_extensions_len(&packet.extensions());
+            let headers_len = packet.header().header_len() + extensions_len;
+            slice_transport(offset + headers_len, packet.payload())
+        }
+        NetSlice::Ipv6(packet) => {
+            let headers_len = Ipv6Header::LEN + packet.extensions().slice().len();
+            slice_transport(offset + headers_len, packet.payload())
+        }
+        NetSlice::Arp(_) => Ok(None),
+    }
+}
+
+/// The number of bytes of the extension headers of an IPv4 packet.
+fn ipv4_extensions_len(extensions: &Ipv4ExtensionsSlice<'_>) -> usize
+    ensures { result ≡ length (ipv4_slice_bytes extensions.now) }
+{
+    match &extensions.auth {
+        Some(header) => header.slice().len(),
+        None => 0,
     }
 }
 

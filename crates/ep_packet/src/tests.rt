@@ -7,12 +7,13 @@ ghost use Rattle.ep_packet.specs.Layers.{ethernet, Layers};
 
 use super::*;
 use crate::err::SliceError;
-use ep_base::err::{LenError, ipv4, linux_sll, macsec, tcp};
+use ep_base::err::{LenError, ip, ipv4, ipv6, ipv6_exts, linux_sll, macsec, tcp};
 use ep_link::Ethernet2Header;
 use ep_transport::UdpHeader;
 use std::test::Fail;
 
 mod link_layers;
+mod net_layers;
 
 /// An Ethernet II frame with the UDP payload 1 to 8 (192.168.1.1, port 21 to 192.168.1.2, port 1234).
 const FRAME: [u8; 50] = [
@@ -48,7 +49,7 @@ fn entries(rt: HostRuntime) -> Result<(), Fail> {
     assert_eq!(rt; ip_payload.payload.len(), 16);
     let packet = SlicedPacket::from_ether_type(EtherType::IPV4, &FRAME[14..])?;
     assert!(rt; packet.transport.is_some());
-    let packet = SlicedPacket::from_ether_type(EtherType::IPV6, &FRAME[14..])?;
+    let packet = SlicedPacket::from_ether_type(EtherType(0x1234), &FRAME[14..])?;
     assert!(rt; packet.net.is_none());
     Ok(())
 }
@@ -91,6 +92,18 @@ fn texts(rt: HostRuntime) -> Result<(), Fail> {
         (
             SliceError::Ipv4(ipv4::HeaderError::UnexpectedVersion { version_number: 5 }),
             "UnexpectedVersion 5",
+        ),
+        (
+            SliceError::Ip(ip::HeaderError::UnsupportedIpVersion { version_number: 5 }),
+            "UnsupportedIpVersion 5",
+        ),
+        (
+            SliceError::Ipv6(ipv6::HeaderError::UnexpectedVersion { version_number: 4 }),
+            "UnexpectedVersion 4",
+        ),
+        (
+            SliceError::Ipv6Exts(ipv6_exts::HeaderError::HopByHopNotAtStart),
+            "HopByHopNotAtStart",
         ),
         (
             SliceError::LinuxSll(linux_sll::HeaderError::UnsupportedPacketTypeField {

@@ -1,3 +1,6 @@
+pub mod IcmpLemmas
+pub mod Icmpv4Lemmas
+pub mod Icmpv6Lemmas
 pub mod SumLemmas
 pub mod TcpLemmas
 pub mod TcpOptionLemmas
@@ -5,3 +8,4 @@ pub mod TcpOptionItems
 pub mod TcpOptionReads
 pub mod TransportLemmas
 pub mod UdpLemmas
+pub mod TransportPlaces

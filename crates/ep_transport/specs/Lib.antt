@@ -1,8 +1,14 @@
+pub mod Icmp
+pub mod Icmpv4
+pub mod Icmpv4Slices
+pub mod Icmpv6
+pub mod Icmpv6Slices
 pub mod PseudoHeaders
 pub mod Tcp
 pub mod TcpOptionBytes
 pub mod TcpOptionSteps
 pub mod TcpSlices
+pub mod TransportHeaders
 pub mod TransportParts
 pub mod Udp
 pub mod UdpSlices

@@ -8,6 +8,8 @@ ghost use Rattle.ep_base.specs.Bytes.{AreBytes};
 ghost use Rattle.ep_base.specs.Checksum.{ones_sum, checksum_of, no_zero};
 ghost use Rattle.ep_base.specs.Layer.{Reading};
 ghost use Rattle.ep_base.specs.Tables.{IsDecided};
+ghost use Rattle.ep_base.specs.declared.err.len_error.LenError.{LenError};
+ghost use Rattle.ep_base.specs.declared.err.tcp.HeaderSliceError.TheVariants as header_error;
 ghost use Rattle.ep_transport.specs.Udp.{IsUdp, IsUdpHeader, RefusesUdp, RefusesUdpHeader, udp_bytes};
 ghost use Rattle.ep_transport.specs.Tcp.{IsTcp, RefusesTcp, tcp_bytes, default_tcp_header};
 ghost use Rattle.ep_transport.specs.TcpOptionBytes.{FitsOption, IsNextOption, RefusesOption, AreItems, as_read, in_words, options_bytes};
@@ -15,6 +17,8 @@ ghost use Rattle.ep_transport.specs.PseudoHeaders.{udp_message, tcp_message, tcp
 ghost use Rattle.ep_transport.specs.declared.udp_header.UdpHeader.{UdpHeader};
 ghost use Rattle.ep_transport.specs.declared.tcp_header.TcpHeader.{TcpHeader};
 ghost use Rattle.ep_transport.specs.TransportParts.{TransportLayer, AreTransport, IsTransportPart, RefusesTransportPart};
+
+pub mod icmp;
 
 use crate::{TcpHeader, TcpOptions, UdpHeader};
 
@@ -45,6 +49,12 @@ pub fn tcp_option_items()
         × AreItems bytes items × (length items ≤ length bytes) }
     ensures one { (bytes : List ℕ) (items others : List (Result TcpOptionElement TcpOptionReadError))
         → AreItems bytes items → AreItems bytes others → items ≡ others }
+{}
+
+/// The layer whose bytes are missing, where an IP payload is refused, starts where the payload does.
+pub fn transport_places()
+    ensures { (reading : Reading) (number : ℕ) (fragmented : Bool) (bytes : List ℕ) (error : LenError)
+        → RefusesTransportPart reading number fragmented bytes (header_error.Len error) → error.layer_start_offset ≡ 0 }
 {}
 
 /// Options that are written, and filled up to words, are read back, the blocks of a selective acknowledgement moved to

@@ -19,6 +19,7 @@ use ep_base::IpNumber;
 use ep_base::checksum::Sum16BitWords;
 use ep_base::err::tcp::HeaderSliceError;
 use ep_base::err::{ValueTooBigError, ValueType};
+use ep_ip::{Ipv4Header, Ipv6Header};
 use std::alloc::AllocError;
 
 /// The header of a TCP segment (RFC 9293, 3.1): 20 to 60 bytes.
@@ -167,6 +168,25 @@ impl TcpHeader {
         buf.extend_from_slice(bytes.as_slice())
     }
 
+    /// The checksum behind this IPv4 header, whatever checksum the header holds. Header and payload above 65535 bytes
+    /// are refused.
+    pub fn calc_checksum_ipv4(
+        &self,
+        ip_header: &Ipv4Header,
+        payload: &[u8],
+    ) -> Result<u16, ValueTooBigError<usize>>
+        ensures { MatchResult result
+            (λ sum. (length payload.now ≤ 65535 - tcp_header_len self.now)
+            × (sum ≡ tcp_checksum_ipv4 ip_header.now.source ip_header.now.destination self.now payload.now))
+            (λ error. (65535 - tcp_header_len self.now < length payload.now) × (error ≡ record {
+              actual = length payload.now;
+              max_allowed = 65535 - tcp_header_len self.now;
+              value_type = value_type.TcpPayloadLengthIpv4;
+            })) }
+    {
+        self.calc_checksum_ipv4_raw(ip_header.source, ip_header.destination, payload)
+    }
+
     /// The checksum over IPv4, with these addresses, whatever checksum the header holds. Header and payload above 65535
     /// bytes are refused.
     pub fn calc_checksum_ipv4_raw(
@@ -195,6 +215,25 @@ impl TcpHeader {
         let len = (self.header_len() + payload.len()) as u16;
         let sum = pseudo_header::sum_ipv4(source, destination, IpNumber::TCP, len);
         Ok(self.checksum_behind(&sum, payload))
+    }
+
+    /// The checksum behind this IPv6 header, whatever checksum the header holds. Header and payload above 4294967295
+    /// bytes are refused.
+    pub fn calc_checksum_ipv6(
+        &self,
+        ip_header: &Ipv6Header,
+        payload: &[u8],
+    ) -> Result<u16, ValueTooBigError<usize>>
+        ensures { MatchResult result
+            (λ sum. (length payload.now ≤ 4294967295 - tcp_header_len self.now)
+            × (sum ≡ tcp_checksum_ipv6 ip_header.now.source ip_header.now.destination self.now payload.now))
+            (λ error. (4294967295 - tcp_header_len self.now < length payload.now) × (error ≡ record {
+              actual = length payload.now;
+              max_allowed = 4294967295 - tcp_header_len self.now;
+              value_type = value_type.TcpPayloadLengthIpv6;
+            })) }
+    {
+        self.calc_checksum_ipv6_raw(ip_header.source, ip_header.destination, payload)
     }
 
     /// The checksum over IPv6, with these addresses, whatever checksum the header holds. Header and payload above

@@ -1,6 +1,8 @@
 //! What no contract says: rows from outside, and that calls succeed.
 
+mod icmp;
 mod tcp;
+mod transport;
 mod udp;
 
 use crate::{Layer, LenError, LenSource};

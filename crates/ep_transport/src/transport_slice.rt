@@ -1,5 +1,8 @@
 //! The transport layer of an IP payload.
 
+use crate::icmpv4_slice::Icmpv4Slice;
+use crate::icmpv6_slice::Icmpv6Slice;
+use crate::tcp_slice::TcpSlice;
 use crate::udp_slice::UdpSlice;
 use ep_base::IpNumber;
 use ep_base::err::tcp;
@@ -9,13 +12,20 @@ use ep_base::err::tcp;
 pub enum TransportSlice<'a> {
     /// A UDP datagram.
     Udp(UdpSlice<'a>),
+    /// A TCP segment.
+    Tcp(TcpSlice<'a>),
+    /// An ICMP message.
+    Icmpv4(Icmpv4Slice<'a>),
+    /// An ICMPv6 message.
+    Icmpv6(Icmpv6Slice<'a>),
 }
 
 impl<'a> TransportSlice<'a> {
     ghost use Rattle.std.specs.Prelude.{◌≡◌, ◌++◌, IfOk, IfErr, IfSome, IsOkAnd, List, ℕ, Option};
     ghost use Rattle.std.specs.Option.{option_map};
     ghost use Rattle.ep_base.specs.Layer.{slices};
-    ghost use Rattle.ep_transport.specs.TransportParts.{TransportLayer, IsTransportPart, RefusesTransportPart, transport_layer_of, transport_slice_bytes, transport_payload, transport_header_len};
+    ghost use Rattle.ep_transport.specs.TransportParts.{TransportLayer, IsTransportPart, RefusesTransportPart, transport_layer_of, transport_slice_bytes, transport_payload};
+    ghost use Rattle.ep_transport.specs.TransportHeaders.{transport_header_len};
 
     /// The transport layer at the front of an IP payload of this protocol number. There is none in a fragment, nor
     /// where the number is none whose header is read.
@@ -32,12 +42,46 @@ impl<'a> TransportSlice<'a> {
             (left : List ℕ) × (slice.now ≡ transport_slice_bytes shown ++ left))) }
         ensures err { IfErr result (RefusesTransportPart slices number.0 fragmented slice.now) }
     {
+        TransportSlice::part_of(number, fragmented, slice)
+    }
+
+    /// What `from_ip_number` answers.
+    #[inline]
+    fn part_of(
+        number: IpNumber,
+        fragmented: bool,
+        slice: &'a [u8],
+    ) -> Result<Option<TransportSlice<'a>>, tcp::HeaderSliceError>
+        ensures ok { IfOk result (λ part.
+            IsTransportPart slices number.0 fragmented slice.now (option_map transport_layer_of part)) }
+        ensures bytes { IfOk result (λ part. IfSome part (λ shown.
+            (left : List ℕ) × (slice.now ≡ transport_slice_bytes shown ++ left))) }
+        ensures err { IfErr result (RefusesTransportPart slices number.0 fragmented slice.now) }
+    {
         if fragmented {
             return Ok(None);
         }
         if number == IpNumber::UDP {
             return match UdpSlice::from_slice(slice) {
                 Ok(datagram) => Ok(Some(TransportSlice::Udp(datagram))),
+                Err(error) => Err(tcp::HeaderSliceError::Len(error)),
+            };
+        }
+        if number == IpNumber::TCP {
+            return match TcpSlice::from_slice(slice) {
+                Ok(segment) => Ok(Some(TransportSlice::Tcp(segment))),
+                Err(error) => Err(error),
+            };
+        }
+        if number == IpNumber::ICMP {
+            return match Icmpv4Slice::from_slice(slice) {
+                Ok(message) => Ok(Some(TransportSlice::Icmpv4(message))),
+                Err(error) => Err(tcp::HeaderSliceError::Len(error)),
+            };
+        }
+        if number == IpNumber::IPV6_ICMP {
+            return match Icmpv6Slice::from_slice(slice) {
+                Ok(message) => Ok(Some(TransportSlice::Icmpv6(message))),
                 Err(error) => Err(tcp::HeaderSliceError::Len(error)),
             };
         }
@@ -51,6 +95,9 @@ impl<'a> TransportSlice<'a> {
     {
         match self {
             TransportSlice::Udp(datagram) => datagram.slice(),
+            TransportSlice::Tcp(segment) => segment.slice(),
+            TransportSlice::Icmpv4(message) => message.slice(),
+            TransportSlice::Icmpv6(message) => message.slice(),
         }
     }
 
@@ -61,16 +108,22 @@ impl<'a> TransportSlice<'a> {
     {
         match self {
             TransportSlice::Udp(datagram) => datagram.payload(),
+            TransportSlice::Tcp(segment) => segment.payload(),
+            TransportSlice::Icmpv4(message) => message.payload(),
+            TransportSlice::Icmpv6(message) => message.payload(),
         }
     }
 
     /// The number of bytes of the header.
     #[inline]
     pub fn header_len(&self) -> usize
-        ensures { result ≡ transport_header_len (transport_layer_of self.now) }
+        ensures { result ≡ transport_header_len (transport_layer_of self.now).header }
     {
         match self {
             TransportSlice::Udp(datagram) => datagram.header_len(),
+            TransportSlice::Tcp(segment) => segment.header_len(),
+            TransportSlice::Icmpv4(message) => message.header_len(),
+            TransportSlice::Icmpv6(message) => message.header_len(),
         }
     }
 }

@@ -10,6 +10,7 @@ use crate::pseudo_header;
 use ep_base::checksum::Sum16BitWords;
 use ep_base::err::{Layer, LenError, ValueTooBigError, ValueType};
 use ep_base::{IpNumber, LenSource};
+use ep_ip::{Ipv4Header, Ipv6Header};
 use std::alloc::AllocError;
 
 /// The header of a UDP datagram (RFC 768): four numbers of 16 bits, 8 bytes.
@@ -91,6 +92,24 @@ impl UdpHeader {
         buf.extend_from_slice(&self.to_bytes())
     }
 
+    /// The checksum behind this IPv4 header, whatever checksum the header holds. A payload above 65527 bytes is refused.
+    pub fn calc_checksum_ipv4(
+        &self,
+        ip_header: &Ipv4Header,
+        payload: &[u8],
+    ) -> Result<u16, ValueTooBigError<usize>>
+        ensures { MatchResult result
+            (λ sum. (length payload.now ≤ 65527)
+            × (sum ≡ udp_checksum_ipv4 ip_header.now.source ip_header.now.destination self.now payload.now))
+            (λ error. (65527 < length payload.now) × (error ≡ record {
+              actual = length payload.now;
+              max_allowed = 65527;
+              value_type = value_type.UdpPayloadLengthIpv4;
+            })) }
+    {
+        self.calc_checksum_ipv4_raw(ip_header.source, ip_header.destination, payload)
+    }
+
     /// The checksum over IPv4, with these addresses, whatever checksum the header holds. A payload above 65527 bytes is
     /// refused.
     pub fn calc_checksum_ipv4_raw(
@@ -117,6 +136,25 @@ impl UdpHeader {
         }
         let sum = pseudo_header::sum_ipv4(source, destination, IpNumber::UDP, self.length);
         Ok(self.checksum_behind(&sum, payload))
+    }
+
+    /// The checksum behind this IPv6 header, whatever checksum the header holds. A payload above 4294967287 bytes is
+    /// refused.
+    pub fn calc_checksum_ipv6(
+        &self,
+        ip_header: &Ipv6Header,
+        payload: &[u8],
+    ) -> Result<u16, ValueTooBigError<usize>>
+        ensures { MatchResult result
+            (λ sum. (length payload.now ≤ 4294967287)
+            × (sum ≡ udp_checksum_ipv6 ip_header.now.source ip_header.now.destination self.now payload.now))
+            (λ error. (4294967287 < length payload.now) × (error ≡ record {
+              actual = length payload.now;
+              max_allowed = 4294967287;
+              value_type = value_type.UdpPayloadLengthIpv6;
+            })) }
+    {
+        self.calc_checksum_ipv6_raw(ip_header.source, ip_header.destination, payload)
     }
 
     /// The checksum over IPv6, with these addresses, whatever checksum the header holds. A payload above 4294967287

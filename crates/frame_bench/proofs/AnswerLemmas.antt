@@ -1,5 +1,6 @@
 -- Each input has one output.
-use Rattle.std.proofs.Common.{◌≡◌, ◌≢◌, ◌⊎◌, inl, inr, ℕ, List, [], ◌∷◌, ◌++◌, refl, sym, ap, ◌∙◌, subst, arith, Result, Ok, Err}
+use Rattle.std.proofs.Common.{◌≡◌, ◌≢◌, ◌⊎◌, inl, inr, ℕ, List, [], ◌∷◌, ◌++◌}
+use Rattle.std.proofs.Common.{refl, sym, ap, ◌∙◌, subst, arith, Result, Ok, Err}
 use Rattle.std.specs.Prelude.{codes}
 use Rattle.std.proofs.lemmas.Bool.{cases_eq}
 use Rattle.hex.specs.Hex.{decode_of}
@@ -15,7 +16,7 @@ use Rattle.frame_bench.specs.Replies.{IsReply, IsSliceReply, frame_entry, layers
 use Rattle.frame_bench.specs.Lines.{line_feed, lines_of, space}
 use Rattle.frame_bench.specs.Requests.{Asks, IsHex, entry_word}
 use Rattle.frame_bench.specs.declared.requests.Entry.{Entry}
-use Rattle.frame_bench.specs.declared.requests.Entry.TheVariants.{Ethernet, LinuxSll}
+use Rattle.frame_bench.specs.declared.requests.Entry.TheVariants.{Ethernet, LinuxSll, Ip}
 use Rattle.frame_bench.specs.declared.requests.Request.{Request}
 use Rattle.frame_bench.specs.declared.requests.Request.TheVariants.{Slice}
 use Rattle.frame_bench.proofs.RequestLemmas.{asked_again}
@@ -113,6 +114,7 @@ front_of : (line rest : List ℕ) (entry : Entry) → line ≡ codes "slice" ++ 
     → line ≡ slice_front entry ++ rest
 front_of line rest Ethernet parts = parts
 front_of line rest LinuxSll parts = parts
+front_of line rest Ip parts = parts
 
 -- a line that begins with no entry's words asks nothing
 no_ask : (line : List ℕ) → ((entry : Entry) (rest : List ℕ) → line ≢ slice_front entry ++ rest)
@@ -136,12 +138,13 @@ ask_behind line rest entry parts =
           inr (λ request bytes asks. none bytes (again request bytes asks).1)
     ]
 
--- and with no entry's words, where it begins with neither
+-- and with no entry's words, where it begins with none of them
 no_entry : (line : List ℕ) → ((rest : List ℕ) → line ≢ slice_front Ethernet ++ rest)
-    → ((rest : List ℕ) → line ≢ slice_front LinuxSll ++ rest)
+    → ((rest : List ℕ) → line ≢ slice_front LinuxSll ++ rest) → ((rest : List ℕ) → line ≢ slice_front Ip ++ rest)
     → (entry : Entry) (rest : List ℕ) → line ≢ slice_front entry ++ rest
-no_entry line no_ethernet no_linux_sll Ethernet = no_ethernet
-no_entry line no_ethernet no_linux_sll LinuxSll = no_linux_sll
+no_entry line no_ethernet no_linux_sll no_ip Ethernet = no_ethernet
+no_entry line no_ethernet no_linux_sll no_ip LinuxSll = no_linux_sll
+no_entry line no_ethernet no_linux_sll no_ip Ip = no_ip
 
 -- a line asks something or nothing
 ask_cases : (line : List ℕ) → AsksOrNot line
@@ -150,7 +153,10 @@ ask_cases line =
       | inl found ↦ ask_behind line found.0 Ethernet found.1
       | inr no_ethernet ↦ elim (front_cases (slice_front LinuxSll) line) [
         | inl found ↦ ask_behind line found.0 LinuxSll found.1
-        | inr no_linux_sll ↦ inr (no_ask line (λ entry. no_entry line no_ethernet no_linux_sll entry))
+        | inr no_linux_sll ↦ elim (front_cases (slice_front Ip) line) [
+          | inl found ↦ ask_behind line found.0 Ip found.1
+          | inr no_ip ↦ inr (no_ask line (λ entry. no_entry line no_ethernet no_linux_sll no_ip entry))
+        ]
       ]
     ]
 

@@ -4,22 +4,27 @@ use Rattle.std.specs.Fmt.{decimal}
 use Rattle.hex.specs.Hex.{encode_lower}
 use Rattle.ep_base.specs.Names.{layer_name, len_source_name}
 use Rattle.ep_base.specs.declared.err.ip_auth.HeaderError.TheVariants as auth_error
+use Rattle.ep_base.specs.declared.err.ip.HeaderError.TheVariants as ip_error
 use Rattle.ep_base.specs.declared.err.ipv4.HeaderError.TheVariants as ipv4_error
+use Rattle.ep_base.specs.declared.err.ipv6.HeaderError.TheVariants as ipv6_error
+use Rattle.ep_base.specs.declared.err.ipv6_exts.HeaderError.TheVariants as exts_error
 use Rattle.ep_base.specs.declared.err.linux_sll.HeaderError.TheVariants as linux_sll_error
 use Rattle.ep_base.specs.declared.err.macsec.HeaderError.TheVariants as macsec_error
 use Rattle.ep_link.specs.LinkExtensions.{LinkExtension, vlan, macsec}
 use Rattle.ep_link.specs.LinkSlices.{LinkLayer, ethernet2, linux_sll as sll, ether_payload, linux_sll_payload}
-use Rattle.ep_transport.specs.TransportParts.{TransportLayer, udp}
+use Rattle.ep_transport.specs.declared.transport_header.TransportHeader.{TransportHeader}
+use Rattle.ep_transport.specs.declared.transport_header.TransportHeader.TheVariants as header
+use Rattle.ep_transport.specs.TransportParts.{TransportLayer}
 use Rattle.ep_base.specs.declared.err.tcp.HeaderError.TheVariants as tcp_error
 use Rattle.ep_packet.specs.declared.err.slice_error.SliceError.{SliceError}
-use Rattle.ep_packet.specs.declared.err.slice_error.SliceError.TheVariants.{Len, LinuxSll, Macsec, Ipv4, Ipv4Exts, Tcp}
+use Rattle.ep_packet.specs.declared.err.slice_error.SliceError.TheVariants.{Len, LinuxSll, Macsec, Ip, Ipv4, Ipv6, Ipv4Exts, Ipv6Exts, Tcp}
 use Rattle.ep_packet.specs.Frame.{IsFrame}
 use Rattle.ep_packet.specs.FrameBytes.{last_payload}
-use Rattle.ep_packet.specs.Layers.{Entry as FrameEntry, ethernet, linux_sll, Layers, NetLayer, ipv4, arp}
+use Rattle.ep_packet.specs.Layers.{Entry as FrameEntry, ethernet, linux_sll, ip, Layers, NetLayer, ipv4, ipv6, arp}
 use Rattle.ep_packet.specs.Refusals.{RefusesFrame}
 use Rattle.frame_bench.specs.Lines.{words}
 use Rattle.frame_bench.specs.declared.requests.Entry.{Entry}
-use Rattle.frame_bench.specs.declared.requests.Entry.TheVariants.{Ethernet, LinuxSll as Sll}
+use Rattle.frame_bench.specs.declared.requests.Entry.TheVariants.{Ethernet, LinuxSll as Sll, Ip as IpEntry}
 use Rattle.frame_bench.specs.declared.requests.Request.{Request}
 use Rattle.frame_bench.specs.declared.requests.Request.TheVariants.{Slice}
 
@@ -27,6 +32,7 @@ use Rattle.frame_bench.specs.declared.requests.Request.TheVariants.{Slice}
 abbrev pub frame_entry : Entry → FrameEntry
 frame_entry Ethernet = ethernet
 frame_entry Sll = linux_sll
+frame_entry IpEntry = ip
 
 -- the word for what is not there
 abbrev pub absent : List ℕ
@@ -66,13 +72,21 @@ extensions_word (extension ∷ others) = extension_text extension ++ further_ext
 
 -- the word for a net layer
 abbrev pub net_word : Option NetLayer → List ℕ
-net_word (Some (ipv4 header payload)) = codes "ipv4"
+net_word (Some (ipv4 header extensions payload)) = codes "ipv4"
+net_word (Some (ipv6 header extensions payload)) = codes "ipv6"
 net_word (Some (arp packet)) = codes "arp"
 net_word None = absent
 
+-- the word for a transport header
+abbrev pub transport_header_word : TransportHeader → List ℕ
+transport_header_word (header.Udp header) = codes "udp"
+transport_header_word (header.Tcp header) = codes "tcp"
+transport_header_word (header.Icmpv4 header) = codes "icmpv4"
+transport_header_word (header.Icmpv6 header) = codes "icmpv6"
+
 -- the word for a transport layer
 abbrev pub transport_word : Option TransportLayer → List ℕ
-transport_word (Some (udp header payload)) = codes "udp"
+transport_word (Some layer) = transport_header_word layer.header
 transport_word None = absent
 
 -- The text of a frame's layers: link, link extensions, net, transport, and the payload of the innermost.
@@ -92,11 +106,20 @@ refusal_text (LinuxSll (linux_sll_error.UnsupportedArpHardwareId number)) =
     words (codes "err" ∷ codes "sll-arp-hardware" ∷ decimal number ∷ [])
 refusal_text (Macsec macsec_error.UnexpectedVersion) = words (codes "err" ∷ codes "macsec-version" ∷ [])
 refusal_text (Macsec macsec_error.InvalidUnmodifiedShortLen) = words (codes "err" ∷ codes "macsec-short-length" ∷ [])
+refusal_text (Ip (ip_error.UnsupportedIpVersion version)) =
+    words (codes "err" ∷ codes "ip-version" ∷ decimal version ∷ [])
+refusal_text (Ip (ip_error.Ipv4HeaderLengthSmallerThanHeader ihl)) =
+    words (codes "err" ∷ codes "ip-ihl" ∷ decimal ihl ∷ [])
 refusal_text (Ipv4 (ipv4_error.UnexpectedVersion version)) =
     words (codes "err" ∷ codes "ipv4-version" ∷ decimal version ∷ [])
 refusal_text (Ipv4 (ipv4_error.HeaderLengthSmallerThanHeader ihl)) =
     words (codes "err" ∷ codes "ipv4-ihl" ∷ decimal ihl ∷ [])
+refusal_text (Ipv6 (ipv6_error.UnexpectedVersion version)) =
+    words (codes "err" ∷ codes "ipv6-version" ∷ decimal version ∷ [])
 refusal_text (Ipv4Exts auth_error.ZeroPayloadLen) = words (codes "err" ∷ codes "ipv4-auth-zero" ∷ [])
+refusal_text (Ipv6Exts exts_error.HopByHopNotAtStart) = words (codes "err" ∷ codes "ipv6-hop-by-hop" ∷ [])
+refusal_text (Ipv6Exts (exts_error.IpAuth auth_error.ZeroPayloadLen)) =
+    words (codes "err" ∷ codes "ipv6-auth-zero" ∷ [])
 refusal_text (Tcp (tcp_error.DataOffsetTooSmall data_offset)) =
     words (codes "err" ∷ codes "tcp-data-offset" ∷ decimal data_offset ∷ [])
 

@@ -3,7 +3,7 @@ use Rattle.std.specs.Prelude.{◌≡◌, ℕ, ◌<◌, ◌⊎◌, List, [], ◌�
 use Rattle.hex.specs.Hex.{decode_of}
 use Rattle.frame_bench.specs.Lines.{words}
 use Rattle.frame_bench.specs.declared.requests.Entry.{Entry}
-use Rattle.frame_bench.specs.declared.requests.Entry.TheVariants.{Ethernet, LinuxSll}
+use Rattle.frame_bench.specs.declared.requests.Entry.TheVariants.{Ethernet, LinuxSll, Ip}
 use Rattle.frame_bench.specs.declared.requests.Request.{Request}
 use Rattle.frame_bench.specs.declared.requests.Request.TheVariants.{Slice}
 
@@ -11,6 +11,7 @@ use Rattle.frame_bench.specs.declared.requests.Request.TheVariants.{Slice}
 abbrev pub entry_word : Entry → List ℕ
 entry_word Ethernet = codes "eth"
 entry_word LinuxSll = codes "sll"
+entry_word Ip = codes "ip"
 
 -- the bytes that a text says: `-` none, and else each byte by two hexadecimal digits of either case
 abbrev pub IsHex : List ℕ → List ℕ → Type 0

@@ -16,6 +16,8 @@ pub enum Entry {
     Ethernet,
     /// The header of a Linux cooked capture (SLL v1).
     LinuxSll,
+    /// An IP packet.
+    Ip,
 }
 
 /// What a line asks of its bytes.
@@ -52,8 +54,11 @@ fn entry_at(text: &[u8]) -> Option<(Entry, &[u8])>
     if let Some(rest) = behind(text, b"eth") {
         return Some((Entry::Ethernet, rest));
     }
-    let rest = behind(text, b"sll")?;
-    Some((Entry::LinuxSll, rest))
+    if let Some(rest) = behind(text, b"sll") {
+        return Some((Entry::LinuxSll, rest));
+    }
+    let rest = behind(text, b"ip")?;
+    Some((Entry::Ip, rest))
 }
 
 /// What stands behind a word and a space at the front of a text.

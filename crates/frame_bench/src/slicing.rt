@@ -9,11 +9,12 @@ ghost use Rattle.ep_packet.specs.FrameBytes.{last_payload, link_payload, payload
 ghost use Rattle.ep_packet.specs.Layers.{layers_of, net_layer_of};
 ghost use Rattle.ep_packet.specs.Refusals.{RefusesFrame};
 ghost use Rattle.ep_transport.specs.TransportParts.{transport_layer_of};
-ghost use Rattle.frame_bench.specs.Replies.{IsSliceReply, frame_entry, extension_text, extensions_word, layers_text, link_word, net_word, refusal_text, transport_word};
+ghost use Rattle.frame_bench.specs.Replies.{IsSliceReply, frame_entry, extension_text, extensions_word};
+ghost use Rattle.frame_bench.specs.Replies.{layers_text, link_word, net_word, refusal_text, transport_word};
 
 use crate::hex_text;
 use crate::requests::Entry;
-use ep_base::err::{LenError, ip_auth, ipv4, linux_sll, macsec, tcp};
+use ep_base::err::{LenError, ip, ip_auth, ipv4, ipv6, ipv6_exts, linux_sll, macsec, tcp};
 use ep_link::{LinkExtSlice, LinkSlice};
 use ep_packet::err::SliceError;
 use ep_packet::{NetSlice, SlicedPacket};
@@ -40,6 +41,7 @@ fn slice_at(entry: Entry, bytes: &[u8]) -> Result<SlicedPacket<'_>, SliceError>
     match entry {
         Entry::Ethernet => SlicedPacket::from_ethernet(bytes),
         Entry::LinuxSll => SlicedPacket::from_linux_sll(bytes),
+        Entry::Ip => SlicedPacket::from_ip(bytes),
     }
 }
 
@@ -102,6 +104,7 @@ fn net_word(net: &Option<NetSlice<'_>>) -> &'static str
 {
     match net {
         Some(NetSlice::Ipv4(_)) => "ipv4",
+        Some(NetSlice::Ipv6(_)) => "ipv6",
         Some(NetSlice::Arp(_)) => "arp",
         None => "-",
     }
@@ -113,6 +116,9 @@ fn transport_word(transport: &Option<TransportSlice<'_>>) -> &'static str
 {
     match transport {
         Some(TransportSlice::Udp(_)) => "udp",
+        Some(TransportSlice::Tcp(_)) => "tcp",
+        Some(TransportSlice::Icmpv4(_)) => "icmpv4",
+        Some(TransportSlice::Icmpv6(_)) => "icmpv6",
         None => "-",
     }
 }
@@ -121,28 +127,31 @@ fn transport_word(transport: &Option<TransportSlice<'_>>) -> &'static str
 fn innermost_payload<'a>(packet: &SlicedPacket<'a>) -> &'a [u8]
     ensures { result.now ≡ last_payload (layers_of packet.now) }
 {
-    if let Some(TransportSlice::Udp(datagram)) = &packet.transport {
-        return datagram.payload();
+    if let Some(transport) = &packet.transport {
+        return transport.payload();
     }
     match &packet.net {
-        Some(NetSlice::Ipv4(ipv4)) => ipv4.payload().payload,
+        Some(NetSlice::Ipv4(packet)) => packet.payload().payload,
+        Some(NetSlice::Ipv6(packet)) => packet.payload().payload,
         Some(NetSlice::Arp(_)) => &[],
         None => open_payload(packet),
     }
 }
 
-/// The bytes behind the last link extension, or else behind the link header.
+/// The bytes behind the link header and the link extensions.
 fn open_payload<'a>(packet: &SlicedPacket<'a>) -> &'a [u8]
     ensures { let layers = layers_of packet.now in
         result.now ≡ payload_behind (link_payload layers.link) layers.link_exts }
 {
-    if let Some(extension) = packet.link_exts.last() {
-        return extension.payload_slice();
-    }
-    match &packet.link {
+    let mut payload: &'a [u8] = match &packet.link {
         Some(link) => link.payload_slice(),
         None => &[],
+    };
+    let extensions = packet.link_exts.as_slice();
+    for extension in extensions {
+        payload = extension.payload_slice();
     }
+    payload
 }
 
 /// Appends the text of a refusal.
@@ -162,15 +171,30 @@ fn push_refusal(output: &mut Vec<u8>, error: &SliceError) -> Result<(), AllocErr
         SliceError::Macsec(macsec::HeaderError::InvalidUnmodifiedShortLen) => {
             output.extend_from_slice(b"err macsec-short-length")
         }
+        SliceError::Ip(ip::HeaderError::UnsupportedIpVersion { version_number }) => {
+            write!(output, "err ip-version {version_number}").map_err(|_| AllocError)
+        }
+        SliceError::Ip(ip::HeaderError::Ipv4HeaderLengthSmallerThanHeader { ihl }) => {
+            write!(output, "err ip-ihl {ihl}").map_err(|_| AllocError)
+        }
         SliceError::Ipv4(ipv4::HeaderError::UnexpectedVersion { version_number }) => {
             write!(output, "err ipv4-version {version_number}").map_err(|_| AllocError)
         }
         SliceError::Ipv4(ipv4::HeaderError::HeaderLengthSmallerThanHeader { ihl }) => {
             write!(output, "err ipv4-ihl {ihl}").map_err(|_| AllocError)
         }
+        SliceError::Ipv6(ipv6::HeaderError::UnexpectedVersion { version_number }) => {
+            write!(output, "err ipv6-version {version_number}").map_err(|_| AllocError)
+        }
         SliceError::Ipv4Exts(ip_auth::HeaderError::ZeroPayloadLen) => {
             output.extend_from_slice(b"err ipv4-auth-zero")
         }
+        SliceError::Ipv6Exts(ipv6_exts::HeaderError::HopByHopNotAtStart) => {
+            output.extend_from_slice(b"err ipv6-hop-by-hop")
+        }
+        SliceError::Ipv6Exts(
+            ipv6_exts::HeaderError::IpAuth(ip_auth::HeaderError::ZeroPayloadLen),
+        ) => output.extend_from_slice(b"err ipv6-auth-zero"),
         SliceError::Tcp(tcp::HeaderError::DataOffsetTooSmall { data_offset }) => {
             write!(output, "err tcp-data-offset {data_offset}").map_err(|_| AllocError)
         }

@@ -12,14 +12,16 @@ use std::process::Abort;
 use std::test::Fail;
 
 /// Lines and their answers.
-const ROWS: [(&str, &str); 58] = [
+const ROWS: [(&str, &str); 57] = [
     // The whole frame, and with padding behind the packet.
     (
-        "slice eth 0708090a0b0c010203040506080045000024000040001411e375c0a80101c0a80102001504d20010677f0102030405060708",
+        "slice eth 0708090a0b0c0102030405060800\
+        45000024000040001411e375c0a80101c0a80102001504d20010677f0102030405060708",
         "ok eth - ipv4 udp 0102030405060708",
     ),
     (
-        "slice eth 0708090a0b0c010203040506080045000024000040001411e375c0a80101c0a80102001504d20010677f010203040506070800000000000000000000",
+        "slice eth 0708090a0b0c0102030405060800\
+        45000024000040001411e375c0a80101c0a80102001504d20010677f010203040506070800000000000000000000",
         "ok eth - ipv4 udp 0102030405060708",
     ),
     // A checksum that came out zero.
@@ -29,15 +31,18 @@ const ROWS: [(&str, &str); 58] = [
     ),
     // The length of UDP: 5, 17 and 0.
     (
-        "slice eth 0708090a0b0c010203040506080045000024000040001411e375c0a80101c0a80102001504d20005677f0102030405060708",
+        "slice eth 0708090a0b0c0102030405060800\
+        45000024000040001411e375c0a80101c0a80102001504d20005677f0102030405060708",
         "err len 8 5 UdpHeaderLen UdpHeader 34",
     ),
     (
-        "slice eth 0708090a0b0c010203040506080045000024000040001411e375c0a80101c0a80102001504d20011677f0102030405060708",
+        "slice eth 0708090a0b0c0102030405060800\
+        45000024000040001411e375c0a80101c0a80102001504d20011677f0102030405060708",
         "err len 17 16 Ipv4HeaderTotalLen UdpPayload 34",
     ),
     (
-        "slice eth 0708090a0b0c010203040506080045000024000040001411e375c0a80101c0a80102001504d20000677f0102030405060708",
+        "slice eth 0708090a0b0c0102030405060800\
+        45000024000040001411e375c0a80101c0a80102001504d20000677f0102030405060708",
         "ok eth - ipv4 udp 0102030405060708",
     ),
     // A fragment.
@@ -47,28 +52,34 @@ const ROWS: [(&str, &str); 58] = [
     ),
     // The total length of IPv4: 19, 27 and 65535.
     (
-        "slice eth 0708090a0b0c010203040506080045000013000040001411e375c0a80101c0a80102001504d20010677f0102030405060708",
+        "slice eth 0708090a0b0c0102030405060800\
+        45000013000040001411e375c0a80101c0a80102001504d20010677f0102030405060708",
         "err len 20 19 Ipv4HeaderTotalLen Ipv4Packet 14",
     ),
     (
-        "slice eth 0708090a0b0c01020304050608004500001b000040001411e375c0a80101c0a80102001504d20010677f0102030405060708",
+        "slice eth 0708090a0b0c0102030405060800\
+        4500001b000040001411e375c0a80101c0a80102001504d20010677f0102030405060708",
         "err len 8 7 Ipv4HeaderTotalLen UdpHeader 34",
     ),
     (
-        "slice eth 0708090a0b0c01020304050608004500ffff000040001411e375c0a80101c0a80102001504d20010677f0102030405060708",
+        "slice eth 0708090a0b0c0102030405060800\
+        4500ffff000040001411e375c0a80101c0a80102001504d20010677f0102030405060708",
         "err len 65535 36 Slice Ipv4Packet 14",
     ),
     // The first byte of IPv4.
     (
-        "slice eth 0708090a0b0c010203040506080044000024000040001411e375c0a80101c0a80102001504d20010677f0102030405060708",
+        "slice eth 0708090a0b0c0102030405060800\
+        44000024000040001411e375c0a80101c0a80102001504d20010677f0102030405060708",
         "err ipv4-ihl 4",
     ),
     (
-        "slice eth 0708090a0b0c010203040506080055000024000040001411e375c0a80101c0a80102001504d20010677f0102030405060708",
+        "slice eth 0708090a0b0c0102030405060800\
+        55000024000040001411e375c0a80101c0a80102001504d20010677f0102030405060708",
         "err ipv4-version 5",
     ),
     (
-        "slice eth 0708090a0b0c01020304050608004f000024000040001411e375c0a80101c0a80102001504d20010677f0102030405060708",
+        "slice eth 0708090a0b0c0102030405060800\
+        4f000024000040001411e375c0a80101c0a80102001504d20010677f0102030405060708",
         "err len 60 36 Slice Ipv4Header 14",
     ),
     // An ether type that is not read, with payload and without.
@@ -87,11 +98,13 @@ const ROWS: [(&str, &str); 58] = [
         "ok eth vlan:291,vlan:1,vlan:4095 - - 0a0b",
     ),
     (
-        "slice eth 0708090a0b0c01020304050681000001080045000024000040001411e375c0a80101c0a80102001504d20010677f0102030405060708",
+        "slice eth 0708090a0b0c010203040506810000010800\
+        45000024000040001411e375c0a80101c0a80102001504d20010677f0102030405060708",
         "ok eth vlan:1 ipv4 udp 0102030405060708",
     ),
     (
-        "slice eth 0708090a0b0c01020304050688a8012381000234080045000024000040001411e375c0a80101c0a80102001504d20010677f0102030405060708",
+        "slice eth 0708090a0b0c01020304050688a80123810002340800\
+        45000024000040001411e375c0a80101c0a80102001504d20010677f0102030405060708",
         "ok eth vlan:291,vlan:564 ipv4 udp 0102030405060708",
     ),
     (
@@ -128,7 +141,8 @@ const ROWS: [(&str, &str); 58] = [
         "ok eth macsec,vlan:1,vlan:2 - - 00030800",
     ),
     (
-        "slice eth 0708090a0b0c01020304050688e5002600000001080045000024000040001411e375c0a80101c0a80102001504d20010677f0102030405060708aabb",
+        "slice eth 0708090a0b0c01020304050688e50026000000010800\
+        45000024000040001411e375c0a80101c0a80102001504d20010677f0102030405060708aabb",
         "ok eth macsec ipv4 udp 0102030405060708",
     ),
     (
@@ -150,11 +164,13 @@ const ROWS: [(&str, &str); 58] = [
     ),
     // Linux cooked captures: IPv4, a loopback device, netlink, and each refusal.
     (
-        "slice sll 0003000100060102030405060000080045000024000040001411e375c0a80101c0a80102001504d20010677f0102030405060708",
+        "slice sll 00030001000601020304050600000800\
+        45000024000040001411e375c0a80101c0a80102001504d20010677f0102030405060708",
         "ok sll - ipv4 udp 0102030405060708",
     ),
     (
-        "slice sll 0003030400060102030405060000080045000024000040001411e375c0a80101c0a80102001504d20010677f0102030405060708",
+        "slice sll 00030304000601020304050600000800\
+        45000024000040001411e375c0a80101c0a80102001504d20010677f0102030405060708",
         "ok sll - ipv4 udp 0102030405060708",
     ),
     (
@@ -174,7 +190,8 @@ const ROWS: [(&str, &str); 58] = [
         "ok sll - - - 0102",
     ),
     (
-        "slice sll 0003010800060102030405060000080045000024000040001411e375c0a80101c0a80102001504d20010677f0102030405060708",
+        "slice sll 00030108000601020304050600000800\
+        45000024000040001411e375c0a80101c0a80102001504d20010677f0102030405060708",
         "err sll-arp-hardware 264",
     ),
     (
@@ -195,12 +212,161 @@ const ROWS: [(&str, &str); 58] = [
     ("slice sll", "err line"),
     ("slice sll  -", "err line"),
     ("slice ether -", "err line"),
-    ("slice ip -", "err line"),
     // A carriage return before the line feed.
     ("slice eth -\r", "err line"),
     ("slice eth 0708090A0B0C0102030405061234\r", "err line"),
     ("frag eth 1 0 -", "err line"),
     ("drop 3", "err line"),
+];
+
+/// Lines about IP packets of either version, their extension headers, TCP and ICMP, and their answers.
+const IP_ROWS: [(&str, &str); 36] = [
+    // IP of open version.
+    ("slice ip -", "err len 1 0 Slice IpHeader 0"),
+    ("slice ip 50", "err ip-version 5"),
+    (
+        "slice ip 440000140000000040110000c0a80101c0a80102",
+        "err ip-ihl 4",
+    ),
+    (
+        "slice ip 45000024000040001411e375c0a80101c0a80102001504d20010677f0102030405060708",
+        "ok - - ipv4 udp 0102030405060708",
+    ),
+    // IPv6: no next header, with payload length 0 and up to 4 bytes, and a fragment header twice.
+    (
+        "slice ip 6000000000003b400000000000000000000000000000000000000000000000000000000000000000",
+        "ok - - ipv6 - -",
+    ),
+    (
+        "slice ip 6000000000003b40000000000000000000000000000000000000000000000000000000000000000001",
+        "ok - - ipv6 - 01",
+    ),
+    (
+        "slice ip 6000000000003b4000000000000000000000000000000000000000000000000000000000000000000102",
+        "ok - - ipv6 - 0102",
+    ),
+    (
+        "slice ip 6000000000003b400000000000000000000000000000000000000000000000000000000000000000010203",
+        "ok - - ipv6 - 010203",
+    ),
+    (
+        "slice ip 6000000000003b40000000000000000000000000000000000000000000000000000000000000000001020304",
+        "ok - - ipv6 - 01020304",
+    ),
+    (
+        "slice ip 6000000000182c4000000000000000000000000000000000000000000000000000000000000000002c0000000000000111000001000000020001020304050607",
+        "ok - - ipv6 - 0001020304050607",
+    ),
+    (
+        "slice eth 0708090a0b0c01020304050686dd6000000000182c4000000000000000000000000000000000000000000000000000000000000000002c0000000000000111000001000000020001020304050607",
+        "ok eth - ipv6 - 0001020304050607",
+    ),
+    // IPv6 and UDP behind a hop by hop header, with padding behind the packet.
+    (
+        "slice ip 600000000018004000000000000000000000000000000000000000000000000000000000000000001100000000000000001504d20010677f01020304050607080000",
+        "ok - - ipv6 udp 0102030405060708",
+    ),
+    // Another version behind the type of IPv6.
+    (
+        "slice eth 0708090a0b0c01020304050686dd5000000000003b400000000000000000000000000000000000000000000000000000000000000000",
+        "err ipv6-version 5",
+    ),
+    (
+        "slice eth 0708090a0b0c0102030405068100000186dd5000000000003b400000000000000000000000000000000000000000000000000000000000000000",
+        "err ipv6-version 5",
+    ),
+    // Extension headers of IPv6: hop by hop options that are not first, a length of 0, and too few bytes.
+    (
+        "slice ip 6000000000103c40000000000000000000000000000000000000000000000000000000000000000000000000000000001100000000000000",
+        "err ipv6-hop-by-hop",
+    ),
+    (
+        "slice eth 0708090a0b0c01020304050686dd6000000000103c40000000000000000000000000000000000000000000000000000000000000000000000000000000001100000000000000",
+        "err ipv6-hop-by-hop",
+    ),
+    (
+        "slice eth 0708090a0b0c0102030405068100000186dd6000000000103c40000000000000000000000000000000000000000000000000000000000000000000000000000000001100000000000000",
+        "err ipv6-hop-by-hop",
+    ),
+    (
+        "slice ip 60000000000c334000000000000000000000000000000000000000000000000000000000000000003b0000000000000000000000",
+        "err ipv6-auth-zero",
+    ),
+    (
+        "slice eth 0708090a0b0c01020304050686dd60000000000c334000000000000000000000000000000000000000000000000000000000000000003b0000000000000000000000",
+        "err ipv6-auth-zero",
+    ),
+    (
+        "slice eth 0708090a0b0c0102030405068100000186dd60000000000c334000000000000000000000000000000000000000000000000000000000000000003b0000000000000000000000",
+        "err ipv6-auth-zero",
+    ),
+    (
+        "slice ip 6000000000042c40000000000000000000000000000000000000000000000000000000000000000011000000",
+        "err len 8 4 Ipv6HeaderPayloadLen Ipv6FragHeader 40",
+    ),
+    (
+        "slice eth 0708090a0b0c01020304050686dd6000000000042c40000000000000000000000000000000000000000000000000000000000000000011000000",
+        "err len 8 4 Ipv6HeaderPayloadLen Ipv6FragHeader 54",
+    ),
+    (
+        "slice eth 0708090a0b0c0102030405068100000186dd6000000000042c40000000000000000000000000000000000000000000000000000000000000000011000000",
+        "err len 8 4 Ipv6HeaderPayloadLen Ipv6FragHeader 58",
+    ),
+    (
+        "slice ip 6000000000002c400000000000000000000000000000000000000000000000000000000000000000",
+        "err len 8 0 Ipv6HeaderPayloadLen Ipv6FragHeader 40",
+    ),
+    // The authentication header of IPv4.
+    (
+        "slice ip 450000200000000040330000c0a80101c0a80102110000000000000000000000",
+        "err ipv4-auth-zero",
+    ),
+    (
+        "slice eth 0708090a0b0c0102030405060800450000200000000040330000c0a80101c0a80102110000000000000000000000",
+        "err ipv4-auth-zero",
+    ),
+    (
+        "slice eth 0708090a0b0c010203040506810000010800450000200000000040330000c0a80101c0a80102110000000000000000000000",
+        "err ipv4-auth-zero",
+    ),
+    (
+        "slice ip 4500001c0000000140330000c0a80101c0a801020102030405060708",
+        "err len 12 8 Ipv4HeaderTotalLen IpAuthHeader 20",
+    ),
+    (
+        "slice eth 0708090a0b0c01020304050608004500001c0000000140330000c0a80101c0a801020102030405060708",
+        "err len 12 8 Ipv4HeaderTotalLen IpAuthHeader 34",
+    ),
+    (
+        "slice eth 0708090a0b0c0102030405068100000108004500001c0000000140330000c0a80101c0a801020102030405060708",
+        "err len 12 8 Ipv4HeaderTotalLen IpAuthHeader 38",
+    ),
+    // TCP, its data offset 4 and 15, and a timestamp of ICMP that is too short.
+    (
+        "slice eth 0708090a0b0c010203040506080045000030000040001406e374c0a80101c0a801020015000c000030390000000050020fa0dc7a00000102030405060708",
+        "ok eth - ipv4 tcp 0102030405060708",
+    ),
+    (
+        "slice eth 0708090a0b0c010203040506080045000030000040001406e374c0a80101c0a801020015000c000030390000000040020fa0dc7a00000102030405060708",
+        "err tcp-data-offset 4",
+    ),
+    (
+        "slice eth 0708090a0b0c010203040506080045000030000040001406e374c0a80101c0a801020015000c0000303900000000f0020fa0dc7a00000102030405060708",
+        "err len 60 28 Ipv4HeaderTotalLen TcpHeader 34",
+    ),
+    (
+        "slice ip 450000200000000040010000c0a80101c0a801020d0000000000000000000000",
+        "err len 20 12 Ipv4HeaderTotalLen Icmpv4Timestamp 20",
+    ),
+    // An echo request of ICMP, and of ICMPv6.
+    (
+        "slice ip 45000024000040001401e385c0a80101c0a801020800e5a8007b01c80102030405060708",
+        "ok - - ipv4 icmpv4 0102030405060708",
+    ),
+    (
+        "slice ip 6000000000103a40000000000000000000000000000000000000000000000000000000000000000080000000007b01c80102030405060708",
+        "ok - - ipv6 icmpv6 0102030405060708",
+    ),
 ];
 
 /// Texts whose lines are empty or do not end, and their answers.
@@ -233,9 +399,22 @@ fn all_rows(alloc: Global) -> Result<(Vec<u8>, Vec<u8>), Fail> {
     Ok((input, wanted))
 }
 
+/// The same of the rows about IP, apart, since a table of both is too long for one proof.
+fn ip_rows(alloc: Global) -> Result<(Vec<u8>, Vec<u8>), Fail> {
+    let mut input = Vec::new(alloc);
+    let mut wanted = Vec::new(alloc);
+    for (line, answer) in IP_ROWS {
+        writeln!(input, "{line}")?;
+        writeln!(wanted, "{answer}")?;
+    }
+    Ok((input, wanted))
+}
+
 #[test]
 fn answers_each_row(rt: HostRuntime) -> Result<(), Fail> {
     let (input, wanted) = all_rows(rt.alloc())?;
+    assert_answers(&rt, rt.alloc(), input.as_slice(), wanted.as_slice())?;
+    let (input, wanted) = ip_rows(rt.alloc())?;
     assert_answers(&rt, rt.alloc(), input.as_slice(), wanted.as_slice())?;
     for (input, wanted) in TEXTS {
         assert_answers(&rt, rt.alloc(), input.as_bytes(), wanted.as_bytes())?;
@@ -243,8 +422,8 @@ fn answers_each_row(rt: HostRuntime) -> Result<(), Fail> {
     Ok(())
 }
 
-/// The layers that a frame has to have, by the bytes that are there: up to so many, so many are needed for the layer at this
-/// place, whose end this set.
+/// The layers that a frame has to have, by the bytes that are there: up to so many, so many are needed for the layer at
+/// this place, whose end this set.
 struct Needs {
     entry: &'static str,
     frame: &'static [u8],
@@ -253,7 +432,7 @@ struct Needs {
 }
 
 /// Frames that are cut to each length.
-const CUTS: [Needs; 5] = [
+const CUTS: [Needs; 6] = [
     Needs {
         entry: "eth",
         frame: b"0708090a0b0c010203040506080045000024000040001411e375c0a80101c0a80102001504d20010677f0102030405060708",
@@ -265,7 +444,8 @@ const CUTS: [Needs; 5] = [
     },
     Needs {
         entry: "eth",
-        frame: b"0708090a0b0c010203040506080045000030000040001406e374c0a80101c0a801020015000c000030390000000050020fa0dc7a00000102030405060708",
+        frame: b"0708090a0b0c0102030405060800\
+            45000030000040001406e374c0a80101c0a801020015000c000030390000000050020fa0dc7a00000102030405060708",
         layers: &[
             (14, 14, "Slice", "Ethernet2Header", 0),
             (34, 20, "Slice", "Ipv4Header", 14),
@@ -293,11 +473,21 @@ const CUTS: [Needs; 5] = [
     },
     Needs {
         entry: "sll",
-        frame: b"0003000100060102030405060000080045000024000040001411e375c0a80101c0a80102001504d20010677f0102030405060708",
+        frame: b"00030001000601020304050600000800\
+            45000024000040001411e375c0a80101c0a80102001504d20010677f0102030405060708",
         layers: &[
             (16, 16, "Slice", "LinuxSllHeader", 0),
             (36, 20, "Slice", "Ipv4Header", 16),
             (52, 36, "Slice", "Ipv4Packet", 16),
+        ],
+    },
+    Needs {
+        entry: "ip",
+        frame: b"6000000000182c4000000000000000000000000000000000000000000000000000000000000000002c0000000000000111000001000000020001020304050607",
+        layers: &[
+            (1, 1, "Slice", "IpHeader", 0),
+            (40, 40, "Slice", "Ipv6Header", 0),
+            (64, 64, "Slice", "Ipv6Packet", 0),
         ],
     },
 ];
@@ -352,7 +542,7 @@ fn answers_long_lines(rt: HostRuntime) -> Result<(), Fail> {
     wanted.extend_from_slice(digits.as_slice())?;
     wanted.extend_from_slice(b"\nerr line\nok sll - - - ")?;
     wanted.extend_from_slice(digits.as_slice())?;
-    wanted.extend_from_slice(b"\nerr line\nerr line\n")?;
+    wanted.extend_from_slice(b"\nerr line\nerr ip-version 0\n")?;
     assert_answers(&rt, rt.alloc(), input.as_slice(), wanted.as_slice())
 }
 

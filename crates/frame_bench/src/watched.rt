@@ -1,8 +1,10 @@
 //! A reader or a writer that remembers how its calls went.
 
-ghost use Rattle.std.specs.Prelude.{◌≡◌, ◌==◌, ◌+◌, ◌-◌, ◌^◌, ◌<◌, ◌≤◌, length, true, false, is_err, IfOk, IfErr, MatchResult, OnOk, OnErr};
+ghost use Rattle.std.specs.Prelude.{◌≡◌, ◌==◌, ◌+◌, ◌-◌, ◌^◌, ◌<◌, ◌≤◌, length, true};
+ghost use Rattle.std.specs.Prelude.{false, is_err, IfOk, IfErr, MatchResult, OnOk, OnErr};
 ghost use Rattle.std.specs.Io.KnownBytes.{Appends, IsAtEnd, ReadConsumes, WriteAppends};
-ghost use Rattle.frame_bench.specs.WatchedWords.{AppendsFront, KeepsReads, has_ended, has_failed, inner_of, is_at_end, reads_left};
+ghost use Rattle.frame_bench.specs.WatchedWords.{AppendsFront, KeepsReads, has_ended};
+ghost use Rattle.frame_bench.specs.WatchedWords.{has_failed, inner_of, is_at_end, reads_left};
 
 use crate::run_error::RunError;
 use std::io::{Read, Write};

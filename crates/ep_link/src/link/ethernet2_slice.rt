@@ -16,7 +16,8 @@ impl<'a> Ethernet2Slice<'a> {
     ghost use Rattle.ep_base.specs.declared.len_source.LenSource.TheVariants as source;
     ghost use Rattle.ep_link.specs.declared.link.ethernet2_header.Ethernet2Header.{Ethernet2Header};
     ghost use Rattle.ep_link.specs.Ethernet2.{IsEthernet2, RefusesEthernet2};
-    ghost use Rattle.ep_link.specs.Ethernet2Slices.{ethernet2_slice_bytes, ethernet2_slice_header, ethernet2_slice_payload, ethernet2_slice_parts};
+    ghost use Rattle.ep_link.specs.Ethernet2Slices.{ethernet2_slice_bytes, ethernet2_slice_header};
+    ghost use Rattle.ep_link.specs.Ethernet2Slices.{ethernet2_slice_payload, ethernet2_slice_parts};
 
     /// The frame that the slice is: header and payload, with no frame check sequence at its end.
     pub fn from_slice_without_fcs(slice: &'a [u8]) -> Result<Ethernet2Slice<'a>, LenError>

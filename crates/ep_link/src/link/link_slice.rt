@@ -2,7 +2,8 @@
 
 ghost use Rattle.std.specs.Prelude.{◌≡◌, option_map};
 ghost use Rattle.ep_link.specs.EtherPayloads.{ether_payload_of};
-ghost use Rattle.ep_link.specs.LinkSlices.{link_layer_header_len, link_layer_payload, link_ether_payload, link_header_of, link_layer_of, protocol_payload};
+ghost use Rattle.ep_link.specs.LinkSlices.{link_layer_header_len, link_layer_payload, link_ether_payload};
+ghost use Rattle.ep_link.specs.LinkSlices.{link_header_of, link_layer_of, protocol_payload};
 
 use crate::link::ethernet2_slice::Ethernet2Slice;
 use crate::link::link_header::LinkHeader;

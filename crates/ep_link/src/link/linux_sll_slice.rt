@@ -20,7 +20,8 @@ impl<'a> LinuxSllSlice<'a> {
     ghost use Rattle.ep_base.specs.Tables.{Parts};
     ghost use Rattle.ep_link.specs.declared.link.linux_sll_header.LinuxSllHeader.{LinuxSllHeader};
     ghost use Rattle.ep_link.specs.LinuxSll.{IsLinuxSll, RefusesLinuxSll};
-    ghost use Rattle.ep_link.specs.LinuxSllSlices.{linux_sll_slice_bytes, linux_sll_slice_header, linux_sll_slice_payload, linux_sll_slice_parts};
+    ghost use Rattle.ep_link.specs.LinuxSllSlices.{linux_sll_slice_bytes, linux_sll_slice_header};
+    ghost use Rattle.ep_link.specs.LinuxSllSlices.{linux_sll_slice_payload, linux_sll_slice_parts};
 
     /// The packet that the slice is: header and payload.
     pub fn from_slice(slice: &'a [u8]) -> Result<LinuxSllSlice<'a>, HeaderSliceError>

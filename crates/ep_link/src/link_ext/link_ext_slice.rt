@@ -3,7 +3,8 @@
 ghost use Rattle.std.specs.Prelude.{◌≡◌};
 ghost use Rattle.std.specs.Option.{option_map};
 ghost use Rattle.ep_link.specs.EtherPayloads.{ether_payload_of};
-ghost use Rattle.ep_link.specs.LinkExtensions.{extension_ether_payload, extension_header, extension_payload, extension_type, link_ext_header_len, link_extension_of};
+ghost use Rattle.ep_link.specs.LinkExtensions.{extension_ether_payload, extension_header, extension_payload};
+ghost use Rattle.ep_link.specs.LinkExtensions.{extension_type, link_ext_header_len, link_extension_of};
 
 use crate::link_ext::{LinkExtHeader, MacsecSlice, SingleVlanSlice};
 use ep_base::err::macsec::HeaderSliceError;
@@ -33,7 +34,8 @@ impl Default for LinkExtSlice<'_> {
 
 impl<'a> LinkExtSlice<'a> {
     ghost use Rattle.std.specs.Prelude.{◌++◌, IfOk, IfErr, IfSome, IfNone, IsOkAnd, List, ℕ, Some};
-    ghost use Rattle.ep_link.specs.LinkExtensions.{BeginsLinkExtension, IsLinkExtension, LinkExtension, RefusesLinkExtension, link_ext_slice_bytes};
+    ghost use Rattle.ep_link.specs.LinkExtensions.{BeginsLinkExtension, IsLinkExtension, LinkExtension};
+    ghost use Rattle.ep_link.specs.LinkExtensions.{RefusesLinkExtension, link_ext_slice_bytes};
 
     /// The link extension that bytes of this type are, with its payload; none where the type begins no extension.
     pub fn from_ether_type(

@@ -1,7 +1,8 @@
 //! A MACsec tag (IEEE 802.1AE, 9).
 
 ghost use Rattle.std.specs.Prelude.{◌≡◌, ◌≤◌, ◌++◌, IfOk, IfErr, OnOk, OnErr, IsOkAnd, List, ℕ, length};
-ghost use Rattle.ep_link.specs.Macsec.{IsMacsecHeader, RefusesMacsecHeader, macsec_bytes, macsec_header_len, ptype_type, sci_bytes, ptype_bytes};
+ghost use Rattle.ep_link.specs.Macsec.{IsMacsecHeader, RefusesMacsecHeader, macsec_bytes};
+ghost use Rattle.ep_link.specs.Macsec.{macsec_header_len, ptype_type, sci_bytes, ptype_bytes};
 
 use crate::link_ext::{MacsecHeaderSlice, MacsecPType};
 use arrayvec::ArrayVec;

@@ -31,7 +31,8 @@ struct WholeTag<'a> {
 impl<'a> MacsecHeaderSlice<'a> {
     ghost use Rattle.std.specs.Prelude.{◌≡◌, ◌<◌, ◌++◌, IfOk, IfErr, IsOkAnd, MatchOption, List, ℕ, length};
     ghost use Rattle.ep_link.specs.declared.link_ext.macsec_header.MacsecHeader.{MacsecHeader};
-    ghost use Rattle.ep_link.specs.Macsec.{IsMacsecHeader, RefusesMacsecHeader, macsec_header_len, ptype_type, modification_of, short_len_of, payload_len_of};
+    ghost use Rattle.ep_link.specs.Macsec.{IsMacsecHeader, RefusesMacsecHeader, macsec_header_len};
+    ghost use Rattle.ep_link.specs.Macsec.{ptype_type, modification_of, short_len_of, payload_len_of};
     ghost use Rattle.ep_link.specs.MacsecSlices.{macsec_header_slice_bytes, macsec_header_slice_header};
 
     /// The tag at the front of the slice, whose short length cuts nothing here.

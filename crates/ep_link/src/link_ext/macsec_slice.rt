@@ -20,10 +20,12 @@ impl<'a> MacsecSlice<'a> {
     ghost use Rattle.std.specs.Prelude.{◌≡◌, ◌++◌, IfOk, IfErr, IsOkAnd, List, ℕ, length};
     ghost use Rattle.ep_base.specs.Tables.{Parts};
     ghost use Rattle.ep_link.specs.declared.link_ext.macsec_header.MacsecHeader.{MacsecHeader};
-    ghost use Rattle.ep_link.specs.Macsec.{IsMacsec, RefusesMacsec, macsec_header_len, macsec_payload, macsec_payload_bytes, macsec_payload_type};
+    ghost use Rattle.ep_link.specs.Macsec.{IsMacsec, RefusesMacsec, macsec_header_len};
+    ghost use Rattle.ep_link.specs.Macsec.{macsec_payload, macsec_payload_bytes, macsec_payload_type};
     ghost use Rattle.std.specs.Option.{option_map};
     ghost use Rattle.ep_link.specs.EtherPayloads.{ether_payload_of, macsec_ether_payload};
-    ghost use Rattle.ep_link.specs.MacsecSlices.{macsec_header_slice_bytes, macsec_slice_bytes, macsec_slice_header, macsec_slice_parts, macsec_slice_payload};
+    ghost use Rattle.ep_link.specs.MacsecSlices.{macsec_header_slice_bytes, macsec_slice_bytes};
+    ghost use Rattle.ep_link.specs.MacsecSlices.{macsec_slice_header, macsec_slice_parts, macsec_slice_payload};
 
     /// The packet at the front of the slice. Its short length cuts it.
     pub fn from_slice(slice: &'a [u8]) -> Result<MacsecSlice<'a>, HeaderSliceError>

@@ -16,7 +16,8 @@ impl<'a> SingleVlanSlice<'a> {
     ghost use Rattle.ep_link.specs.declared.link_ext.single_vlan_header.SingleVlanHeader.{SingleVlanHeader};
     ghost use Rattle.ep_base.specs.declared.len_source.LenSource.TheVariants as source;
     ghost use Rattle.ep_link.specs.Vlan.{IsVlan, RefusesVlan};
-    ghost use Rattle.ep_link.specs.VlanSlices.{vlan_slice_bytes, vlan_slice_header, vlan_slice_payload, vlan_slice_parts};
+    ghost use Rattle.ep_link.specs.VlanSlices.{vlan_slice_bytes, vlan_slice_header};
+    ghost use Rattle.ep_link.specs.VlanSlices.{vlan_slice_payload, vlan_slice_parts};
 
     /// The tag and the payload that the slice is.
     pub fn from_slice(slice: &'a [u8]) -> Result<SingleVlanSlice<'a>, LenError>

@@ -6,6 +6,7 @@ use crate::{
     Layer, LenSource, TcpHeader, TcpOptionElement, TcpOptionReadError, TcpOptionWriteError,
     TcpOptions, TcpOptionsIterator, TcpSlice, ValueTooBigError, ValueType,
 };
+use ep_ip::{Ipv4Header, Ipv6Header};
 use std::test::Fail;
 
 /// A segment with all flags, four bytes of no operation, timestamps and the end of the options, and the payload 1 to 9.
@@ -268,9 +269,14 @@ fn checksums(rt: HostRuntime) -> Result<(), Fail> {
             checksum,
             "of {bytes:?}"
         );
+        let ip_header = Ipv4Header {
+            source,
+            destination,
+            ..Default::default()
+        };
         let by_header = segment
             .to_header()
-            .calc_checksum_ipv4_raw(source, destination, segment.payload())?;
+            .calc_checksum_ipv4(&ip_header, segment.payload())?;
         assert_eq!(rt; by_header, checksum, "of {bytes:?}");
     }
     let mut bytes = [0; 44];
@@ -282,9 +288,14 @@ fn checksums(rt: HostRuntime) -> Result<(), Fail> {
     ];
     let segment = TcpSlice::from_slice(&bytes)?;
     assert_eq!(rt; segment.calc_checksum_ipv6(source, destination)?, 0x786e);
+    let ip_header = Ipv6Header {
+        source,
+        destination,
+        ..Default::default()
+    };
     let by_header = segment
         .to_header()
-        .calc_checksum_ipv6_raw(source, destination, segment.payload())?;
+        .calc_checksum_ipv6(&ip_header, segment.payload())?;
     assert_eq!(rt; by_header, 0x786e);
     let payload = [1, 2, 3, 4, 5, 6, 7, 8];
     let sum = plain_header().calc_checksum_ipv4_raw([192, 168, 1, 1], [192, 168, 1, 2], &payload)?;

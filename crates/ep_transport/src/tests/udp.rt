@@ -1,10 +1,7 @@
 //! UDP.
 
 use super::refusal;
-use crate::{
-    IpNumber, Layer, LenSource, TransportSlice, UdpHeader, UdpSlice, ValueTooBigError, ValueType,
-    tcp,
-};
+use crate::{Layer, LenSource, UdpHeader, UdpSlice, ValueTooBigError, ValueType};
 use std::test::Fail;
 
 /// A datagram from port 21 to port 1234 with the payload 1 to 8.
@@ -77,29 +74,6 @@ fn slices(rt: HostRuntime) -> Result<(), Fail> {
     let datagram = UdpSlice::from_slice(DATAGRAM)?.clone()?;
     assert_eq!(rt; datagram.to_header(), header());
     assert_eq!(rt; datagram.payload(), &DATAGRAM[8..]);
-    Ok(())
-}
-
-#[test]
-fn by_protocol_number(rt: HostRuntime) -> Result<(), Fail> {
-    let datagram = TransportSlice::Udp(UdpSlice::from_slice(DATAGRAM)?);
-    for (number, fragmented, shown) in [
-        (17, false, Some(&datagram)),
-        (17, true, None),
-        (0, false, None),
-        (59, false, None),
-        (255, true, None),
-    ] {
-        let read = TransportSlice::from_ip_number(IpNumber(number), fragmented, DATAGRAM)?;
-        assert_eq!(rt; read.as_ref(), shown, "of {number}, {fragmented}");
-    }
-    assert_eq!(rt; datagram.clone()?.slice(), DATAGRAM);
-    assert_eq!(rt; datagram.payload(), &DATAGRAM[8..]);
-    assert_eq!(rt; datagram.header_len(), 8);
-    assert_eq!(rt;
-        TransportSlice::from_ip_number(IpNumber::UDP, false, &DATAGRAM[..7]),
-        Err(tcp::HeaderSliceError::Len(refusal(8, 7, LenSource::Slice, Layer::UdpHeader)))
-    );
     Ok(())
 }
 

@@ -1,6 +1,5 @@
-use Rattle.ep_base.proofs.TableLemmas.{decided}
-use Rattle.ep_ip.proofs.Ipv4Lemmas.{ipv4_is_read}
+use Rattle.ep_ip.proofs.PacketLemmas.{ipv4_decided}
 use Rattle.ep_ip.proofs.laws.ipv4.Goals as goal
 
 pub returns : goal.returns
-returns c = decided ipv4_is_read
+returns c = ipv4_decided

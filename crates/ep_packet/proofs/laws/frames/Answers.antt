@@ -16,6 +16,10 @@ returns c =
       };
       arp = c.arp.ensures;
       ipv4 = c.ipv4.ensures;
+      ipv6 = c.ipv6.ensures;
+      ip = c.ip.ensures;
+      ipv4_bytes = c.ip_bytes.ensures.ipv4;
+      ipv6_bytes = c.ip_bytes.ensures.ipv6;
       transport = c.transport.ensures;
       transport_bytes = c.transport_bytes.ensures;
     }) in

@@ -2,7 +2,8 @@ use Rattle.std.proofs.Common.{rules, ◌≡◌, ◌∙◌, [], Bool, true, false
 use Rattle.std.proofs.lemmas.Result.{on_err_weaker, on_ok_weaker}
 use Rattle.std.specs.Io.KnownBytes.{Appends}
 use Rattle.frame_bench.specs.WatchedWords.{AppendsFront, inner_of}
-use Rattle.frame_bench.proofs.StreamLemmas.{at_exit, Moves-advanced, Moves-begun, Moves-ended, Moves-ended_front, Moves-part}
+use Rattle.frame_bench.proofs.StreamLemmas.{at_exit, Moves-advanced, Moves-begun}
+use Rattle.frame_bench.proofs.StreamLemmas.{Moves-ended, Moves-ended_front, Moves-part}
 use Rattle.frame_bench.proofs.engine.run.Goals as goal
 
 -- a test that does not hold

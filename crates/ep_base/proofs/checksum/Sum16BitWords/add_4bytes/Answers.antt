@@ -6,4 +6,5 @@ use Rattle.ep_base.proofs.checksum.Sum16BitWords.add_4bytes.Goals as goal
 pub returns : goal.returns
 returns c =
     let word = ap residue c.from_be_bytes.ensures ∙ words_of_32 c.args.value (search rules) in
-    rw (← c.self.view_is) (sum_with_last _ _ _ _ c.add_word.ensures word ∙ ones_add-words c.self.inside.sum c.args.value)
+    let taken = sum_with_last _ _ _ _ c.add_word.ensures word in
+    rw (← c.self.view_is) (taken ∙ ones_add-words c.self.inside.sum c.args.value)

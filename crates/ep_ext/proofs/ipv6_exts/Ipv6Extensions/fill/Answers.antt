@@ -1,4 +1,4 @@
-use Rattle.std.proofs.Common.{◌≡◌, ◌-◌, ◌≤◌, Bool, true, false, List, ℕ, length, sym, ap, ◌∙◌, arith}
+use Rattle.std.proofs.Common.{◌≡◌, ◌-◌, ◌≤◌, length, sym, ◌∙◌, arith}
 use Rattle.std.proofs.lemmas.Bool.{eqb-true, eqb-false}
 use Rattle.ep_ext.proofs.ValueLemmas.{headers_nothing, headers_more, headers_refused, headers_misplaced, headers_end_read, headers_second_read}
 use Rattle.ep_ext.proofs.ipv6_exts.Ipv6Extensions.fill.Goals as goal

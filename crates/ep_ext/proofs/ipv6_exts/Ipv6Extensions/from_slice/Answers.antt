@@ -1,7 +1,7 @@
-use Rattle.std.proofs.Common.{◌≡◌, ℕ, List, ap, ◌∙◌, arith}
+use Rattle.std.proofs.Common.{◌≡◌, ◌∙◌, arith}
 use Rattle.ep_base.specs.Bytes.{AreBytes}
 use Rattle.ep_base.specs.Layer.{headers}
-use Rattle.ep_ext.specs.Chains.{ipv6, ExtensionChain, chain_of}
+use Rattle.ep_ext.specs.Chains.{ipv6, chain_of}
 use Rattle.ep_ext.specs.Ipv6Chains.{extensions_of}
 use Rattle.ep_ext.proofs.HeaderLaws.{header_laws}
 use Rattle.ep_ext.proofs.ChainLemmas.{one_chain, refused_no_chain}

@@ -1,7 +1,7 @@
-use Rattle.std.proofs.Common.{◌≡◌, ℕ, List, [], ◌∷◌, ◌++◌, Option, Some, None, sym, ap, ◌∙◌}
+use Rattle.std.proofs.Common.{◌≡◌, [], ◌∷◌, ◌++◌, None, sym, ap, ◌∙◌}
 use Rattle.std.specs.Option.{option_map}
-use Rattle.ep_ext.specs.Ipv6Chains.{WalksAll, RefusesWalk, IsWalkBehind, number_of, missing_number, extensions_of, walk_refusal}
-use Rattle.ep_ext.specs.Walks.{header_ref_part, header_at, missing_at}
+use Rattle.ep_ext.specs.Ipv6Chains.{RefusesWalk, number_of, extensions_of}
+use Rattle.ep_ext.specs.Walks.{header_ref_part, header_at}
 use Rattle.ep_ext.proofs.WalkLemmas.{walk_more, walk_fewer, walk_end, left_is, one_walk_end, walks_not_refused}
 use Rattle.ep_ext.proofs.ipv6_exts.Ipv6Extensions.next_header.Goals as goal
 

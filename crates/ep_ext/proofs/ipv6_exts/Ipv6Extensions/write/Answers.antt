@@ -1,10 +1,9 @@
-use Rattle.std.proofs.Common.{◌≡◌, ℕ, List, [], ◌∷◌, ◌++◌, Option, Some, None, Err, refl, sym, ap, subst, ◌∙◌}
+use Rattle.std.proofs.Common.{◌≡◌, List, [], ◌∷◌, ◌++◌, None, Err, sym, ap, subst, ◌∙◌}
 use Rattle.std.proofs.lemmas.List.{append-nil}
 use Rattle.std.specs.Option.{option_map}
-use Rattle.ep_base.specs.declared.err.ipv6_exts.ExtsWalkError.{ExtsWalkError}
 use Rattle.ep_base.specs.declared.err.ipv6_exts.HeaderWriteError.TheVariants as write_error
 use Rattle.ep_ext.specs.ExtensionParts.{ExtensionPart}
-use Rattle.ep_ext.specs.Ipv6Chains.{WalksAll, RefusesWalk, missing_number, extensions_of}
+use Rattle.ep_ext.specs.Ipv6Chains.{RefusesWalk, missing_number, extensions_of}
 use Rattle.ep_ext.specs.Walks.{no_marks, header_ref_part, header_at}
 use Rattle.ep_ext.proofs.WalkLemmas.{WalkedBy, walk_start, walk_more, walk_fewer, walk_end, written_more, fit_more, one_walk, one_walk_refusal, walks_not_refused, on_ok}
 use Rattle.ep_ext.proofs.ipv6_exts.Ipv6Extensions.write.Goals as goal

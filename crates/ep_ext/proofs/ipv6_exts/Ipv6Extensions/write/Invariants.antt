@@ -1,5 +1,3 @@
-use Rattle.std.proofs.Common.{◌≡◌, ◌++◌, length}
-use Rattle.std.proofs.Common.{vec_len}
 use Rattle.ep_ext.specs.Walks.{marks_left}
 use Rattle.ep_ext.proofs.WalkLemmas.{HasWritten}
 use Rattle.ep_ext.proofs.ipv6_exts.Ipv6Extensions.write.Given as goal

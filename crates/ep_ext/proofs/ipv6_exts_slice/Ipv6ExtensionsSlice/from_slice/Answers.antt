@@ -1,10 +1,9 @@
-use Rattle.std.proofs.Common.{◌≡◌, ◌-◌, ◌≤◌, Bool, true, false, ◌||◌, List, ℕ, [], length, take, refl, sym, ap, ◌∙◌, arith}
+use Rattle.std.proofs.Common.{◌≡◌, ◌-◌, ◌≤◌, Bool, ◌||◌, [], length, refl, sym, ap, ◌∙◌, arith}
 use Rattle.std.proofs.lemmas.Bool.{eqb-true, eqb-false}
 use Rattle.ep_base.specs.Bytes.{AreBytes}
 use Rattle.ep_base.proofs.BytesLemmas.{rest_of}
 use Rattle.ep_base.specs.Layer.{slices}
-use Rattle.ep_ext.specs.ExtensionParts.{ExtensionPart}
-use Rattle.ep_ext.specs.Chains.{ipv6, ExtensionChain, IsExtensionChain, is_ipv6_extension, chain_of}
+use Rattle.ep_ext.specs.Chains.{ipv6}
 use Rattle.ep_ext.specs.Ipv6Slices.{extension_slice_part, extension_slice_bytes}
 use Rattle.ep_ext.proofs.HeaderLaws.{header_laws}
 use Rattle.ep_ext.proofs.ChainLemmas.{one_chain, refused_no_chain}

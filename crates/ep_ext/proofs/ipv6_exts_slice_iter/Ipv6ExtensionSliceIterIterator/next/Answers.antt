@@ -1,10 +1,8 @@
-use Rattle.std.proofs.Common.{◌≡◌, ◌-◌, ◌<◌, Bool, true, false, List, ℕ, [], ◌∷◌, length, take, drop, sym, ap, ◌∙◌, arith, rules}
-use Rattle.std.proofs.lemmas.Grind.{common_steps}
+use Rattle.std.proofs.Common.{◌≡◌, ◌-◌, true, false, ◌∷◌, ◌++◌, length, take, drop, refl, sym, ap, ◌∙◌, arith}
 use Rattle.ep_base.proofs.BytesLemmas.{rest_of}
 use Rattle.ep_ext.specs.Chains.{is_ipv6_extension}
 use Rattle.ep_ext.specs.ShownChains.{shown_parts}
-use Rattle.ep_ext.specs.ExtensionParts.{ExtensionPart, part_next}
-use Rattle.ep_ext.specs.Ipv6Slices.{extension_slice_part, extension_slice_bytes, parts_left}
+use Rattle.ep_ext.specs.Ipv6Slices.{extension_slice_part, extension_slice_bytes}
 use Rattle.ep_ext.proofs.ShownLemmas.{shown_next, shown_none, no_kind_shown, refused_shown}
 use Rattle.ep_ext.proofs.ipv6_exts_slice_iter.Ipv6ExtensionSliceIterIterator.next.Goals as goal
 
@@ -14,7 +12,7 @@ returns-then-not-is_extension-clause-steps c =
     let bytes = c.args.self.now.rest.now in
     let none : is_ipv6_extension number ≡ false = sym c.is_extension.ensures ∙ c.if-not-is_extension.true in
     let empty = shown_none number bytes (no_kind_shown number bytes none) in
-    (empty, empty)
+    (empty, empty, refl)
 
 pub returns-in-Ok-clause-steps : goal.returns-in-Ok-clause-steps
 returns-in-Ok-clause-steps c =
@@ -23,8 +21,11 @@ returns-in-Ok-clause-steps c =
     let part = extension_slice_part c.in-Ok.part in
     let ok = c.in-Ok.ensures.ok in
     let n = length c.slice.result.now in
-    let rest = rest_of bytes (extension_slice_bytes c.in-Ok.part) ok.0 n ok.1 (ap length c.slice.ensures) in
-    shown_next number bytes part ok.0 ok.2 ∙ (λ i. part ∷ shown_parts (sym c.next_header-self.ensures i) (sym rest i))
+    let next = sym c.next_header-self.ensures in
+    let rest = rest_of bytes (extension_slice_bytes c.in-Ok.part) ok.0 n ok.1 (ap length c.slice.ensures) in (
+      shown_next number bytes part ok.0 ok.2 ∙ (λ i. part ∷ shown_parts (next i) (sym rest i)),
+      ok.1 ∙ (λ i. extension_slice_bytes c.in-Ok.part ++ sym rest i),
+    )
 
 pub returns-in-Ok-clause-goes : goal.returns-in-Ok-clause-goes
 returns-in-Ok-clause-goes c =
@@ -46,4 +47,4 @@ returns-in-Err-clause-steps c =
     let bytes = c.args.self.now.rest.now in
     let kind : is_ipv6_extension number ≡ true = sym c.is_extension.ensures ∙ c.if-not-is_extension.false in
     let empty = shown_none number bytes (refused_shown number bytes _ kind c.in-Err.ensures.err) in
-    (empty, empty)
+    (empty, empty, refl)

@@ -1,0 +1,37 @@
+-- How the public types are ordered: variants and fields as declared, where the first field that differs decides.
+use Rattle.std.specs.Prelude.{ℕ}
+use Rattle.std.specs.declared.cmp.Ordering.{Ordering}
+use Rattle.std.specs.Ordering.{nat_cmp, bool_cmp, ordering_then}
+use Rattle.std.specs.Cmp.Lexicographic.{slice_cmp}
+use Rattle.ep_base.specs.declared.len_source.LenSource.{LenSource}
+use Rattle.ep_base.specs.declared.len_source.LenSource.TheVariants as source
+use Rattle.ep_base.specs.declared.ether_payload_slice.EtherPayloadSlice.{EtherPayloadSlice}
+use Rattle.ep_base.specs.declared.ip_payload_slice.IpPayloadSlice.{IpPayloadSlice}
+
+-- a length source's place among the length sources
+abbrev pub len_source_place : LenSource → ℕ
+len_source_place source.Slice = 0
+len_source_place source.MacsecShortLength = 1
+len_source_place source.Ipv4HeaderTotalLen = 2
+len_source_place source.Ipv6HeaderPayloadLen = 3
+len_source_place source.UdpHeaderLen = 4
+len_source_place source.ArpAddrLengths = 5
+
+-- length sources by their places
+abbrev pub len_source_cmp : LenSource → LenSource → Ordering
+len_source_cmp a b = nat_cmp (len_source_place a) (len_source_place b)
+
+-- payloads of a link layer by the type, what set their length, and the bytes
+abbrev pub ether_payload_cmp : EtherPayloadSlice → EtherPayloadSlice → Ordering
+ether_payload_cmp a b =
+    ordering_then (nat_cmp a.ether_type.0 b.ether_type.0)
+    (ordering_then (len_source_cmp a.len_source b.len_source)
+    (slice_cmp nat_cmp a.payload.now b.payload.now))
+
+-- payloads of IP by the number, a whole one before a fragment, what set their length, and the bytes
+abbrev pub ip_payload_cmp : IpPayloadSlice → IpPayloadSlice → Ordering
+ip_payload_cmp a b =
+    ordering_then (nat_cmp a.ip_number.0 b.ip_number.0)
+    (ordering_then (bool_cmp a.fragmented b.fragmented)
+    (ordering_then (len_source_cmp a.len_source b.len_source)
+    (slice_cmp nat_cmp a.payload.now b.payload.now)))

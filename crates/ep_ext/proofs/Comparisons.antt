@@ -1,0 +1,143 @@
+-- That the comparisons of headers see each field, and of bytes in a fixed array those that are used.
+use Rattle.std.proofs.Common.{◌≡◌, ℕ, ◌-◌, ◌/◌, ◌&&◌, Bool, List, [], ◌∷◌, ◌++◌, length, replicate, Option, Some, None, refl, ap, subst, arith}
+use Rattle.std.specs.Bool.{Decides}
+use Rattle.std.specs.Option.{option_eq, option_map}
+use Rattle.std.specs.Prelude.{nat_eq}
+use Rattle.std.specs.Cmp.{booleans_Decides}
+use Rattle.std.specs.Cmp.Lexicographic.{pointwise}
+use Rattle.std.proofs.Math.Bool.{beq}
+use Rattle.std.proofs.lemmas.Bool.{false≢true}
+use Rattle.std.proofs.lemmas.Bool.Decides.{Decides-eqb, Decides-and, Decides-like}
+use Rattle.std.proofs.lemmas.Option.{none-some}
+use Rattle.std.proofs.lemmas.Slice.Eq.{slice_eq-Decides}
+use Rattle.ep_base.specs.Padding.{padded}
+use Rattle.ep_base.proofs.BytesLemmas.{same_parts}
+use Rattle.ep_ext.specs.declared.ip_auth_header.IpAuthHeader.{IpAuthHeader}
+use Rattle.ep_ext.specs.declared.ipv6_fragment_header.Ipv6FragmentHeader.{Ipv6FragmentHeader}
+use Rattle.ep_ext.specs.declared.ipv6_raw_ext_header.Ipv6RawExtHeader.{Ipv6RawExtHeader}
+use Rattle.ep_ext.specs.IpAuth.{FitsIpAuth}
+use Rattle.ep_ext.specs.RawExtension.{FitsRawExtension}
+use Rattle.ep_ext.specs.declared.ipv6_exts.Ipv6Extensions.{Ipv6Extensions}
+use Rattle.ep_ext.specs.ExtensionParts.{ExtensionPart, hop_by_hop, destination_options, routing, fragment, authentication, FitsPart, parts_there}
+use Rattle.ep_ext.specs.Chains.{FitParts}
+use Rattle.ep_ext.specs.Ipv6Chains.{ipv6_parts, routing_header, final_by}
+
+-- arrays of bytes, and so many units of them that are used
+stored_same : (width unit : ℕ) (a b : List ℕ) → (length a / unit ≡ length b / unit → length a ≡ length b)
+    → Decides (pointwise nat_eq (padded width a) (padded width b) && nat_eq (length a / unit) (length b / unit)) (a ≡ b)
+stored_same width unit a b lens =
+    Decides-like _ (λ both. (same_parts a b (replicate (width - length a) 0) (replicate (width - length b) 0)
+    (lens both.1) both.0).0)
+    (λ same. (ap (padded width) same, ap (λ (s : List ℕ). length s / unit) same))
+    (Decides-and _ _ (slice_eq-Decides Decides-eqb (padded width a) (padded width b) _ refl)
+    (Decides-eqb (length a / unit) (length b / unit)))
+
+pub same_ip_auth : (a b : IpAuthHeader) → FitsIpAuth a → FitsIpAuth b
+    → Decides (nat_eq a.next_header.0 b.next_header.0 && (nat_eq a.spi b.spi
+    && (nat_eq a.sequence_number b.sequence_number && (pointwise nat_eq (padded 1016 a.icv) (padded 1016 b.icv)
+    && nat_eq (length a.icv / 4) (length b.icv / 4))))) (a ≡ b)
+same_ip_auth a b fits other =
+    Decides-like _ (λ all. λ i. record {
+      next_header = record { 0 = all.0 i };
+      spi = all.1.0 i;
+      sequence_number = all.1.1.0 i;
+      icv = all.1.1.1 i;
+    })
+    (λ same. (
+      ap (λ (h : IpAuthHeader). h.next_header.0) same,
+      (
+        ap (λ (h : IpAuthHeader). h.spi) same,
+        (ap (λ (h : IpAuthHeader). h.sequence_number) same, ap (λ (h : IpAuthHeader). h.icv) same),
+      ),
+    ))
+    (Decides-and _ _ (Decides-eqb a.next_header.0 b.next_header.0)
+    (Decides-and _ _ (Decides-eqb a.spi b.spi)
+    (Decides-and _ _ (Decides-eqb a.sequence_number b.sequence_number)
+    (stored_same 1016 4 a.icv b.icv (λ words. omega (arith, words, fits.icv_words, other.icv_words))))))
+
+pub same_raw_extension : (a b : Ipv6RawExtHeader) → FitsRawExtension a → FitsRawExtension b
+    → Decides (nat_eq a.next_header.0 b.next_header.0
+    && (pointwise nat_eq (padded 2046 a.payload) (padded 2046 b.payload)
+    && nat_eq (length a.payload / 8) (length b.payload / 8))) (a ≡ b)
+same_raw_extension a b fits other =
+    Decides-like _ (λ both. λ i. record { next_header = record { 0 = both.0 i }; payload = both.1 i })
+    (λ same. (
+      ap (λ (h : Ipv6RawExtHeader). h.next_header.0) same,
+      ap (λ (h : Ipv6RawExtHeader). h.payload) same,
+    ))
+    (Decides-and _ _ (Decides-eqb a.next_header.0 b.next_header.0)
+    (stored_same 2046 8 a.payload b.payload
+    (λ units. omega (arith, units, fits.payload_units, other.payload_units))))
+
+pub same_fragment : (a b : Ipv6FragmentHeader)
+    → Decides (nat_eq a.next_header.0 b.next_header.0 && (nat_eq a.fragment_offset b.fragment_offset
+    && (beq a.more_fragments b.more_fragments && nat_eq a.identification b.identification))) (a ≡ b)
+same_fragment a b =
+    Decides-like _ (λ all. λ i. record {
+      next_header = record { 0 = all.0 i };
+      fragment_offset = all.1.0 i;
+      more_fragments = all.1.1.0 i;
+      identification = all.1.1.1 i;
+    })
+    (λ same. (
+      ap (λ (h : Ipv6FragmentHeader). h.next_header.0) same,
+      (
+        ap (λ (h : Ipv6FragmentHeader). h.fragment_offset) same,
+        (ap (λ h. h.more_fragments) same, ap (λ h. h.identification) same),
+      ),
+    ))
+    (Decides-and _ _ (Decides-eqb a.next_header.0 b.next_header.0)
+    (Decides-and _ _ (Decides-eqb a.fragment_offset b.fragment_offset)
+    (Decides-and _ _ (booleans_Decides a.more_fragments b.more_fragments)
+    (Decides-eqb a.identification b.identification))))
+
+-- where the test of two values decides, so does that of values that may be there
+pub same_option : {A : Type 0} (test : A → A → Bool) (a b : Option A)
+    → ((x y : A) → a ≡ Some x → b ≡ Some y → Decides (test x y) (x ≡ y)) → Decides (option_eq test a b) (a ≡ b)
+same_option test None None each = (λ equal. refl, λ same. refl)
+same_option test None (Some y) each = (λ equal. absurd (false≢true equal), λ same. absurd (none-some y same))
+same_option test (Some x) None each = (λ equal. absurd (false≢true equal), λ same. absurd (cc))
+same_option test (Some x) (Some y) each =
+    let one = each x y refl refl in (λ equal. ap (λ z. Some z) (one.0 equal), λ same. one.1 (cc))
+
+-- headers that fit, where they are there
+pub there_fits : {H : Type 0} (kind : H → ExtensionPart) (there : Option H) (header : H)
+    → FitParts (parts_there kind there) → there ≡ Some header → FitsPart (kind header)
+there_fits kind None header fit same = absurd (none-some header same)
+there_fits kind (Some other) header fit same =
+    let one : other ≡ header = cc in subst (λ h. FitsPart (kind h)) one fit.0
+
+fit_front : (parts more : List ExtensionPart) → FitParts (parts ++ more) → FitParts parts
+fit_front [] more fit = tt
+fit_front (part ∷ parts) more fit = (fit.0, fit_front parts more fit.1)
+
+fit_back : (parts more : List ExtensionPart) → FitParts (parts ++ more) → FitParts more
+fit_back [] more fit = fit
+fit_back (part ∷ parts) more fit = fit_back parts more fit.1
+
+-- each header of a value fits
+pub record FitEach (extensions : Ipv6Extensions) : Type 0 where
+  pub hop : FitParts (parts_there hop_by_hop extensions.hop_by_hop_options)
+  pub destination : FitParts (parts_there destination_options extensions.destination_options)
+  pub behind : FitParts (parts_there routing (option_map routing_header extensions.routing))
+  pub auth : FitParts (parts_there authentication extensions.auth)
+  pub final : FitParts (parts_there destination_options (final_by extensions.routing))
+
+pub fit_each : (extensions : Ipv6Extensions) → FitParts (ipv6_parts extensions) → FitEach extensions
+fit_each extensions fit =
+    let a = parts_there hop_by_hop extensions.hop_by_hop_options in
+    let b = parts_there destination_options extensions.destination_options in
+    let c = parts_there routing (option_map routing_header extensions.routing) in
+    let d = parts_there fragment extensions.fragment in
+    let e = parts_there authentication extensions.auth in
+    let f = parts_there destination_options (final_by extensions.routing) in
+    let to_e = fit_front (a ++ b ++ c ++ d ++ e) f fit in
+    let to_c = fit_front (a ++ b ++ c) d (fit_front (a ++ b ++ c ++ d) e to_e) in
+    let to_b = fit_front (a ++ b) c to_c in
+    record {
+      hop = fit_front a b to_b;
+      destination = fit_back a b to_b;
+      behind = fit_back (a ++ b) c to_c;
+      auth = fit_back (a ++ b ++ c ++ d) e to_e;
+      final = fit_back (a ++ b ++ c ++ d ++ e) f fit;
+    }

@@ -1,6 +1,0 @@
-use Rattle.ep_ext.proofs.HeaderLaws.{header_laws}
-use Rattle.ep_ext.proofs.ChainLemmas.{chain_decided}
-use Rattle.ep_ext.proofs.chain_laws.extension_chain.Goals as goal
-
-pub returns : goal.returns
-returns c = chain_decided header_laws

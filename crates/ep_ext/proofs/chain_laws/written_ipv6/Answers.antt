@@ -1,5 +1,0 @@
-use Rattle.ep_ext.proofs.LinkLemmas.{written_chain}
-use Rattle.ep_ext.proofs.chain_laws.written_ipv6.Goals as goal
-
-pub returns : goal.returns
-returns c = written_chain

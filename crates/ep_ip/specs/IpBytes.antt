@@ -1,0 +1,51 @@
+-- The bytes of IP packets, one part after another.
+use Rattle.std.specs.Prelude.{◌≡◌, ℕ, ◌+◌, List, ◌++◌, length}
+use Rattle.ep_ext.specs.Chains.{EncodesParts, parts_bytes}
+use Rattle.ep_ext.specs.ExtensionParts.{ExtensionPart}
+use Rattle.ep_ip.specs.declared.ipv4_header.Ipv4Header.{Ipv4Header}
+use Rattle.ep_ip.specs.declared.ipv6_header.Ipv6Header.{Ipv6Header}
+use Rattle.ep_ip.specs.Ipv4.{EncodesIpv4, ipv4_header_len}
+use Rattle.ep_ip.specs.Ipv6.{FitsIpv6, ipv6_bytes}
+use Rattle.ep_ip.specs.IpPackets.{IpPacket}
+
+-- the bytes are those of a header of IPv4 and of the extension headers behind it, up to their reserved bits
+abbrev pub EncodesIpv4Headers : List ℕ → Ipv4Header → List ExtensionPart → Type 0
+EncodesIpv4Headers bytes header extensions =
+    (front behind : List ℕ) × EncodesIpv4 front header × EncodesParts behind extensions × (bytes ≡ front ++ behind)
+
+-- the same of IPv6
+abbrev pub EncodesIpv6Headers : List ℕ → Ipv6Header → List ExtensionPart → Type 0
+EncodesIpv6Headers bytes header extensions =
+    FitsIpv6 header × ((behind : List ℕ) × EncodesParts behind extensions × (bytes ≡ ipv6_bytes header ++ behind))
+
+-- the number of bytes of a header of IPv4 and of the extension headers behind it
+abbrev pub ipv4_headers_len : Ipv4Header → List ExtensionPart → ℕ
+ipv4_headers_len header extensions = ipv4_header_len header + length (parts_bytes extensions)
+
+-- the same of IPv6
+abbrev pub ipv6_headers_len : List ExtensionPart → ℕ
+ipv6_headers_len extensions = 40 + length (parts_bytes extensions)
+
+-- The bytes are so many of headers, which this holds of, then the payload, and then what the length field leaves.
+pub record AreInOrder {Header : Type 0} (bytes : List ℕ) (packet : IpPacket Header) (Encodes : List ℕ → Type 0)
+    (len : ℕ) : Type 0 where
+  pub headers : List ℕ
+  pub encodes : Encodes headers
+  pub len_is : length headers ≡ len
+  pub parts : bytes ≡ (headers ++ packet.payload.bytes) ++ packet.left
+
+-- the bytes of a packet of IPv4
+abbrev pub AreIpv4Bytes : List ℕ → IpPacket Ipv4Header → Type 0
+AreIpv4Bytes bytes packet = AreInOrder
+    bytes
+    packet
+    (λ headers. EncodesIpv4Headers headers packet.header packet.extensions)
+    (ipv4_headers_len packet.header packet.extensions)
+
+-- the bytes of a packet of IPv6
+abbrev pub AreIpv6Bytes : List ℕ → IpPacket Ipv6Header → Type 0
+AreIpv6Bytes bytes packet = AreInOrder
+    bytes
+    packet
+    (λ headers. EncodesIpv6Headers headers packet.header packet.extensions)
+    (ipv6_headers_len packet.extensions)

@@ -1,0 +1,23 @@
+-- What slices of IP of either version show.
+use Rattle.std.specs.Prelude.{ℕ, List}
+use Rattle.ep_base.specs.IpPayload.{IpPayload}
+use Rattle.ep_ip.specs.declared.ip_slice.IpSlice.{IpSlice}
+use Rattle.ep_ip.specs.declared.ip_slice.IpSlice.TheVariants as slice
+use Rattle.ep_ip.specs.IpPackets.{IpPart, ipv4_part, ipv6_part}
+use Rattle.ep_ip.specs.Ipv4Slices.{ipv4_slice_bytes, ipv4_slice_packet, ipv4_slice_payload}
+use Rattle.ep_ip.specs.Ipv6Slices.{ipv6_slice_bytes, ipv6_slice_packet, ipv6_slice_payload}
+
+-- the bytes of a packet
+abbrev pub ip_slice_bytes : IpSlice → List ℕ
+ip_slice_bytes (slice.Ipv4 packet) = ipv4_slice_bytes packet
+ip_slice_bytes (slice.Ipv6 packet) = ipv6_slice_bytes packet
+
+-- its payload
+abbrev pub ip_slice_payload : IpSlice → IpPayload
+ip_slice_payload (slice.Ipv4 packet) = ipv4_slice_payload packet
+ip_slice_payload (slice.Ipv6 packet) = ipv6_slice_payload packet
+
+-- the packet, and what its length field left
+abbrev pub ip_slice_packet : IpSlice → List ℕ → IpPart
+ip_slice_packet (slice.Ipv4 packet) left = ipv4_part (ipv4_slice_packet packet left)
+ip_slice_packet (slice.Ipv6 packet) left = ipv6_part (ipv6_slice_packet packet left)

@@ -1,0 +1,140 @@
+//! An IPv6 packet in a slice (RFC 8200).
+
+ghost use Rattle.std.specs.Prelude.{◌≡◌, ◌++◌, IfOk, IfErr, IsOkAnd, List, ℕ};
+ghost use Rattle.ep_base.specs.Tables.{parts_of};
+ghost use Rattle.ep_ip.specs.Ipv6.{IsIpv6Packet, RefusesIpv6Packet, ipv6_payload_source};
+ghost use Rattle.ep_ip.specs.Ipv6Slices.{ipv6_header_slice_header, ipv6_header_slice_bytes};
+
+use crate::behind_header::behind_header;
+use crate::ipv6_header::Ipv6Header;
+use crate::ipv6_header_slice::Ipv6HeaderSlice;
+use ep_base::err::ipv6::{HeaderSliceError, SliceError};
+use ep_base::err::{Layer, LenError, ipv6_exts};
+use ep_base::{IpPayloadSlice, LenSource};
+use ep_ext::Ipv6ExtensionsSlice;
+
+/// An IPv6 packet (RFC 8200) that lies in a slice: header, extension headers and payload, cut by the payload length.
+#[derive(Clone, Debug, PartialEq, Eq, Drop)]
+pub struct Ipv6Slice<'a> {
+    header: Ipv6HeaderSlice<'a>,
+    extensions: Ipv6ExtensionsSlice<'a>,
+    payload: IpPayloadSlice<'a>,
+}
+
+impl<'a> Ipv6Slice<'a> {
+    ghost use Rattle.ep_base.specs.Layer.{slices};
+    ghost use Rattle.ep_base.specs.IpPayload.{ip_payload_of};
+    ghost use Rattle.ep_ext.specs.Ipv6Slices.{ipv6_slice_parts as extension_parts, ipv6_slice_bytes as extension_bytes};
+    ghost use Rattle.ep_ip.specs.declared.ipv6_header.Ipv6Header.{Ipv6Header};
+    ghost use Rattle.ep_ip.specs.IpPackets.{IpPacket, IsIpv6, RefusesIpv6};
+    ghost use Rattle.ep_ip.specs.Ipv6Slices.{ipv6_slice_bytes, ipv6_slice_header, ipv6_slice_extensions};
+    ghost use Rattle.ep_ip.specs.Ipv6Slices.{ipv6_slice_payload, ipv6_slice_content, ipv6_slice_packet};
+
+    /// The packet at the front of the slice. Its payload length cuts it; the number 0 takes all bytes.
+    pub fn from_slice(slice: &'a [u8]) -> Result<Ipv6Slice<'a>, SliceError>
+        ensures ok { IfOk result (λ shown. (left : List ℕ) × (slice.now ≡ ipv6_slice_bytes shown ++ left)
+            × IsIpv6 slices slice.now (ipv6_slice_packet shown left)) }
+        ensures only { (packet : IpPacket Ipv6Header) → IsIpv6 slices slice.now packet
+            → IsOkAnd result (λ shown. ipv6_slice_packet shown packet.left ≡ packet) }
+        ensures err { IfErr result (RefusesIpv6 slices slice.now) }
+    {
+        let (header, content) = cut(slice)?;
+        let len_source = payload_source(&header, content);
+        let (extensions, ip_number, payload) = match Ipv6ExtensionsSlice::from_slice(
+            header.next_header(),
+            content,
+        ) {
+            Ok(read) => read,
+            Err(ipv6_exts::HeaderSliceError::Len(error)) => {
+                return Err(SliceError::Len(behind_header(error, Ipv6Header::LEN, len_source)));
+            }
+            Err(ipv6_exts::HeaderSliceError::Content(error)) => {
+                return Err(SliceError::Exts(error));
+            }
+        };
+        let payload = IpPayloadSlice {
+            ip_number,
+            fragmented: extensions.is_fragmenting_payload(),
+            len_source,
+            payload,
+        };
+        Ok(Ipv6Slice {
+            header,
+            extensions,
+            payload,
+        })
+    }
+
+    /// The header.
+    #[inline]
+    pub fn header(&self) -> Ipv6HeaderSlice<'a>
+        ensures header { ipv6_header_slice_header result ≡ ipv6_slice_header self.now }
+        ensures bytes { ipv6_header_slice_bytes result ++ ipv6_slice_content self.now ≡ ipv6_slice_bytes self.now }
+    {
+        self.header.copied()
+    }
+
+    /// The extension headers, in their order.
+    #[inline]
+    pub fn extensions(&self) -> Ipv6ExtensionsSlice<'a>
+        ensures headers { extension_parts result ≡ ipv6_slice_extensions self.now }
+        ensures bytes { extension_bytes result ++ (ipv6_slice_payload self.now).bytes ≡ ipv6_slice_content self.now }
+    {
+        self.extensions.clone().unwrap()
+    }
+
+    /// The payload, with what it is, whether it is a fragment, and what set its end.
+    #[inline]
+    pub fn payload(&self) -> &IpPayloadSlice<'a>
+        ensures { ip_payload_of result.now ≡ ipv6_slice_payload self.now }
+    {
+        &self.payload
+    }
+
+    /// Whether the payload is one fragment of a longer one: whether a fragment header says so.
+    #[inline]
+    pub fn is_payload_fragmented(&self) -> bool
+        ensures { result ≡ (ipv6_slice_payload self.now).fragmented }
+    {
+        self.payload.fragmented
+    }
+}
+
+/// The header at the front of the slice, and the bytes behind it, which its payload length cuts.
+fn cut<'a>(slice: &'a [u8]) -> Result<(Ipv6HeaderSlice<'a>, &'a [u8]), SliceError>
+    ensures ok { IfOk result (λ read. (left : List ℕ)
+        × (slice.now ≡ (ipv6_header_slice_bytes read.0 ++ read.1.now) ++ left)
+        × IsIpv6Packet slice.now (parts_of (ipv6_header_slice_header read.0) read.1.now left)) }
+    ensures err { IfErr result (RefusesIpv6Packet slice.now) }
+{
+    let header = match Ipv6HeaderSlice::from_slice(slice) {
+        Ok(header) => header,
+        Err(HeaderSliceError::Len(error)) => return Err(SliceError::Len(error)),
+        Err(HeaderSliceError::Content(error)) => return Err(SliceError::Header(error)),
+    };
+    let payload_length = header.payload_length() as usize;
+    if payload_length == 0 {
+        return Ok((header, &slice[Ipv6Header::LEN..]));
+    }
+    let packet_len = Ipv6Header::LEN + payload_length;
+    if slice.len() < packet_len {
+        return Err(SliceError::Len(LenError::at_start(
+            packet_len,
+            slice.len(),
+            LenSource::Slice,
+            Layer::Ipv6Packet,
+        )));
+    }
+    Ok((header, &slice[Ipv6Header::LEN..packet_len]))
+}
+
+/// What set the end of the bytes behind the header: those at hand, where the payload length is 0 and took some.
+fn payload_source(header: &Ipv6HeaderSlice, content: &[u8]) -> LenSource
+    ensures { result ≡ ipv6_payload_source (ipv6_header_slice_header header.now) content.now }
+{
+    if header.payload_length() == 0 && content.len() > 0 {
+        LenSource::Slice
+    } else {
+        LenSource::Ipv6HeaderPayloadLen
+    }
+}

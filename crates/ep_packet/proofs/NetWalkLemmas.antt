@@ -1,0 +1,132 @@
+-- The net layer in the walk over a frame, from what the calls of its slices ensure.
+use Rattle.std.proofs.Common.{◌≡◌, ℕ, ◌+◌, List, ◌++◌, length, Option, Some, refl, sym, ap, subst, ◌∙◌, inr, arith, length-append}
+use Rattle.std.specs.Option.{option_map}
+use Rattle.ep_base.specs.IpPayload.{IpPayload}
+use Rattle.ep_base.specs.Layer.{slices}
+use Rattle.ep_ip.specs.declared.ip_slice.IpSlice.{IpSlice}
+use Rattle.ep_ip.specs.declared.ip_slice.IpSlice.TheVariants as ip_slice
+use Rattle.ep_ip.specs.declared.ipv4_slice.Ipv4Slice.{Ipv4Slice}
+use Rattle.ep_ip.specs.declared.ipv6_slice.Ipv6Slice.{Ipv6Slice}
+use Rattle.ep_ip.specs.IpPackets.{IsIpv4, IsIpv6, IsIp}
+use Rattle.ep_ip.specs.IpSlices.{ip_slice_bytes, ip_slice_packet}
+use Rattle.ep_ip.specs.Ipv4Slices.{ipv4_slice_bytes, ipv4_slice_packet, ipv4_slice_payload}
+use Rattle.ep_ip.specs.Ipv6Slices.{ipv6_slice_bytes, ipv6_slice_packet}
+use Rattle.ep_ip.proofs.IpBytesLemmas.{ipv4_packet_bytes, ipv6_packet_bytes}
+use Rattle.ep_transport.specs.declared.transport_slice.TransportSlice.{TransportSlice}
+use Rattle.ep_transport.specs.TransportParts.{transport_layer_of}
+use Rattle.ep_packet.specs.declared.err.slice_error.SliceError.{SliceError}
+use Rattle.ep_packet.specs.declared.net_slice.NetSlice.{NetSlice}
+use Rattle.ep_packet.specs.declared.net_slice.NetSlice.TheVariants as slice
+use Rattle.ep_packet.specs.Layers.{net_layer_of, net_payload}
+use Rattle.ep_packet.specs.Frame.{NetKind, only_ipv4, only_ipv6, any_ip, IsNetLayer, IsTransportBehind}
+use Rattle.ep_packet.specs.NetSlices.{net_slice_of}
+use Rattle.ep_packet.specs.Refusals.{RefusesNetPart, RefusesTransportBehind, RefusesTransportIn, net_header_len}
+use Rattle.ep_packet.specs.ShownBytes.{ShowsTransport, net_slice_bytes, net_slice_payload}
+use Rattle.ep_packet.specs.Walk.{HasHeaders, HoldsNet}
+use Rattle.ep_packet.proofs.WalkLemmas.{along}
+
+-- a slice of an IP packet is the net layer of a kind that bytes are, and shows their front
+pub record IsShown (kind : NetKind) (bytes : List ℕ) (net : NetSlice) : Type 0 where
+  pub left : List ℕ
+  pub begins : bytes ≡ net_slice_bytes net ++ left
+  pub is : IsNetLayer slices kind bytes (net_layer_of net)
+  pub headers : HasHeaders net
+
+-- what a slice shows has as many bytes as its headers and its payload
+shown_len : (bytes shown left headers payload : List ℕ) (len : ℕ) → bytes ≡ shown ++ left
+    → bytes ≡ (headers ++ payload) ++ left → length headers ≡ len → length shown ≡ len + length payload
+shown_len bytes shown left headers payload len begins parts len_is = omega (
+  arith,
+  ap length begins,
+  ap length parts,
+  length-append shown left,
+  length-append (headers ++ payload) left,
+  length-append headers payload,
+  len_is,
+)
+
+-- of an IPv4 packet
+pub ipv4_shown : (bytes left : List ℕ) (packet : Ipv4Slice) → bytes ≡ ipv4_slice_bytes packet ++ left
+    → IsIpv4 slices bytes (ipv4_slice_packet packet left) → IsShown only_ipv4 bytes (slice.Ipv4 packet)
+ipv4_shown bytes left packet begins is =
+    let are = ipv4_packet_bytes slices bytes (ipv4_slice_packet packet left) is in
+    record {
+      left = left;
+      begins = begins;
+      is = (ipv4_slice_packet packet left, is, refl);
+      headers = shown_len bytes (ipv4_slice_bytes packet) left are.headers (ipv4_slice_packet packet left).payload.bytes
+          (net_header_len (net_layer_of (slice.Ipv4 packet))) begins are.parts are.len_is;
+    }
+
+-- of an IPv6 packet
+pub ipv6_shown : (bytes left : List ℕ) (packet : Ipv6Slice) → bytes ≡ ipv6_slice_bytes packet ++ left
+    → IsIpv6 slices bytes (ipv6_slice_packet packet left) → IsShown only_ipv6 bytes (slice.Ipv6 packet)
+ipv6_shown bytes left packet begins is =
+    let are = ipv6_packet_bytes slices bytes (ipv6_slice_packet packet left) is in
+    record {
+      left = left;
+      begins = begins;
+      is = (ipv6_slice_packet packet left, is, refl);
+      headers = shown_len bytes (ipv6_slice_bytes packet) left are.headers (ipv6_slice_packet packet left).payload.bytes
+          (net_header_len (net_layer_of (slice.Ipv6 packet))) begins are.parts are.len_is;
+    }
+
+-- of an IP packet of either version
+pub ip_shown : (bytes left : List ℕ) (packet : IpSlice) → bytes ≡ ip_slice_bytes packet ++ left
+    → IsIp slices bytes (ip_slice_packet packet left) → IsShown any_ip bytes (net_slice_of packet)
+ip_shown bytes left (ip_slice.Ipv4 packet) begins is =
+    let shown = ipv4_shown bytes left packet begins is in
+    record {
+      left = left;
+      begins = begins;
+      is = (ip_slice_packet (ip_slice.Ipv4 packet) left, is, refl);
+      headers = shown.headers;
+    }
+ip_shown bytes left (ip_slice.Ipv6 packet) begins is =
+    let shown = ipv6_shown bytes left packet begins is in
+    record {
+      left = left;
+      begins = begins;
+      is = (ip_slice_packet (ip_slice.Ipv6 packet) left, is, refl);
+      headers = shown.headers;
+    }
+
+-- a net layer and the transport layer in it
+pub net_holds : (kind : NetKind) (bytes : List ℕ) (net : NetSlice) (transport : Option TransportSlice)
+    → IsShown kind bytes net
+    → IsTransportBehind slices (net_payload (net_layer_of net)) (option_map transport_layer_of transport)
+    → ShowsTransport (net_slice_payload net) transport → HoldsNet (Some kind) bytes (Some net) transport
+net_holds kind bytes net transport shown inside shows = record {
+  part = (net_layer_of net, shown.is, refl, inside);
+  shows = ((shown.left, shown.begins), shows);
+}
+
+-- a refusal of the transport layer in a net layer is one of the bytes
+pub net_refused : (kind : NetKind) (offset : ℕ) (bytes : List ℕ) (net : NetSlice) (error : SliceError)
+    → IsShown kind bytes net
+    → RefusesTransportBehind slices (offset + net_header_len (net_layer_of net)) (net_payload (net_layer_of net)) error
+    → RefusesNetPart slices offset (Some kind) bytes error
+net_refused kind offset bytes net error shown refused = inr (net_layer_of net, shown.is, refused)
+
+-- the bytes of the headers in front of a payload are those of the header and of the extension headers
+pub headers_len : (whole header content extensions payload : List ℕ) (len : ℕ) → header ++ content ≡ whole
+    → extensions ++ payload ≡ content → length whole ≡ len + length payload → length header + length extensions ≡ len
+headers_len whole header content extensions payload len first second total = omega (
+  arith,
+  ap length first,
+  ap length second,
+  length-append header content,
+  length-append extensions payload,
+  total,
+)
+
+-- a refusal of the payload of an IPv4 packet is one behind the packet's headers
+pub ipv4_payload_refused : (offset len : ℕ) (net : NetSlice) (packet : Ipv4Slice) (payload : IpPayload)
+    (error : SliceError) → net ≡ slice.Ipv4 packet → payload ≡ ipv4_slice_payload packet
+    → len ≡ net_header_len (net_layer_of (slice.Ipv4 packet)) → RefusesTransportIn slices (offset + len) payload error
+    → RefusesTransportBehind slices (offset + net_header_len (net_layer_of net)) (net_payload (net_layer_of net)) error
+ipv4_payload_refused offset len net packet payload error is same lens refused =
+    subst (λ (n : NetSlice). RefusesTransportBehind slices (offset + net_header_len (net_layer_of n)) (net_payload (net_layer_of n)) error)
+    (sym is)
+    (along (λ (l : ℕ) (p : IpPayload). RefusesTransportIn slices (offset + l) p error)
+    len (net_header_len (net_layer_of (slice.Ipv4 packet))) payload (ipv4_slice_payload packet) lens same refused)

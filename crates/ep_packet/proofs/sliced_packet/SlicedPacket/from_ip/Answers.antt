@@ -1,0 +1,22 @@
+use Rattle.std.proofs.Common.{None, map, refl, ap, arith}
+use Rattle.ep_link.specs.LinkExtensions.{link_extension_of}
+use Rattle.ep_packet.specs.declared.sliced_packet.SlicedPacket.{SlicedPacket}
+use Rattle.ep_packet.specs.Layers.{ip, layers_of}
+use Rattle.ep_packet.proofs.LayerLaws.{frame_law}
+use Rattle.ep_packet.proofs.sliced_packet.SlicedPacket.from_ip.Goals as goal
+
+pub returns-in_err-net-clause-only : goal.returns-in_err-net-clause-only
+returns-in_err-net-clause-only c = λ layers is.
+    absurd ((frame_law ip c.args.slice.now (λ i. omega (arith, c.type_inv.slice i))).not_both layers
+    c.in_err-net.field-0.0 is c.in_err-net.ensures.err)
+
+pub returns-clause-only : goal.returns-clause-only
+returns-clause-only c = λ layers is.
+    let packet : SlicedPacket = record {
+      link = None;
+      link_exts = c.new.result;
+      net = c.in_ok-net.net;
+      transport = c.in_ok-net.transport;
+    } in
+    (frame_law ip c.args.slice.now (λ i. omega (arith, c.type_inv.slice i))).one_value (layers_of packet) layers
+    (refl, ap (map link_extension_of) c.new.ensures, c.in_ok-net.ensures.ok.part) is

@@ -1,0 +1,15 @@
+use Rattle.std.proofs.Common.{arith}
+use Rattle.std.specs.Option.{option_map}
+use Rattle.ep_base.specs.Layer.{headers}
+use Rattle.ep_base.proofs.DecidedLemmas.{only_of}
+use Rattle.ep_base.proofs.TableLemmas.{decided}
+use Rattle.ep_transport.specs.TransportParts.{transport_layer}
+use Rattle.ep_transport.proofs.TransportLemmas.{transport_is_read}
+use Rattle.ep_transport.proofs.transport_header.TransportHeader.from_ip_number.Goals as goal
+
+pub returns-clause-only : goal.returns-clause-only
+returns-clause-only c =
+    only_of (option_map (λ read. transport_layer read.0 read.1.now))
+    (decided (transport_is_read headers c.args.number.0 c.args.fragmented) c.args.slice.now
+    (λ i. omega (arith, c.type_inv.slice i)))
+    c.part_of.result c.part_of.ensures.ok c.part_of.ensures.err

@@ -1,0 +1,182 @@
+-- ICMPv6 (RFC 4443).
+use Rattle.std.specs.Prelude.{◌≡◌, ℕ, ◌+◌, ◌<◌, ◌^◌, ◌==◌, ⊤, Bool, nat_lt, if◌then◌else◌, Option, Some, None, List, [], ◌∷◌, ◌++◌, length, drop, slice_index, slice_range}
+use Rattle.std.specs.Int.{w16, w32, to_be_bytes}
+use Rattle.ep_base.specs.Bytes.{AreBytes, word_at}
+use Rattle.ep_base.specs.Checksum.{checksum_of}
+use Rattle.ep_base.specs.IpNumbers.{icmpv6_number}
+use Rattle.ep_base.specs.Layer.{len_error}
+use Rattle.ep_base.specs.Tables.{Refuses, Parts, parts_of}
+use Rattle.ep_base.specs.declared.err.len_error.LenError.{LenError}
+use Rattle.ep_base.specs.declared.err.layer.Layer.TheVariants as layer
+use Rattle.ep_base.specs.declared.len_source.LenSource.TheVariants as source
+use Rattle.ep_transport.specs.declared.icmpv6.kind.Icmpv6Kind.{Icmpv6Kind}
+use Rattle.ep_transport.specs.declared.icmpv6.kind.Icmpv6Kind.TheVariants as kind
+use Rattle.ep_transport.specs.declared.icmpv6.time_exceeded_code.TimeExceededCode.{TimeExceededCode}
+use Rattle.ep_transport.specs.declared.icmpv6.time_exceeded_code.TimeExceededCode.TheVariants as exceeded
+use Rattle.ep_transport.specs.declared.icmpv6_type.Icmpv6Type.{Icmpv6Type}
+use Rattle.ep_transport.specs.declared.icmpv6_type.Icmpv6Type.TheVariants as message
+use Rattle.ep_transport.specs.declared.icmpv6_header.Icmpv6Header.{Icmpv6Header}
+use Rattle.ep_transport.specs.Icmp.{kind_in, FitsEcho, echo_bytes, echo_of}
+use Rattle.ep_transport.specs.PseudoHeaders.{pseudo_header_ipv6}
+use Rattle.ep_transport.specs.Tcp.{long_at}
+
+-- ---- the table
+
+-- the type of a kind of message, and its greatest code
+abbrev pub icmpv6_row : Icmpv6Kind → ℕ × ℕ
+icmpv6_row kind.DestinationUnreachable = (1, 6)
+icmpv6_row kind.PacketTooBig = (2, 0)
+icmpv6_row kind.TimeExceeded = (3, 1)
+icmpv6_row kind.ParameterProblem = (4, 2)
+icmpv6_row kind.EchoRequest = (128, 0)
+icmpv6_row kind.EchoReply = (129, 0)
+
+abbrev pub icmpv6_kinds : List Icmpv6Kind
+icmpv6_kinds =
+    kind.DestinationUnreachable ∷ kind.PacketTooBig ∷ kind.TimeExceeded ∷ kind.ParameterProblem ∷ kind.EchoRequest
+    ∷ kind.EchoReply ∷ []
+
+-- the kind that a type and a code stand for, where it is a known one
+abbrev pub icmpv6_kind_of : ℕ → ℕ → Option Icmpv6Kind
+icmpv6_kind_of type code = kind_in icmpv6_row icmpv6_kinds type code
+
+-- ---- the values of the table's kinds
+
+-- the number of the code of a time that is exceeded, and the code of a number
+abbrev pub icmpv6_exceeded_u8 : TimeExceededCode → ℕ
+icmpv6_exceeded_u8 exceeded.HopLimitExceeded = 0
+icmpv6_exceeded_u8 exceeded.FragmentReassemblyTimeExceeded = 1
+
+abbrev pub icmpv6_exceeded_of : ℕ → TimeExceededCode
+icmpv6_exceeded_of code = if code == 0 then exceeded.HopLimitExceeded else exceeded.FragmentReassemblyTimeExceeded
+
+-- the kind of a value
+abbrev pub icmpv6_kind : Icmpv6Type → Option Icmpv6Kind
+icmpv6_kind (message.Unknown type code bytes5to8) = None
+icmpv6_kind (message.DestinationUnreachable code) = Some kind.DestinationUnreachable
+icmpv6_kind (message.PacketTooBig mtu) = Some kind.PacketTooBig
+icmpv6_kind (message.TimeExceeded code) = Some kind.TimeExceeded
+icmpv6_kind (message.ParameterProblem code pointer) = Some kind.ParameterProblem
+icmpv6_kind (message.EchoRequest echo) = Some kind.EchoRequest
+icmpv6_kind (message.EchoReply echo) = Some kind.EchoReply
+
+-- the type of a value: that of its kind, where it has one
+abbrev pub icmpv6_type_u8 : Icmpv6Type → ℕ
+icmpv6_type_u8 (message.Unknown type code bytes5to8) = type
+icmpv6_type_u8 (message.DestinationUnreachable code) = (icmpv6_row kind.DestinationUnreachable).0
+icmpv6_type_u8 (message.PacketTooBig mtu) = (icmpv6_row kind.PacketTooBig).0
+icmpv6_type_u8 (message.TimeExceeded code) = (icmpv6_row kind.TimeExceeded).0
+icmpv6_type_u8 (message.ParameterProblem code pointer) = (icmpv6_row kind.ParameterProblem).0
+icmpv6_type_u8 (message.EchoRequest echo) = (icmpv6_row kind.EchoRequest).0
+icmpv6_type_u8 (message.EchoReply echo) = (icmpv6_row kind.EchoReply).0
+
+-- the code of a value
+abbrev pub icmpv6_code_u8 : Icmpv6Type → ℕ
+icmpv6_code_u8 (message.Unknown type code bytes5to8) = code
+icmpv6_code_u8 (message.DestinationUnreachable code) = code
+icmpv6_code_u8 (message.PacketTooBig mtu) = 0
+icmpv6_code_u8 (message.TimeExceeded code) = icmpv6_exceeded_u8 code
+icmpv6_code_u8 (message.ParameterProblem code pointer) = code
+icmpv6_code_u8 (message.EchoRequest echo) = 0
+icmpv6_code_u8 (message.EchoReply echo) = 0
+
+-- ---- the bytes of a header
+
+-- the bytes 4 to 7 of a value, with the four bytes that stand there where the type does not use them
+abbrev pub icmpv6_rest_with : List ℕ → Icmpv6Type → List ℕ
+icmpv6_rest_with unused (message.Unknown type code bytes5to8) = bytes5to8
+icmpv6_rest_with unused (message.DestinationUnreachable code) = unused
+icmpv6_rest_with unused (message.PacketTooBig mtu) = to_be_bytes w32 mtu
+icmpv6_rest_with unused (message.TimeExceeded code) = unused
+icmpv6_rest_with unused (message.ParameterProblem code pointer) = to_be_bytes w32 pointer
+icmpv6_rest_with unused (message.EchoRequest echo) = echo_bytes echo
+icmpv6_rest_with unused (message.EchoReply echo) = echo_bytes echo
+
+abbrev pub icmpv6_bytes_with : List ℕ → Icmpv6Header → List ℕ
+icmpv6_bytes_with unused header =
+    icmpv6_type_u8 header.icmp_type ∷ icmpv6_code_u8 header.icmp_type
+    ∷ (to_be_bytes w16 header.checksum ++ icmpv6_rest_with unused header.icmp_type)
+
+-- the bytes of a header as it is written: what the type does not use is 0
+abbrev pub icmpv6_bytes : Icmpv6Header → List ℕ
+icmpv6_bytes header = icmpv6_bytes_with (0 ∷ 0 ∷ 0 ∷ 0 ∷ []) header
+
+-- a header and its payload, in which the checksum counts as 0
+abbrev pub icmpv6_message : Icmpv6Header → List ℕ → List ℕ
+icmpv6_message header payload = icmpv6_bytes (record header { checksum = 0 }) ++ payload
+
+-- the checksum of a message between these addresses
+abbrev pub icmpv6_checksum : List ℕ → List ℕ → Icmpv6Header → List ℕ → ℕ
+icmpv6_checksum source destination header payload =
+    checksum_of (pseudo_header_ipv6 source destination icmpv6_number (8 + length payload)
+    ++ icmpv6_message header payload)
+
+-- ---- which bytes are ICMPv6
+
+-- what a value holds fits its place
+abbrev pub FitsIcmpv6Fields : Icmpv6Type → Type 0
+FitsIcmpv6Fields (message.Unknown type code bytes5to8) =
+    (type < 256) × (code < 256) × (length bytes5to8 ≡ 4) × AreBytes bytes5to8
+FitsIcmpv6Fields (message.DestinationUnreachable code) = ⊤
+FitsIcmpv6Fields (message.PacketTooBig mtu) = mtu < 2 ^ 32
+FitsIcmpv6Fields (message.TimeExceeded code) = ⊤
+FitsIcmpv6Fields (message.ParameterProblem code pointer) = pointer < 2 ^ 32
+FitsIcmpv6Fields (message.EchoRequest echo) = FitsEcho echo
+FitsIcmpv6Fields (message.EchoReply echo) = FitsEcho echo
+
+-- The header is one that is read: its fields fit, and the table gives its type and code the kind that it has. So its
+-- code is one of the table, and a value without a kind has a type and a code that the table does not know.
+pub record FitsIcmpv6 (header : Icmpv6Header) : Type 0 where
+  pub checksum : header.checksum < 2 ^ 16
+  pub fields : FitsIcmpv6Fields header.icmp_type
+  pub kind : icmpv6_kind_of (icmpv6_type_u8 header.icmp_type) (icmpv6_code_u8 header.icmp_type)
+      ≡ icmpv6_kind header.icmp_type
+
+-- the bytes are the header's, whatever stands where the type uses none
+pub record EncodesIcmpv6 (bytes : List ℕ) (header : Icmpv6Header) : Type 0 where
+  pub fits : FitsIcmpv6 header
+  pub unused : List ℕ
+  pub four : length unused ≡ 4
+  pub same : bytes ≡ icmpv6_bytes_with unused header
+
+-- The bytes are a message: a header, and all behind it is payload.
+pub record IsIcmpv6 (bytes : List ℕ) (read : Parts Icmpv6Header) : Type 0 where
+  pub encoded : List ℕ
+  pub encodes : EncodesIcmpv6 encoded read.header
+  pub parts : bytes ≡ encoded ++ read.payload
+  pub whole : read.left ≡ []
+
+-- why bytes are no message
+abbrev pub icmpv6_rows : List ℕ → List (Bool × LenError)
+icmpv6_rows bytes = (nat_lt (length bytes) 8, len_error 8 (length bytes) source.Slice layer.Icmpv6) ∷ []
+
+abbrev pub RefusesIcmpv6 : List ℕ → LenError → Type 0
+RefusesIcmpv6 bytes = Refuses (icmpv6_rows bytes)
+
+-- ---- what is read
+
+-- the kind that bytes have
+abbrev pub icmpv6_kind_at : List ℕ → Option Icmpv6Kind
+icmpv6_kind_at bytes = icmpv6_kind_of (slice_index bytes 0) (slice_index bytes 1)
+
+-- the value of a kind that the bytes of a message hold
+abbrev pub icmpv6_value_of : Option Icmpv6Kind → List ℕ → Icmpv6Type
+icmpv6_value_of None bytes = message.Unknown (slice_index bytes 0) (slice_index bytes 1) (slice_range bytes 4 8)
+icmpv6_value_of (Some kind.DestinationUnreachable) bytes = message.DestinationUnreachable (slice_index bytes 1)
+icmpv6_value_of (Some kind.PacketTooBig) bytes = message.PacketTooBig (long_at bytes 4)
+icmpv6_value_of (Some kind.TimeExceeded) bytes = message.TimeExceeded (icmpv6_exceeded_of (slice_index bytes 1))
+icmpv6_value_of (Some kind.ParameterProblem) bytes =
+    message.ParameterProblem (slice_index bytes 1) (long_at bytes 4)
+icmpv6_value_of (Some kind.EchoRequest) bytes = message.EchoRequest (echo_of bytes)
+icmpv6_value_of (Some kind.EchoReply) bytes = message.EchoReply (echo_of bytes)
+
+-- the header that stands at the front of the bytes of a message
+abbrev pub icmpv6_header_of : List ℕ → Icmpv6Header
+icmpv6_header_of bytes = record {
+  icmp_type = icmpv6_value_of (icmpv6_kind_at bytes) bytes;
+  checksum = word_at bytes 2;
+}
+
+-- the message that bytes are
+abbrev pub icmpv6_parts : List ℕ → Parts Icmpv6Header
+icmpv6_parts bytes = parts_of (icmpv6_header_of bytes) (drop 8 bytes) []

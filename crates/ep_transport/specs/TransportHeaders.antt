@@ -1,0 +1,114 @@
+-- The header of a transport layer, whichever it is.
+use Rattle.std.specs.Prelude.{◌≡◌, ℕ, ◌-◌, nat_lt, Bool, true, List, [], ◌∷◌, length, Option, Some, None}
+use Rattle.ep_base.specs.declared.err.value_too_big.ValueTooBigError.{ValueTooBigError}
+use Rattle.ep_base.specs.declared.err.value_type.ValueType.{ValueType}
+use Rattle.ep_base.specs.declared.err.value_type.ValueType.TheVariants as value_type
+use Rattle.ep_ip.specs.declared.ipv4_header.Ipv4Header.{Ipv4Header}
+use Rattle.ep_ip.specs.declared.ipv6_header.Ipv6Header.{Ipv6Header}
+use Rattle.ep_base.specs.Checksum.{checksum_of}
+use Rattle.ep_transport.specs.declared.udp_header.UdpHeader.{UdpHeader}
+use Rattle.ep_transport.specs.declared.tcp_header.TcpHeader.{TcpHeader}
+use Rattle.ep_transport.specs.declared.icmpv4_header.Icmpv4Header.{Icmpv4Header}
+use Rattle.ep_transport.specs.declared.icmpv6_header.Icmpv6Header.{Icmpv6Header}
+use Rattle.ep_transport.specs.declared.transport_header.TransportHeader.{TransportHeader}
+use Rattle.ep_transport.specs.declared.transport_header.TransportHeader.TheVariants.{Udp, Tcp, Icmpv4, Icmpv6}
+use Rattle.ep_transport.specs.declared.transport_checksum_error.TransportChecksumError.{TransportChecksumError}
+use Rattle.ep_transport.specs.declared.transport_checksum_error.TransportChecksumError.TheVariants.{PayloadLen, Icmpv6InIpv4}
+use Rattle.ep_transport.specs.Udp.{FitsUdp, udp_bytes}
+use Rattle.ep_transport.specs.Tcp.{EncodesTcp, tcp_bytes, tcp_header_len}
+use Rattle.ep_transport.specs.Icmpv4.{EncodesIcmpv4, icmpv4_bytes, icmpv4_kind, icmpv4_len, icmpv4_message}
+use Rattle.ep_transport.specs.Icmpv6.{EncodesIcmpv6, icmpv6_bytes, icmpv6_checksum}
+use Rattle.ep_transport.specs.PseudoHeaders.{udp_checksum_ipv4, udp_checksum_ipv6, tcp_checksum_ipv4, tcp_checksum_ipv6}
+
+-- ---- which header it is
+
+abbrev pub udp_header_in : TransportHeader → Option UdpHeader
+udp_header_in (Udp header) = Some header
+udp_header_in _ = None
+
+abbrev pub tcp_header_in : TransportHeader → Option TcpHeader
+tcp_header_in (Tcp header) = Some header
+tcp_header_in _ = None
+
+abbrev pub icmpv4_header_in : TransportHeader → Option Icmpv4Header
+icmpv4_header_in (Icmpv4 header) = Some header
+icmpv4_header_in _ = None
+
+abbrev pub icmpv6_header_in : TransportHeader → Option Icmpv6Header
+icmpv6_header_in (Icmpv6 header) = Some header
+icmpv6_header_in _ = None
+
+-- ---- its bytes
+
+-- the bytes of a header as it is written
+abbrev pub transport_bytes : TransportHeader → List ℕ
+transport_bytes (Udp header) = udp_bytes header
+transport_bytes (Tcp header) = tcp_bytes header
+transport_bytes (Icmpv4 header) = icmpv4_bytes header
+transport_bytes (Icmpv6 header) = icmpv6_bytes header
+
+-- the number of these bytes
+abbrev pub transport_header_len : TransportHeader → ℕ
+transport_header_len (Udp header) = 8
+transport_header_len (Tcp header) = tcp_header_len header
+transport_header_len (Icmpv4 header) = icmpv4_len (icmpv4_kind header.icmp_type)
+transport_header_len (Icmpv6 header) = 8
+
+-- the bytes are the header's, up to its reserved bits and to bytes that it does not use
+abbrev pub EncodesTransportHeader : TransportHeader → List ℕ → Type 0
+EncodesTransportHeader (Udp header) bytes = FitsUdp header × (bytes ≡ udp_bytes header)
+EncodesTransportHeader (Tcp header) bytes = EncodesTcp bytes header
+EncodesTransportHeader (Icmpv4 header) bytes = EncodesIcmpv4 bytes header
+EncodesTransportHeader (Icmpv6 header) bytes = EncodesIcmpv6 bytes header
+
+-- ---- its checksum
+
+-- a payload is above what the sum can count
+abbrev pub too_long : List ℕ → ℕ → ValueType → ValueTooBigError ℕ
+too_long payload max_allowed value_type =
+    record { actual = length payload; max_allowed = max_allowed; value_type = value_type }
+
+-- why there is no checksum of a header and this payload over IPv4: the length does not fit, or IPv4 does not carry it
+abbrev pub checksum_rows_ipv4 : TransportHeader → List ℕ → List (Bool × TransportChecksumError)
+checksum_rows_ipv4 (Udp header) payload =
+    (nat_lt 65527 (length payload), PayloadLen (too_long payload 65527 value_type.UdpPayloadLengthIpv4)) ∷ []
+checksum_rows_ipv4 (Tcp header) payload =
+    let most = 65535 - tcp_header_len header in
+    (nat_lt most (length payload), PayloadLen (too_long payload most value_type.TcpPayloadLengthIpv4)) ∷ []
+checksum_rows_ipv4 (Icmpv4 header) payload = []
+checksum_rows_ipv4 (Icmpv6 header) payload = (true, Icmpv6InIpv4) ∷ []
+
+-- why there is none over IPv6: the length does not fit
+abbrev pub checksum_rows_ipv6 : TransportHeader → List ℕ → List (Bool × ValueTooBigError ℕ)
+checksum_rows_ipv6 (Udp header) payload =
+    (nat_lt 4294967287 (length payload), too_long payload 4294967287 value_type.UdpPayloadLengthIpv6) ∷ []
+checksum_rows_ipv6 (Tcp header) payload =
+    let most = 4294967295 - tcp_header_len header in
+    (nat_lt most (length payload), too_long payload most value_type.TcpPayloadLengthIpv6) ∷ []
+checksum_rows_ipv6 (Icmpv4 header) payload = []
+checksum_rows_ipv6 (Icmpv6 header) payload =
+    (nat_lt 4294967287 (length payload), too_long payload 4294967287 value_type.Icmpv6PayloadLength) ∷ []
+
+-- a header of ICMP with its checksum, which is summed without a pseudo header, whatever the IP header
+abbrev pub with_icmpv4_checksum : List ℕ → Icmpv4Header → TransportHeader
+with_icmpv4_checksum payload header =
+    Icmpv4 (record header { checksum = checksum_of (icmpv4_message header payload) })
+
+-- a header with its checksum for this payload behind an IPv4 header, where there is one
+abbrev pub with_checksum_ipv4 : Ipv4Header → List ℕ → TransportHeader → TransportHeader
+with_checksum_ipv4 ip payload (Udp header) =
+    Udp (record header { checksum = udp_checksum_ipv4 ip.source ip.destination header payload })
+with_checksum_ipv4 ip payload (Tcp header) =
+    Tcp (record header { checksum = tcp_checksum_ipv4 ip.source ip.destination header payload })
+with_checksum_ipv4 ip payload (Icmpv4 header) = with_icmpv4_checksum payload header
+with_checksum_ipv4 ip payload (Icmpv6 header) = Icmpv6 header
+
+-- the same behind an IPv6 header
+abbrev pub with_checksum_ipv6 : Ipv6Header → List ℕ → TransportHeader → TransportHeader
+with_checksum_ipv6 ip payload (Udp header) =
+    Udp (record header { checksum = udp_checksum_ipv6 ip.source ip.destination header payload })
+with_checksum_ipv6 ip payload (Tcp header) =
+    Tcp (record header { checksum = tcp_checksum_ipv6 ip.source ip.destination header payload })
+with_checksum_ipv6 ip payload (Icmpv4 header) = with_icmpv4_checksum payload header
+with_checksum_ipv6 ip payload (Icmpv6 header) =
+    Icmpv6 (record header { checksum = icmpv6_checksum ip.source ip.destination header payload })

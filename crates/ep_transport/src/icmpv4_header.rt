@@ -1,0 +1,95 @@
+//! The header of ICMP (RFC 792).
+
+ghost use Rattle.std.specs.Prelude.{◌≡◌, ◌++◌, length, IfOk, IfErr, OnOk, OnErr, IsOkAnd, List, ℕ, []};
+ghost use Rattle.ep_base.specs.Checksum.{checksum_of};
+ghost use Rattle.ep_base.specs.Tables.{Parts, parts_of};
+ghost use Rattle.ep_transport.specs.Icmpv4.{IsIcmpv4, RefusesIcmpv4, icmpv4_bytes, icmpv4_kind, icmpv4_len, icmpv4_message};
+
+use crate::icmpv4_slice::Icmpv4Slice;
+use crate::icmpv4_type::Icmpv4Type;
+use arrayvec::ArrayVec;
+use ep_base::checksum::Sum16BitWords;
+use ep_base::err::LenError;
+use std::alloc::AllocError;
+
+/// The header of an ICMP message (RFC 792): 20 bytes of a timestamp message, and else 8.
+#[derive(Clone, Debug, PartialEq, Eq, Drop)]
+pub struct Icmpv4Header {
+    /// What the message says, bytes 0, 1, and those from 4 on.
+    pub icmp_type: Icmpv4Type,
+    /// The checksum, bytes 2 and 3.
+    pub checksum: u16,
+}
+
+impl Icmpv4Header {
+    /// The least number of bytes of a header.
+    pub const MIN_LEN: usize = 8;
+
+    /// The greatest number of bytes of a header, that of a timestamp message.
+    pub const MAX_LEN: usize = 20;
+
+    /// A header with the checksum 0.
+    #[inline]
+    pub fn new(icmp_type: Icmpv4Type) -> Icmpv4Header
+        ensures { result ≡ record { icmp_type = icmp_type; checksum = 0 } }
+    {
+        Icmpv4Header {
+            icmp_type,
+            checksum: 0,
+        }
+    }
+
+    /// The header at the front of the slice, and the bytes behind it. A timestamp message has none behind it.
+    pub fn from_slice(slice: &[u8]) -> Result<(Icmpv4Header, &[u8]), LenError>
+        ensures ok { IfOk result (λ read. IsIcmpv4 slice.now (parts_of read.0 read.1.now [])) }
+        ensures only { (message : Parts Icmpv4Header) → IsIcmpv4 slice.now message
+            → IsOkAnd result (λ read. parts_of read.0 read.1.now [] ≡ message) }
+        ensures err { IfErr result (RefusesIcmpv4 slice.now) }
+    {
+        let message = Icmpv4Slice::from_slice(slice)?;
+        Ok((message.to_header(), message.payload()))
+    }
+
+    /// The number of bytes of the header: 20 of a timestamp message, and else 8.
+    #[inline]
+    pub fn header_len(&self) -> usize
+        ensures { result ≡ icmpv4_len (icmpv4_kind self.now.icmp_type) }
+    {
+        self.icmp_type.header_len()
+    }
+
+    /// The header as it stands on the wire, with the checksum that it holds. Bytes that the type does not use are 0.
+    pub fn to_bytes(&self) -> ArrayVec<u8, 20>
+        ensures bytes { result.items ≡ icmpv4_bytes self.now }
+        ensures len { length result.items ≡ icmpv4_len (icmpv4_kind self.now.icmp_type) }
+    {
+        let [c0, c1] = self.checksum.to_be_bytes();
+        let front = [self.icmp_type.type_u8(), self.icmp_type.code_u8(), c0, c1];
+        let rest = self.icmp_type.rest_bytes();
+        let mut bytes = ArrayVec::new();
+        bytes.try_extend_from_slice(&front).unwrap();
+        bytes.try_extend_from_slice(rest.as_slice()).unwrap();
+        bytes
+    }
+
+    /// Appends the header's bytes with the checksum that it holds. A refusal leaves the buffer as it was.
+    pub fn write(&self, buf: &mut Vec<u8>) -> Result<(), AllocError>
+        ensures ok { OnOk result (buf.new.items ≡ buf.old.items ++ icmpv4_bytes self.now) }
+        ensures err { OnErr result (buf.new.items ≡ buf.old.items) }
+    {
+        let bytes = self.to_bytes();
+        buf.extend_from_slice(bytes.as_slice())
+    }
+
+    /// Sets the checksum to that of the header and this payload, whatever checksum the header holds.
+    pub fn update_checksum(&mut self, payload: &[u8])
+        ensures { self.new ≡ record self.old { checksum = checksum_of (icmpv4_message self.old payload.now) } }
+    {
+        self.checksum = 0;
+        let bytes = self.to_bytes();
+        self.checksum = Sum16BitWords::new()
+            .add_slice(bytes.as_slice())
+            .add_slice(payload)
+            .ones_complement();
+    }
+}

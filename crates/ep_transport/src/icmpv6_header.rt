@@ -1,0 +1,121 @@
+//! The header of ICMPv6 (RFC 4443).
+
+ghost use Rattle.std.specs.Prelude.{◌≡◌, ◌<◌, ◌≤◌, ◌++◌, length, IfOk, IfErr, OnOk, OnErr, IsOkAnd, MatchResult, List, ℕ, []};
+ghost use Rattle.ep_base.specs.Tables.{Parts, parts_of};
+ghost use Rattle.ep_base.specs.declared.err.value_type.ValueType.TheVariants as value_type;
+ghost use Rattle.ep_transport.specs.Icmpv6.{IsIcmpv6, RefusesIcmpv6, icmpv6_bytes, icmpv6_checksum};
+
+use crate::icmpv6_slice::Icmpv6Slice;
+use crate::icmpv6_type::Icmpv6Type;
+use crate::pseudo_header;
+use ep_base::IpNumber;
+use ep_base::err::{LenError, ValueTooBigError, ValueType};
+use std::alloc::AllocError;
+
+/// The header of an ICMPv6 message (RFC 4443), 8 bytes.
+#[derive(Clone, Debug, PartialEq, Eq, Drop)]
+pub struct Icmpv6Header {
+    /// What the message says, bytes 0, 1, and 4 to 7.
+    pub icmp_type: Icmpv6Type,
+    /// The checksum, bytes 2 and 3.
+    pub checksum: u16,
+}
+
+impl Icmpv6Header {
+    /// The least number of bytes of a header.
+    pub const MIN_LEN: usize = 8;
+
+    /// The greatest number of bytes of a header.
+    pub const MAX_LEN: usize = 8;
+
+    /// A header with the checksum 0.
+    #[inline]
+    pub fn new(icmp_type: Icmpv6Type) -> Icmpv6Header
+        ensures { result ≡ record { icmp_type = icmp_type; checksum = 0 } }
+    {
+        Icmpv6Header {
+            icmp_type,
+            checksum: 0,
+        }
+    }
+
+    /// The header at the front of the slice, and the bytes behind it.
+    pub fn from_slice(slice: &[u8]) -> Result<(Icmpv6Header, &[u8]), LenError>
+        ensures ok { IfOk result (λ read. IsIcmpv6 slice.now (parts_of read.0 read.1.now [])) }
+        ensures only { (message : Parts Icmpv6Header) → IsIcmpv6 slice.now message
+            → IsOkAnd result (λ read. parts_of read.0 read.1.now [] ≡ message) }
+        ensures err { IfErr result (RefusesIcmpv6 slice.now) }
+    {
+        let message = Icmpv6Slice::from_slice(slice)?;
+        Ok((message.to_header(), message.payload()))
+    }
+
+    /// The number of bytes of the header: 8.
+    #[inline]
+    pub fn header_len(&self) -> usize
+        ensures { result ≡ 8 }
+    {
+        self.icmp_type.header_len()
+    }
+
+    /// The header as it stands on the wire, with the checksum that it holds. Bytes that the type does not use are 0.
+    #[inline]
+    pub fn to_bytes(&self) -> [u8; 8]
+        ensures { result ≡ icmpv6_bytes self.now }
+    {
+        let [c0, c1] = self.checksum.to_be_bytes();
+        let [r0, r1, r2, r3] = self.icmp_type.rest_bytes();
+        [
+            self.icmp_type.type_u8(),
+            self.icmp_type.code_u8(),
+            c0,
+            c1,
+            r0,
+            r1,
+            r2,
+            r3,
+        ]
+    }
+
+    /// Appends the header's bytes with the checksum that it holds. A refusal leaves the buffer as it was.
+    pub fn write(&self, buf: &mut Vec<u8>) -> Result<(), AllocError>
+        ensures ok { OnOk result (buf.new.items ≡ buf.old.items ++ icmpv6_bytes self.now) }
+        ensures err { OnErr result (buf.new.items ≡ buf.old.items) }
+    {
+        buf.extend_from_slice(&self.to_bytes())
+    }
+
+    /// Sets the checksum to that of the header and this payload between these addresses, whatever checksum the header
+    /// holds. A payload above 4294967287 bytes is refused, and changes nothing.
+    pub fn update_checksum(
+        &mut self,
+        source: [u8; 16],
+        destination: [u8; 16],
+        payload: &[u8],
+    ) -> Result<(), ValueTooBigError<usize>>
+        ensures { MatchResult result
+            (λ _. (length payload.now ≤ 4294967287)
+            × (self.new ≡ record self.old { checksum = icmpv6_checksum source destination self.old payload.now }))
+            (λ error. (4294967287 < length payload.now) × (self.new ≡ self.old) × (error ≡ record {
+              actual = length payload.now;
+              max_allowed = 4294967287;
+              value_type = value_type.Icmpv6PayloadLength;
+            })) }
+    {
+        const MAX_PAYLOAD_LEN: usize = 4294967287;
+        if payload.len() > MAX_PAYLOAD_LEN {
+            return Err(ValueTooBigError {
+                actual: payload.len(),
+                max_allowed: MAX_PAYLOAD_LEN,
+                value_type: ValueType::Icmpv6PayloadLength,
+            });
+        }
+        self.checksum = 0;
+        let len = (Icmpv6Header::MIN_LEN + payload.len()) as u32;
+        self.checksum = pseudo_header::sum_ipv6(source, destination, IpNumber::IPV6_ICMP, len)
+            .add_slice(&self.to_bytes())
+            .add_slice(payload)
+            .ones_complement();
+        Ok(())
+    }
+}

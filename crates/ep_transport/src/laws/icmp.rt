@@ -1,0 +1,59 @@
+//! What holds of every list of bytes that may be a message of ICMP or ICMPv6.
+
+ghost use Rattle.std.specs.Prelude.{◌≡◌, ◌%◌, ◌++◌, ℕ, [], ◌∷◌, List, length};
+ghost use Rattle.ep_base.specs.Bytes.{AreBytes};
+ghost use Rattle.ep_base.specs.Checksum.{ones_sum, checksum_of};
+ghost use Rattle.ep_base.specs.Tables.{IsDecided, parts_of};
+ghost use Rattle.ep_transport.specs.declared.icmpv4.TheConstants as v4;
+ghost use Rattle.ep_transport.specs.declared.icmpv4_header.Icmpv4Header.{Icmpv4Header};
+ghost use Rattle.ep_transport.specs.declared.icmpv6.TheConstants as v6;
+ghost use Rattle.ep_transport.specs.declared.icmpv6_header.Icmpv6Header.{Icmpv6Header};
+ghost use Rattle.ep_transport.specs.Icmpv4.{EndsIcmpv4, FitsIcmpv4, IsIcmpv4, RefusesIcmpv4, icmpv4_bytes, icmpv4_message};
+ghost use Rattle.ep_transport.specs.Icmpv6.{FitsIcmpv6, IsIcmpv6, RefusesIcmpv6, icmpv6_bytes, icmpv6_message};
+
+use crate::{Icmpv4Header, Icmpv6Header};
+
+/// Bytes are a message of ICMP, of one header and payload, or are refused with one error, and never both.
+pub fn icmpv4_messages()
+    ensures { (bytes : List ℕ) → AreBytes bytes → IsDecided (IsIcmpv4 bytes) (RefusesIcmpv4 bytes) }
+{}
+
+/// Bytes are a message of ICMPv6, of one header and payload, or are refused with one error, and never both.
+pub fn icmpv6_messages()
+    ensures { (bytes : List ℕ) → AreBytes bytes → IsDecided (IsIcmpv6 bytes) (RefusesIcmpv6 bytes) }
+{}
+
+/// A header that is written is read back, unless it is none that is ever read: one whose type and code the table gives
+/// another kind, or with an mtu or a pointer that is not written. A timestamp message is read back where nothing
+/// follows it.
+pub fn read_back()
+    ensures icmpv4 { (header : Icmpv4Header) (payload : List ℕ) → FitsIcmpv4 header
+        → EndsIcmpv4 header.icmp_type payload
+        → IsIcmpv4 (icmpv4_bytes header ++ payload) (parts_of header payload []) }
+    ensures icmpv6 { (header : Icmpv6Header) (payload : List ℕ) → FitsIcmpv6 header
+        → IsIcmpv6 (icmpv6_bytes header ++ payload) (parts_of header payload []) }
+{}
+
+/// A message with its checksum filled in sums to 65535, by which a receiver tests it; that of ICMPv6 with whatever bytes
+/// stand in front of it as pseudo header.
+pub fn checksums()
+    ensures icmpv4 { (header : Icmpv4Header) (payload : List ℕ)
+        → ones_sum (icmpv4_bytes (record header { checksum = checksum_of (icmpv4_message header payload) })
+        ++ payload) ≡ 65535 }
+    ensures icmpv6 { (front : List ℕ) (header : Icmpv6Header) (payload : List ℕ) → length front % 2 ≡ 0
+        → ones_sum (front ++ (icmpv6_bytes
+        (record header { checksum = checksum_of (front ++ icmpv6_message header payload) })
+        ++ payload)) ≡ 65535 }
+{}
+
+/// The lengths of headers, and the numbers of the types (RFC 792; RFC 4443, 2.1).
+pub fn constants()
+    ensures lengths { (Icmpv4Header.MIN_LEN ≡ 8) × (Icmpv4Header.MAX_LEN ≡ 20) × (Icmpv6Header.MIN_LEN ≡ 8)
+        × (Icmpv6Header.MAX_LEN ≡ 8) }
+    ensures icmpv4 { (v4.TYPE_ECHO_REPLY ≡ 0) × (v4.TYPE_DEST_UNREACH ≡ 3) × (v4.TYPE_REDIRECT ≡ 5)
+        × (v4.TYPE_ECHO_REQUEST ≡ 8) × (v4.TYPE_TIME_EXCEEDED ≡ 11) × (v4.TYPE_PARAMETER_PROBLEM ≡ 12)
+        × (v4.TYPE_TIMESTAMP_REQUEST ≡ 13) × (v4.TYPE_TIMESTAMP_REPLY ≡ 14) }
+    ensures icmpv6 { (v6.TYPE_DEST_UNREACH ≡ 1) × (v6.TYPE_PACKET_TOO_BIG ≡ 2)
+        × (v6.TYPE_TIME_EXCEEDED ≡ 3) × (v6.TYPE_PARAMETER_PROBLEM ≡ 4)
+        × (v6.TYPE_ECHO_REQUEST ≡ 128) × (v6.TYPE_ECHO_REPLY ≡ 129) }
+{}
