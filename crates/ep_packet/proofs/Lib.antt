@@ -10,3 +10,4 @@ pub mod PayloadLemmas
 pub mod TagLemmas
 pub mod WalkLemmas
 pub mod NetWalkLemmas
+pub mod IpHeadersLemmas

@@ -8,3 +8,5 @@ pub mod Payloads
 pub mod VlanTags
 pub mod ShownBytes
 pub mod Walk
+pub mod IpHeaders
+pub mod NetHeaders

@@ -9,6 +9,8 @@ ghost use Rattle.ep_packet.specs.Frame.{IsFrame, IsFrameIn, most_link_exts};
 ghost use Rattle.ep_packet.specs.FrameBytes.{AreInOrder};
 ghost use Rattle.ep_packet.specs.Refusals.{RefusesFrame, RefusesFrameIn};
 
+pub mod ip_headers;
+
 use crate::sliced_packet::SlicedPacket;
 
 /// Bytes are a frame, of one list of layers, or are refused with one error, and never both, in each reading. It follows

@@ -2,19 +2,26 @@
 #![tactic(auto)]
 
 pub mod err;
+mod ip_headers;
+mod ip_headers_read;
 pub mod laws;
+mod net_headers;
 mod net_slice;
 mod sliced_packet;
 
 pub use arrayvec::ArrayVec;
 pub use ep_base::err::{Layer, LenError};
 pub use ep_base::{EtherPayloadSlice, EtherType, IpNumber, IpPayloadSlice, LenSource, VlanId};
-pub use ep_ip::{IpSlice, Ipv4Slice, Ipv6Slice};
+pub use ep_ext::{Ipv4Extensions, Ipv6Extensions};
+pub use ep_ip::{IpSlice, Ipv4Header, Ipv4Slice, Ipv6Header, Ipv6Slice};
 pub use ep_link::{
-    ArpPacketSlice, DoubleVlanSlice, Ethernet2Slice, LinkExtSlice, LinkSlice, LinuxSllPayloadSlice,
-    LinuxSllSlice, MacsecHeaderSlice, MacsecPayloadSlice, MacsecSlice, SingleVlanSlice, VlanSlice,
+    ArpPacket, ArpPacketSlice, DoubleVlanSlice, Ethernet2Slice, LinkExtSlice, LinkSlice,
+    LinuxSllPayloadSlice, LinuxSllSlice, MacsecHeaderSlice, MacsecPayloadSlice, MacsecSlice,
+    SingleVlanSlice, VlanSlice,
 };
 pub use ep_transport::{TransportSlice, UdpSlice};
+pub use ip_headers::IpHeaders;
+pub use net_headers::{IpHeader, NetHeaders};
 pub use net_slice::{InternetSlice, NetSlice};
 pub use sliced_packet::SlicedPacket;
 

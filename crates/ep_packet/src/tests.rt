@@ -12,6 +12,7 @@ use ep_link::Ethernet2Header;
 use ep_transport::UdpHeader;
 use std::test::Fail;
 
+mod ip_headers;
 mod link_layers;
 mod net_layers;
 

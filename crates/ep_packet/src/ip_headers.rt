@@ -1,0 +1,241 @@
+//! IP headers by value: a header, and the extension headers behind it.
+
+ghost use Rattle.std.specs.Prelude.{◌≡◌};
+ghost use Rattle.ep_packet.specs.IpHeaders.{of_walk_error};
+
+use crate::err::HeadersWriteError;
+use ep_base::err::ip_exts::ExtsWalkError;
+use ep_base::err::{ValueTooBigError, ValueType, ipv4_exts, ipv6_exts};
+use ep_base::{EtherType, IpNumber};
+use ep_ext::{Ipv4Extensions, Ipv6Extensions};
+use ep_ip::{Ipv4Header, Ipv6Header};
+use std::alloc::AllocError;
+
+/// The headers of an IP packet of either version: the header, and the extension headers behind it. A value takes the
+/// room of all extension headers that IPv6 has, 9268 bytes and more, whichever of them are there.
+#[derive(Clone, Debug, PartialEq, Eq, Drop)]
+pub enum IpHeaders {
+    /// Those of IPv4 (RFC 791), with the authentication header.
+    Ipv4(Ipv4Header, Ipv4Extensions),
+    /// Those of IPv6 (RFC 8200), with at most one extension header of a kind.
+    Ipv6(Ipv6Header, Ipv6Extensions),
+}
+
+impl IpHeaders {
+    ghost use Rattle.std.specs.Prelude.{◌≡◌, ◌≤◌, ◌+◌, ◌++◌, ◌↔◌, ℕ, List, Err, IfOk, IfErr, OnOk, OnErr, IsOkAnd};
+    ghost use Rattle.std.specs.Prelude.{MatchResult};
+    ghost use Rattle.std.specs.Option.{option_map};
+    ghost use Rattle.ep_base.specs.Tables.{Refuses};
+    ghost use Rattle.ep_base.specs.declared.err.ip_exts.ExtsWalkError.{ExtsWalkError};
+    ghost use Rattle.ep_ext.specs.Chains.{FitParts, parts_bytes};
+    ghost use Rattle.ep_ext.specs.ExtensionParts.{ExtensionPart};
+    ghost use Rattle.ep_packet.specs.IpHeaders.{ipv4_headers_in, ipv6_headers_in, ip_headers_len, ip_headers_type};
+    ghost use Rattle.ep_packet.specs.IpHeaders.{headers_fragment, linked_headers, with_payload_len, payload_len_rows};
+    ghost use Rattle.ep_packet.specs.IpHeaders.{ip_extensions_len, most_behind_header, ip_header_bytes};
+    ghost use Rattle.ep_packet.specs.IpHeaders.{with_checksum, written_headers, LeadThrough, RefusesLeading};
+
+    /// The number of bytes of the longest headers, which are of IPv6.
+    pub const MAX_LEN: usize = 9268;
+
+    /// The header and the extension headers, if they are of IPv4.
+    #[inline]
+    pub fn ipv4(&self) -> Option<(&Ipv4Header, &Ipv4Extensions)>
+        ensures { option_map (λ parts. (parts.0.now, parts.1.now)) result ≡ ipv4_headers_in self.now }
+    {
+        match self {
+            IpHeaders::Ipv4(header, extensions) => Some((header, extensions)),
+            IpHeaders::Ipv6(_, _) => None,
+        }
+    }
+
+    /// The header and the extension headers, if they are of IPv6.
+    #[inline]
+    pub fn ipv6(&self) -> Option<(&Ipv6Header, &Ipv6Extensions)>
+        ensures { option_map (λ parts. (parts.0.now, parts.1.now)) result ≡ ipv6_headers_in self.now }
+    {
+        match self {
+            IpHeaders::Ipv4(_, _) => None,
+            IpHeaders::Ipv6(header, extensions) => Some((header, extensions)),
+        }
+    }
+
+    /// The number of bytes of the headers: at most 9268.
+    #[inline]
+    pub fn header_len(&self) -> usize
+        ensures value { result ≡ ip_headers_len self.now }
+        ensures bound { result ≤ 9268 }
+    {
+        match self {
+            IpHeaders::Ipv4(header, extensions) => header.header_len() + extensions.header_len(),
+            IpHeaders::Ipv6(header, extensions) => header.header_len() + extensions.header_len(),
+        }
+    }
+
+    /// The number of what follows the headers, where the numbers lead through all of them.
+    pub fn next_header(&self) -> Result<IpNumber, ExtsWalkError>
+        ensures ok { IfOk result (λ last. (parts : List ExtensionPart) × LeadThrough self.now parts last.0) }
+        ensures only { (parts : List ExtensionPart) (last : ℕ) → LeadThrough self.now parts last
+            → IsOkAnd result (λ number. number.0 ≡ last) }
+        ensures err { IfErr result (RefusesLeading self.now) }
+    {
+        match self {
+            IpHeaders::Ipv4(header, extensions) => match extensions.next_header(header.protocol) {
+                Ok(last) => Ok(last),
+                Err(error) => Err(ExtsWalkError::Ipv4Exts(error)),
+            },
+            IpHeaders::Ipv6(header, extensions) => {
+                match extensions.next_header(header.next_header) {
+                    Ok(last) => Ok(last),
+                    Err(error) => Err(ExtsWalkError::Ipv6Exts(error)),
+                }
+            }
+        }
+    }
+
+    /// Lets the numbers lead from the header through all extension headers to this number, and gives the ether type
+    /// under which a link layer carries the packet.
+    pub fn set_next_headers(&mut self, last: IpNumber) -> EtherType
+        ensures linked { self.new ≡ linked_headers self.old last }
+        ensures ether_type { result.0 ≡ ip_headers_type self.old }
+    {
+        match self {
+            IpHeaders::Ipv4(header, extensions) => {
+                header.protocol = extensions.set_next_headers(last);
+                EtherType::IPV4
+            }
+            IpHeaders::Ipv6(header, extensions) => {
+                header.next_header = extensions.set_next_headers(last);
+                EtherType::IPV6
+            }
+        }
+    }
+
+    /// Sets the length field for a payload of this length in bytes. It counts the extension headers too, and that of
+    /// IPv4 the header. A refusal changes nothing.
+    pub fn set_payload_len(&mut self, len: usize) -> Result<(), ValueTooBigError<usize>>
+        ensures { MatchResult result
+            (λ _. (len + ip_extensions_len self.old ≤ most_behind_header self.old)
+            × (self.new ≡ with_payload_len self.old len))
+            (λ error. (self.new ≡ self.old) × Refuses (payload_len_rows self.old len) error) }
+    {
+        match self {
+            IpHeaders::Ipv4(header, extensions) => {
+                let ip_header_len = header.header_len();
+                let extensions_len = extensions.header_len();
+                match len.checked_add(extensions_len) {
+                    Some(content_len) => header.set_payload_len(content_len),
+                    None => Err(ValueTooBigError {
+                        actual: len,
+                        max_allowed: 65535 - ip_header_len - extensions_len,
+                        value_type: ValueType::Ipv4PayloadLength,
+                    }),
+                }
+            }
+            IpHeaders::Ipv6(header, extensions) => {
+                let extensions_len = extensions.header_len();
+                match len.checked_add(extensions_len) {
+                    Some(content_len) => header.set_payload_length(content_len),
+                    None => Err(ValueTooBigError {
+                        actual: len,
+                        max_allowed: 65535 - extensions_len,
+                        value_type: ValueType::Ipv6PayloadLength,
+                    }),
+                }
+            }
+        }
+    }
+
+    /// Whether the packet carries one fragment of a longer payload, as the header of IPv4 or the fragment header of
+    /// IPv6 says: more follow, or it isn't the first.
+    #[inline]
+    pub fn is_fragmenting_payload(&self) -> bool
+        ensures { result ≡ headers_fragment self.now }
+    {
+        match self {
+            IpHeaders::Ipv4(header, _) => header.is_fragmenting_payload(),
+            IpHeaders::Ipv6(_, extensions) => extensions.is_fragmenting_payload(),
+        }
+    }
+
+    /// Appends the headers' bytes: the header, with its checksum as it is computed, and the extension headers in the
+    /// order in which the numbers lead to them. That the numbers lead to each is looked at first. A refusal leaves the
+    /// buffer as it was.
+    pub fn write(&self, buf: &mut Vec<u8>) -> Result<(), HeadersWriteError>
+        ensures ok { OnOk result ((parts : List ExtensionPart) × (last : ℕ) × LeadThrough self.now parts last
+            × FitParts parts × (buf.new.items ≡ buf.old.items ++ written_headers self.now parts)) }
+        ensures err { OnErr result (buf.new.items ≡ buf.old.items) }
+        ensures leading { (error : ExtsWalkError)
+            → RefusesLeading self.now error ↔ (result ≡ Err (of_walk_error error)) }
+    {
+        if let Err(error) = self.next_header() {
+            return Err(of_walk_error(error));
+        }
+        let start = buf.len();
+        if self.write_header(buf).is_err() {
+            return Err(HeadersWriteError::OutOfMemory);
+        }
+        match self.write_extensions(buf) {
+            Ok(()) => Ok(()),
+            Err(error) => {
+                buf.truncate(start);
+                Err(error)
+            }
+        }
+    }
+
+    /// Appends the header's bytes, with its checksum as it is computed. A refusal leaves the buffer as it was.
+    fn write_header(&self, buf: &mut Vec<u8>) -> Result<(), AllocError>
+        ensures ok { OnOk result (buf.new.items ≡ buf.old.items ++ ip_header_bytes (with_checksum self.now)) }
+        ensures err { OnErr result (buf.new.items ≡ buf.old.items) }
+    {
+        match self {
+            IpHeaders::Ipv4(header, _) => header.write(buf),
+            IpHeaders::Ipv6(header, _) => header.write(buf),
+        }
+    }
+
+    /// Appends the extension headers' bytes in the order in which the numbers lead to them, where they lead to each. A
+    /// refusal leaves the buffer as it was.
+    fn write_extensions(&self, buf: &mut Vec<u8>) -> Result<(), HeadersWriteError>
+        ensures ok { OnOk result ((parts : List ExtensionPart) × (last : ℕ) × LeadThrough self.now parts last
+            × FitParts parts × (buf.new.items ≡ buf.old.items ++ parts_bytes parts)) }
+        ensures err { OnErr result (buf.new.items ≡ buf.old.items) }
+        ensures leading { (error : ExtsWalkError)
+            → RefusesLeading self.now error ↔ (result ≡ Err (of_walk_error error)) }
+    {
+        match self {
+            IpHeaders::Ipv4(header, extensions) => {
+                match extensions.write(buf, header.protocol) {
+                    Ok(()) => Ok(()),
+                    Err(ipv4_exts::HeaderWriteError::Content(error)) => {
+                        Err(HeadersWriteError::Ipv4Exts(error))
+                    }
+                    Err(ipv4_exts::HeaderWriteError::OutOfMemory) => {
+                        Err(HeadersWriteError::OutOfMemory)
+                    }
+                }
+            }
+            IpHeaders::Ipv6(header, extensions) => {
+                match extensions.write(buf, header.next_header) {
+                    Ok(()) => Ok(()),
+                    Err(ipv6_exts::HeaderWriteError::Content(error)) => {
+                        Err(HeadersWriteError::Ipv6Exts(error))
+                    }
+                    Err(ipv6_exts::HeaderWriteError::OutOfMemory) => {
+                        Err(HeadersWriteError::OutOfMemory)
+                    }
+                }
+            }
+        }
+    }
+}
+
+/// A refusal of the walk along the numbers, as one of headers that were to be written.
+fn of_walk_error(error: ExtsWalkError) -> HeadersWriteError
+    ensures { result ≡ of_walk_error error }
+{
+    match error {
+        ExtsWalkError::Ipv4Exts(error) => HeadersWriteError::Ipv4Exts(error),
+        ExtsWalkError::Ipv6Exts(error) => HeadersWriteError::Ipv6Exts(error),
+    }
+}
