@@ -17,7 +17,8 @@ use Rattle.ep_packet.specs.Refusals.{RefusesFrame}
 use Rattle.ep_packet.proofs.Deciders.{Deciders}
 use Rattle.ep_packet.proofs.FrameLemmas.{frames_decided}
 
-layer_laws : Deciders
+-- what is known of each layer
+pub layer_laws : Deciders
 layer_laws = record {
   ethernet2 = decided ethernet2_is_read;
   linux_sll = decided linux_sll_is_read;

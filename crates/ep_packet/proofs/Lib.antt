@@ -11,3 +11,7 @@ pub mod TagLemmas
 pub mod WalkLemmas
 pub mod NetWalkLemmas
 pub mod IpHeadersLemmas
+pub mod ReadingLemmas
+pub mod HeadersLemmas
+pub mod InsideHeadersLemmas
+pub mod EntryHeadersLemmas

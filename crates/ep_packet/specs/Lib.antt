@@ -10,3 +10,7 @@ pub mod ShownBytes
 pub mod Walk
 pub mod IpHeaders
 pub mod NetHeaders
+pub mod PayloadParts
+pub mod PacketHeaders
+pub mod HeadersWalk
+pub mod TwoParsers

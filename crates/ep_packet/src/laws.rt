@@ -10,6 +10,7 @@ ghost use Rattle.ep_packet.specs.FrameBytes.{AreInOrder};
 ghost use Rattle.ep_packet.specs.Refusals.{RefusesFrame, RefusesFrameIn};
 
 pub mod ip_headers;
+pub mod parsers;
 
 use crate::sliced_packet::SlicedPacket;
 

@@ -7,7 +7,10 @@ mod ip_headers_read;
 pub mod laws;
 mod net_headers;
 mod net_slice;
+mod packet_headers;
+mod payload_slice;
 mod sliced_packet;
+mod sliced_packet_payload;
 
 pub use arrayvec::ArrayVec;
 pub use ep_base::err::{Layer, LenError};
@@ -15,14 +18,17 @@ pub use ep_base::{EtherPayloadSlice, EtherType, IpNumber, IpPayloadSlice, LenSou
 pub use ep_ext::{Ipv4Extensions, Ipv6Extensions};
 pub use ep_ip::{IpSlice, Ipv4Header, Ipv4Slice, Ipv6Header, Ipv6Slice};
 pub use ep_link::{
-    ArpPacket, ArpPacketSlice, DoubleVlanSlice, Ethernet2Slice, LinkExtSlice, LinkSlice,
-    LinuxSllPayloadSlice, LinuxSllSlice, MacsecHeaderSlice, MacsecPayloadSlice, MacsecSlice,
-    SingleVlanSlice, VlanSlice,
+    ArpPacket, ArpPacketSlice, DoubleVlanHeader, DoubleVlanSlice, Ethernet2Header, Ethernet2Slice,
+    LinkExtHeader, LinkExtSlice, LinkHeader, LinkSlice, LinuxSllPayloadSlice, LinuxSllSlice,
+    MacsecHeader, MacsecHeaderSlice, MacsecPayloadSlice, MacsecSlice, SingleVlanHeader,
+    SingleVlanSlice, VlanHeader, VlanSlice,
 };
-pub use ep_transport::{TransportSlice, UdpSlice};
+pub use ep_transport::{TransportHeader, TransportSlice, UdpSlice};
 pub use ip_headers::IpHeaders;
 pub use net_headers::{IpHeader, NetHeaders};
 pub use net_slice::{InternetSlice, NetSlice};
+pub use packet_headers::PacketHeaders;
+pub use payload_slice::PayloadSlice;
 pub use sliced_packet::SlicedPacket;
 
 #[cfg(test)]

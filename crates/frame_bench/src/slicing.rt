@@ -5,7 +5,6 @@ ghost use Rattle.std.specs.Option.{option_map};
 ghost use Rattle.ep_link.specs.LinkExtensions.{link_extension_of};
 ghost use Rattle.ep_link.specs.LinkSlices.{link_layer_of};
 ghost use Rattle.ep_packet.specs.Frame.{IsFrame};
-ghost use Rattle.ep_packet.specs.FrameBytes.{last_payload, link_payload, payload_behind};
 ghost use Rattle.ep_packet.specs.Layers.{layers_of, net_layer_of};
 ghost use Rattle.ep_packet.specs.Refusals.{RefusesFrame};
 ghost use Rattle.ep_transport.specs.TransportParts.{transport_layer_of};
@@ -55,7 +54,7 @@ fn push_layers(output: &mut Vec<u8>, packet: &SlicedPacket<'_>) -> Result<(), Al
     write!(output, "ok {link} ").map_err(|_| AllocError)?;
     push_extensions(output, packet.link_exts.as_slice())?;
     write!(output, " {net} {transport} ").map_err(|_| AllocError)?;
-    hex_text::push(output, innermost_payload(packet))
+    hex_text::push(output, packet.payload())
 }
 
 /// The word for a link layer.
@@ -121,37 +120,6 @@ fn transport_word(transport: &Option<TransportSlice<'_>>) -> &'static str
         Some(TransportSlice::Icmpv6(_)) => "icmpv6",
         None => "-",
     }
-}
-
-/// The payload of the innermost layer.
-fn innermost_payload<'a>(packet: &SlicedPacket<'a>) -> &'a [u8]
-    ensures { result.now ≡ last_payload (layers_of packet.now) }
-{
-    if let Some(transport) = &packet.transport {
-        return transport.payload();
-    }
-    match &packet.net {
-        Some(NetSlice::Ipv4(packet)) => packet.payload().payload,
-        Some(NetSlice::Ipv6(packet)) => packet.payload().payload,
-        Some(NetSlice::Arp(_)) => &[],
-        None => open_payload(packet),
-    }
-}
-
-/// The bytes behind the link header and the link extensions.
-fn open_payload<'a>(packet: &SlicedPacket<'a>) -> &'a [u8]
-    ensures { let layers = layers_of packet.now in
-        result.now ≡ payload_behind (link_payload layers.link) layers.link_exts }
-{
-    let mut payload: &'a [u8] = match &packet.link {
-        Some(link) => link.payload_slice(),
-        None => &[],
-    };
-    let extensions = packet.link_exts.as_slice();
-    for extension in extensions {
-        payload = extension.payload_slice();
-    }
-    payload
 }
 
 /// Appends the text of a refusal.

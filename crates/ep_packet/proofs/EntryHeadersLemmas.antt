@@ -1,0 +1,298 @@
+-- What the entries fill in, and where the payload lies in a frame's bytes.
+use Rattle.std.proofs.Common.{◌≡◌, ℕ, ◌-◌, length, inr, List, [], ◌∷◌, ◌++◌, map, Option, Some, None, Result, Ok, Err, refl, sym, ap, subst, ◌∙◌, append_assoc}
+use Rattle.std.specs.Prelude.{IfOk, IfErr, IfSome, IsOkAnd}
+use Rattle.std.specs.Option.{option_map, option_and_then}
+use Rattle.ep_base.specs.Bytes.{AreBytes}
+use Rattle.ep_base.specs.Layer.{Reading, headers}
+use Rattle.ep_base.specs.Tables.{IsDecided, Parts}
+use Rattle.ep_base.specs.declared.ether_type.EtherType.{EtherType}
+use Rattle.ep_base.specs.declared.len_source.LenSource.{LenSource}
+use Rattle.ep_base.specs.declared.len_source.LenSource.TheVariants as source
+use Rattle.ep_link.specs.declared.link.ethernet2_header.Ethernet2Header.{Ethernet2Header}
+use Rattle.ep_link.specs.declared.link.linux_sll_protocol_type.LinuxSllProtocolType.{LinuxSllProtocolType}
+use Rattle.ep_link.specs.declared.link.link_header.LinkHeader.{LinkHeader}
+use Rattle.ep_link.specs.declared.link.link_header.LinkHeader.TheVariants as link
+use Rattle.ep_link.specs.Ethernet2.{ethernet2_header_len, IsEthernet2}
+use Rattle.ep_link.specs.Ethernet2Slices.{ethernet2_slice_header, ethernet2_slice_parts, ethernet2_slice_payload}
+use Rattle.ep_link.specs.declared.link.ethernet2_slice.Ethernet2Slice.{Ethernet2Slice}
+use Rattle.ep_base.specs.declared.ether_payload_slice.EtherPayloadSlice.{EtherPayloadSlice}
+use Rattle.ep_link.specs.EtherPayloads.{EtherPayload, ether_payload_of}
+use Rattle.ep_link.specs.LinkSlices.{LinkLayer, ethernet2, linux_sll, ether_payload, linux_sll_payload, link_ether_payload, link_layer_payload, protocol_payload, whole_ether_payload}
+use Rattle.ep_link.specs.LinkExtensions.{LinkExtension, vlan, macsec, extension_ether_payload, extension_header, extension_payload}
+use Rattle.ep_link.specs.LinuxSll.{protocol_ether_type}
+use Rattle.ep_link.specs.Macsec.{unmodified, modified}
+use Rattle.ep_transport.specs.TransportParts.{TransportLayer}
+use Rattle.ep_transport.specs.declared.transport_header.TransportHeader.{TransportHeader}
+use Rattle.ep_transport.specs.declared.transport_header.TransportHeader.TheVariants as header
+use Rattle.ep_packet.specs.declared.err.slice_error.SliceError.{SliceError}
+use Rattle.ep_packet.specs.declared.packet_headers.PacketHeaders.{PacketHeaders}
+use Rattle.ep_packet.specs.Layers.{Entry, ethernet, ether_type, ip, Layers, NetLayer, ipv4, ipv6, arp}
+use Rattle.ep_packet.specs.Frame.{any_ip, IsFrameIn, most_link_exts}
+use Rattle.ep_packet.specs.FrameBytes.{AreInOrder, inner_payload, last_payload, link_payload, payload_behind}
+use Rattle.ep_packet.specs.PacketHeaders.{Headers, LieIn, headers_in, headers_of, net_header_in, transport_header_in}
+use Rattle.ep_packet.specs.PayloadParts.{PayloadPart, empty, macsec_modified, behind_header, innermost_part, open_part, open_part_in, payload_part_bytes, payload_part_in, payload_part_of}
+use Rattle.ep_packet.specs.Payloads.{ether_payload_behind, ether_payload_of_parts, extensions_len_source}
+use Rattle.ep_packet.specs.Refusals.{RefusesFrameIn, RefusesInside}
+use Rattle.ep_packet.specs.HeadersWalk.{FillsInside, FillsNet, open_behind, with_net}
+use Rattle.ep_packet.proofs.FrameLemmas.{frames_decided}
+use Rattle.ep_packet.proofs.LayerLaws.{layer_laws}
+use Rattle.ep_packet.proofs.FrameBytesLemmas.{frame_in_order}
+use Rattle.ep_packet.proofs.HeadersLemmas.{net_innermost}
+
+-- bytes are one frame as headers are read, or are refused
+pub headers_law : (entry : Entry) (bytes : List ℕ) → AreBytes bytes
+    → IsDecided (IsFrameIn headers entry bytes) (RefusesFrameIn headers entry bytes)
+headers_law entry bytes fits = frames_decided layer_laws headers entry bytes fits
+
+-- an answer shows an image of what there is where it is Ok, so it is Ok for what there is, and shows its image
+pub only_image : {A V W E : Type 0} {Is : V → Type 0} {Refuses : E → Type 0} (shown : A → W) (image : V → W)
+    → IsDecided Is Refuses → (answer : Result A E)
+    → IfOk answer (λ a. (value : V) × Is value × (shown a ≡ image value)) → IfErr answer Refuses
+    → (value : V) → Is value → IsOkAnd answer (λ a. shown a ≡ image value)
+only_image shown image decided (Ok a) ok err value is = ok.2 ∙ ap image (decided.one_value ok.0 value ok.1 is)
+only_image shown image decided (Err e) ok err value is = absurd (decided.not_both value e is err)
+
+-- ---- the bytes of the payload
+
+-- the bytes of a payload whose type can be read, or else these
+open_part_bytes : (found : Option EtherPayload) (bytes : List ℕ) → IfSome found (λ payload. payload.bytes ≡ bytes)
+    → payload_part_bytes (open_part found bytes) ≡ bytes
+open_part_bytes None bytes same = refl
+open_part_bytes (Some payload) bytes same = same
+
+-- the same with another source
+with_source_bytes : (set : LenSource) (found : Option EtherPayload) (bytes : List ℕ)
+    → IfSome found (λ payload. payload.bytes ≡ bytes)
+    → IfSome (option_map (λ (payload : EtherPayload). record payload { len_source = set }) found)
+    (λ payload. payload.bytes ≡ bytes)
+with_source_bytes set None bytes same = tt
+with_source_bytes set (Some payload) bytes same = same
+
+-- the bytes of the payload of an extension
+extension_bytes_are : (extension : LinkExtension)
+    → IfSome (extension_ether_payload extension) (λ payload. payload.bytes ≡ extension_payload extension)
+extension_bytes_are (vlan tag payload) = refl
+extension_bytes_are (macsec tag (unmodified type source bytes)) = refl
+extension_bytes_are (macsec tag (modified bytes)) = tt
+
+-- those of the payload behind extensions
+behind_bytes_are : (found : Option EtherPayload) (bytes : List ℕ) (extensions : List LinkExtension)
+    → IfSome found (λ payload. payload.bytes ≡ bytes)
+    → IfSome (ether_payload_behind found extensions) (λ payload. payload.bytes ≡ payload_behind bytes extensions)
+behind_bytes_are found bytes [] same = same
+behind_bytes_are found bytes (extension ∷ others) same =
+    behind_bytes_are (extension_ether_payload extension) (extension_payload extension) others (extension_bytes_are extension)
+
+protocol_bytes_are : (type : Option EtherType) (bytes : List ℕ)
+    → IfSome (option_map (whole_ether_payload bytes) type) (λ payload. payload.bytes ≡ bytes)
+protocol_bytes_are None bytes = tt
+protocol_bytes_are (Some type) bytes = refl
+
+-- those of the payload of a link layer
+link_bytes_are : (layer : LinkLayer)
+    → IfSome (link_ether_payload layer) (λ payload. payload.bytes ≡ link_layer_payload layer)
+link_bytes_are (ethernet2 frame payload) = refl
+link_bytes_are (linux_sll frame payload) = protocol_bytes_are (protocol_ether_type frame.protocol_type) payload
+link_bytes_are (ether_payload type source payload) = refl
+link_bytes_are (linux_sll_payload protocol payload) = protocol_bytes_are (protocol_ether_type protocol) payload
+
+-- those of the payload behind a link layer and extensions
+parts_bytes_are : (layer : Option LinkLayer) (extensions : List LinkExtension)
+    → IfSome (ether_payload_of_parts layer extensions)
+    (λ payload. payload.bytes ≡ payload_behind (link_payload layer) extensions)
+parts_bytes_are None [] = tt
+parts_bytes_are (Some layer) [] = link_bytes_are layer
+parts_bytes_are layer (extension ∷ others) =
+    with_source_bytes (extensions_len_source (extension ∷ others))
+    (ether_payload_behind (extension_ether_payload extension) others) (payload_behind (extension_payload extension) others)
+    (behind_bytes_are (extension_ether_payload extension) (extension_payload extension) others (extension_bytes_are extension))
+
+-- the bytes behind a transport header
+header_bytes_are : (read : TransportHeader) (bytes : List ℕ) → payload_part_bytes (behind_header read bytes) ≡ bytes
+header_bytes_are (header.Udp datagram) bytes = refl
+header_bytes_are (header.Tcp segment) bytes = refl
+header_bytes_are (header.Icmpv4 message) bytes = refl
+header_bytes_are (header.Icmpv6 message) bytes = refl
+
+-- the bytes of the payload of the last layer
+innermost_bytes_are : (unread : PayloadPart) (bytes : List ℕ) (net : Option NetLayer) (transport : Option TransportLayer)
+    → payload_part_bytes unread ≡ bytes
+    → payload_part_bytes (innermost_part unread net transport) ≡ inner_payload bytes net transport
+innermost_bytes_are unread bytes net (Some layer) same = header_bytes_are layer.header layer.payload
+innermost_bytes_are unread bytes None None same = same
+innermost_bytes_are unread bytes (Some (ipv4 read extensions payload)) None same = refl
+innermost_bytes_are unread bytes (Some (ipv6 read extensions payload)) None same = refl
+innermost_bytes_are unread bytes (Some (arp packet)) None same = refl
+
+-- the payload that the headers of a frame leave is that of its last layer
+payload_bytes_are : (layers : Layers) → payload_part_bytes (payload_part_in layers) ≡ last_payload layers
+payload_bytes_are layers =
+    innermost_bytes_are (open_part_in layers) (payload_behind (link_payload layers.link) layers.link_exts)
+    layers.net layers.transport
+    (open_part_bytes (ether_payload_of_parts layers.link layers.link_exts)
+    (payload_behind (link_payload layers.link) layers.link_exts)
+    (parts_bytes_are layers.link layers.link_exts))
+
+-- it lies in the frame
+pub payload_lies : (entry : Entry) (bytes : List ℕ) (packet : PacketHeaders) (layers : Layers)
+    → IsFrameIn headers entry bytes layers → headers_of packet ≡ headers_in layers
+    → LieIn (payload_part_bytes (payload_part_of packet.payload)) bytes
+payload_lies entry bytes packet layers is same =
+    let order = frame_in_order layer_laws headers entry bytes layers is in
+    let payload : payload_part_bytes (payload_part_of packet.payload) ≡ last_payload layers =
+    ap (λ (h : Headers). payload_part_bytes h.payload) same ∙ payload_bytes_are layers in
+    let front = order.link ++ (order.tags ++ (order.net ++ order.transport)) in
+    let grouped : bytes ≡ front ++ (last_payload layers ++ order.left) = order.parts ∙ (simp append_assoc) in
+    (front, order.left, grouped ∙ ap (λ (b : List ℕ). front ++ (b ++ order.left)) (sym payload))
+
+-- ---- the entries
+
+-- headers of which the link header alone is known
+abbrev pub link_alone : Option LinkHeader → Headers
+link_alone read = record { link = read; link_exts = []; net = None; transport = None; payload = empty }
+
+-- what is left open behind extensions is what their link layer leaves
+open_in_ethernet : (frame : Ethernet2Header) (payload : List ℕ) (extensions : List LinkExtension)
+    → open_behind (whole_ether_payload payload frame.ether_type) extensions
+    ≡ open_part (ether_payload_of_parts (Some (ethernet2 frame payload)) extensions)
+    (payload_behind (link_payload (Some (ethernet2 frame payload))) extensions)
+open_in_ethernet frame payload [] = refl
+open_in_ethernet frame payload (extension ∷ others) = refl
+
+open_in_payload : (type : EtherType) (payload : List ℕ) (extensions : List LinkExtension)
+    → open_behind (whole_ether_payload payload type) extensions
+    ≡ open_part (ether_payload_of_parts (Some (ether_payload type source.Slice payload)) extensions)
+    (payload_behind (link_payload (Some (ether_payload type source.Slice payload))) extensions)
+open_in_payload type payload [] = refl
+open_in_payload type payload (extension ∷ others) = refl
+
+-- headers with what was filled in behind the link layer
+abbrev filled_with : Headers → PayloadPart → List LinkExtension → Option NetLayer → Option TransportLayer → Headers
+filled_with old unread extensions net transport =
+    with_net (record old { link_exts = old.link_exts ++ map extension_header extensions }) unread net transport
+
+-- where a net layer stands, it does not matter what would be left open
+some_innermost : (unread other : PayloadPart) (net : Option NetLayer) (transport : Option TransportLayer)
+    (layer : NetLayer)
+    → net ≡ Some layer → innermost_part unread net transport ≡ innermost_part other net transport
+some_innermost unread other net transport layer same =
+    subst (λ (n : Option NetLayer). innermost_part unread n transport ≡ innermost_part other n transport) (sym same)
+    (net_innermost layer transport unread other)
+
+-- bytes are a frame whose headers these are
+abbrev pub IsFilled : Entry → List ℕ → Headers → Type 0
+IsFilled entry bytes read = (layers : Layers) × IsFrameIn headers entry bytes layers × (read ≡ headers_in layers)
+
+-- behind an Ethernet II header
+pub ethernet_fills : (bytes : List ℕ) (frame : Parts Ethernet2Header) (old new : Headers) → IsEthernet2 bytes frame
+    → old ≡ link_alone (Some (link.Ethernet2 frame.header))
+    → FillsInside most_link_exts (whole_ether_payload frame.payload frame.header.ether_type) old new
+    → IsFilled ethernet bytes new
+ethernet_fills bytes frame old new is alone fills = (
+  record {
+    link = Some (ethernet2 frame.header frame.payload);
+    link_exts = fills.extensions;
+    net = fills.net;
+    transport = fills.transport;
+  },
+  (frame, is, refl, fills.inside),
+  fills.filled
+      ∙ ap (λ (h : Headers). filled_with h (open_behind (whole_ether_payload frame.payload frame.header.ether_type) fills.extensions) fills.extensions fills.net fills.transport) alone
+      ∙ ap (λ (p : PayloadPart). filled_with (link_alone (Some (link.Ethernet2 frame.header))) p fills.extensions fills.net fills.transport)
+      (open_in_ethernet frame.header frame.payload fills.extensions),
+)
+
+-- in the payload of a link layer
+pub ether_payload_fills : (bytes : List ℕ) (type : EtherType) (old new : Headers) → old ≡ link_alone None
+    → FillsInside most_link_exts (whole_ether_payload bytes type) old new → IsFilled (ether_type type) bytes new
+ether_payload_fills bytes type old new alone fills = (
+  record {
+    link = Some (ether_payload type source.Slice bytes);
+    link_exts = fills.extensions;
+    net = fills.net;
+    transport = fills.transport;
+  },
+  (refl, fills.inside),
+  fills.filled
+      ∙ ap (λ (h : Headers). filled_with h (open_behind (whole_ether_payload bytes type) fills.extensions) fills.extensions fills.net fills.transport) alone
+      ∙ ap (λ (p : PayloadPart). filled_with (link_alone None) p fills.extensions fills.net fills.transport)
+      (open_in_payload type bytes fills.extensions),
+)
+
+-- in an IP packet of its own
+pub ip_fills : (bytes : List ℕ) (old new : Headers) → old ≡ link_alone None
+    → FillsNet (Some any_ip) bytes empty old new → IsFilled ip bytes new
+ip_fills bytes old new alone fills = (
+  record { link = None; link_exts = []; net = fills.net; transport = fills.transport },
+  (refl, refl, fills.part),
+  fills.filled
+      ∙ ap (λ (h : Headers). with_net h empty fills.net fills.transport) alone
+      ∙ ap (λ (p : PayloadPart). record (link_alone None) {
+        net = option_map net_header_in fills.net;
+        transport = option_map transport_header_in fills.transport;
+        payload = p;
+      }) (some_innermost empty (macsec_modified []) fills.net fills.transport fills.part.0 fills.part.2),
+)
+
+-- ---- from what the calls ensure
+
+-- before the first link extension there is room for all
+pub whole_room : (packet : PacketHeaders) (read : Option LinkHeader) → headers_of packet ≡ link_alone read
+    → most_link_exts - length packet.link_exts.items ≡ most_link_exts
+whole_room packet read alone = ap (λ (h : Headers). most_link_exts - length h.link_exts) alone
+
+pub ether_payload_filled : (bytes : List ℕ) (type : EtherType) (packet new : PacketHeaders)
+    → headers_of packet ≡ link_alone None
+    → FillsInside (most_link_exts - length packet.link_exts.items) (whole_ether_payload bytes type) (headers_of packet)
+    (headers_of new)
+    → IsFilled (ether_type type) bytes (headers_of new)
+ether_payload_filled bytes type packet new alone fills =
+    ether_payload_fills bytes type (headers_of packet) (headers_of new) alone
+    (subst (λ (n : ℕ). FillsInside n (whole_ether_payload bytes type) (headers_of packet) (headers_of new))
+    (whole_room packet None alone) fills)
+
+-- a slice shows a payload of this type and these bytes, whose end nothing but the end of the bytes sets
+whole_shown : (slice : EtherPayloadSlice) (type : EtherType) (bytes : List ℕ) → slice.ether_type ≡ type
+    → slice.len_source ≡ source.Slice → slice.payload.now ≡ bytes
+    → ether_payload_of slice ≡ whole_ether_payload bytes type
+whole_shown slice type bytes same_type whole same_bytes =
+    λ i. record { ether_type = same_type i; len_source = whole i; bytes = same_bytes i }
+
+pub ethernet_filled : (bytes left : List ℕ) (frame : Ethernet2Slice) (read : Ethernet2Header) (payload : EtherPayloadSlice)
+    (packet new : PacketHeaders)
+    → IsEthernet2 bytes (ethernet2_slice_parts frame left) → read ≡ ethernet2_slice_header frame
+    → payload.ether_type ≡ (ethernet2_slice_header frame).ether_type → payload.len_source ≡ source.Slice
+    → payload.payload.now ≡ ethernet2_slice_payload frame
+    → headers_of packet ≡ link_alone (Some (link.Ethernet2 read))
+    → FillsInside (most_link_exts - length packet.link_exts.items) (ether_payload_of payload) (headers_of packet)
+    (headers_of new)
+    → IsFilled ethernet bytes (headers_of new)
+ethernet_filled bytes left frame read payload packet new is header_is same_type whole same_bytes alone fills =
+    let parts = ethernet2_slice_parts frame left in
+    let shown = whole_shown payload parts.header.ether_type parts.payload same_type whole same_bytes in
+    ethernet_fills bytes parts (headers_of packet) (headers_of new) is
+    (alone ∙ ap (λ (h : Ethernet2Header). link_alone (Some (link.Ethernet2 h))) header_is)
+    (subst (λ (p : EtherPayload). FillsInside most_link_exts p (headers_of packet) (headers_of new)) shown
+    (subst (λ (n : ℕ). FillsInside n (ether_payload_of payload) (headers_of packet) (headers_of new))
+    (whole_room packet (Some (link.Ethernet2 read)) alone) fills))
+
+pub ethernet_behind_refused : (bytes left : List ℕ) (frame : Ethernet2Slice) (payload : EtherPayloadSlice)
+    (packet : PacketHeaders) (read : Option LinkHeader) (error : SliceError)
+    → IsEthernet2 bytes (ethernet2_slice_parts frame left)
+    → payload.ether_type ≡ (ethernet2_slice_header frame).ether_type
+    → payload.payload.now ≡ ethernet2_slice_payload frame → headers_of packet ≡ link_alone read
+    → RefusesInside headers (most_link_exts - length packet.link_exts.items) ethernet2_header_len
+    (Some payload.ether_type) payload.payload.now error
+    → RefusesFrameIn headers ethernet bytes error
+ethernet_behind_refused bytes left frame payload packet read error is same_type same_bytes alone refused =
+    let parts = ethernet2_slice_parts frame left in
+    inr (
+      parts,
+      is,
+      subst (λ (b : List ℕ). RefusesInside headers most_link_exts ethernet2_header_len (Some parts.header.ether_type) b error)
+          same_bytes
+          (subst (λ (t : EtherType). RefusesInside headers most_link_exts ethernet2_header_len (Some t) payload.payload.now error)
+          same_type
+          (subst (λ (n : ℕ). RefusesInside headers n ethernet2_header_len (Some payload.ether_type) payload.payload.now error)
+          (whole_room packet read alone) refused)),
+    )

@@ -1,0 +1,99 @@
+use Rattle.std.proofs.Common.{◌≡◌, ◌-◌, suc, List, [], ◌∷◌, ◌++◌, length, length-append, Some, None, sym, ap, subst, ◌∙◌, arith, inl, inr}
+use Rattle.std.proofs.lemmas.Grind.{common_steps}
+use Rattle.std.proofs.lemmas.Result.{IfOk-weaker, IfErr-weaker}
+use Rattle.std.specs.Option.{option_map}
+use Rattle.ep_base.specs.declared.len_source.LenSource.{LenSource}
+use Rattle.ep_link.specs.declared.link_ext.link_ext_header.LinkExtHeader.{LinkExtHeader}
+use Rattle.ep_link.specs.EtherPayloads.{ether_payload_of}
+use Rattle.ep_link.specs.LinkExtensions.{extension_ether_payload, link_extension_of}
+use Rattle.ep_link.proofs.LinkExtensionLemmas.{extension_len}
+use Rattle.ep_packet.specs.Frame.{most_link_exts}
+use Rattle.ep_packet.specs.HeadersWalk.{FillsInside, ending_by}
+use Rattle.ep_packet.specs.PacketHeaders.{headers_of}
+use Rattle.ep_packet.specs.PayloadParts.{macsec_modified}
+use Rattle.ep_packet.proofs.HeadersLemmas.{fills_no_more}
+use Rattle.ep_packet.proofs.InsideHeadersLemmas.{fills_one, fills_modified, tag_refused, with_tag}
+use Rattle.ep_packet.proofs.WalkLemmas.{found_there, none_there}
+use Rattle.ep_packet.proofs.packet_headers.PacketHeaders.+fill_inside.Goals as goal
+
+pub returns-then-is_full-clause-ok : goal.returns-then-is_full-clause-ok
+returns-then-is_full-clause-ok t c =
+    IfOk-weaker c.fill_net.result _ _
+    (λ done fills. fills_no_more (most_link_exts - length c.args.self.now.link_exts.items) (ether_payload_of c.args.payload)
+    (headers_of c.args.self.now) (headers_of c.fill_net.new.self) (inl (grind (arith, common_steps))) fills)
+    c.fill_net.ensures.ok
+
+pub returns-in-Ok-None-clause-ok : goal.returns-in-Ok-None-clause-ok
+returns-in-Ok-None-clause-ok t c =
+    let none = none_there c.args.payload.ether_type c.in-Ok-None.field-0 c.in-Ok-None.field-0-is c.in-Ok-None.ensures.none in
+    IfOk-weaker c.fill_net-in-Ok-None.result _ _
+    (λ done fills. fills_no_more (most_link_exts - length c.args.self.now.link_exts.items) (ether_payload_of c.args.payload)
+    (headers_of c.args.self.now) (headers_of c.fill_net-in-Ok-None.new.self) (inr none) fills)
+    c.fill_net-in-Ok-None.ensures.ok
+
+pub overflow_add-offset : goal.overflow_add-offset
+overflow_add-offset t c =
+    let found = c.in-Ok-Some.extension in
+    let there = found_there c.args.payload.ether_type c.args.payload.payload.now c.in-Ok-Some.field-0 found c.in-Ok-Some.field-0-is c.in-Ok-Some.ensures.ok in
+    let len = extension_len c.args.payload.ether_type c.args.payload.payload.now (link_extension_of found, there.0) there.2 in
+    omega (arith, len, c.header_len.ensures, c.requires.place)
+
+pub returns-in-Some-clause-ok : goal.returns-in-Some-clause-ok
+returns-in-Some-clause-ok t c =
+    let found = link_extension_of c.in-Ok-Some.extension in
+    let there = found_there c.args.payload.ether_type c.args.payload.payload.now c.in-Ok-Some.field-0 c.in-Ok-Some.extension
+    c.in-Ok-Some.field-0-is c.in-Ok-Some.ensures.ok in
+    let old = headers_of c.args.self.now in
+    let pushed = c.push.new.self.items in
+    let room = most_link_exts - length old.link_exts in
+    let rest = most_link_exts - length pushed in
+    let more : room ≡ suc rest =
+    grind (arith, common_steps, ap length c.push.ensures.items, length-append {A = LinkExtHeader}) in
+    let tagged = c.push.ensures.items ∙ ap (λ (h : LinkExtHeader). old.link_exts ++ h ∷ []) c.to_header.ensures in
+    let shown : c.ether_payload.result ≡ Some c.in-Some.inside = cc c.in-Some.is in
+    let same : extension_ether_payload found ≡ Some (ether_payload_of c.in-Some.inside) =
+    sym c.ether_payload.ensures ∙ ap (option_map ether_payload_of) shown in
+    let middle = record old { link_exts = pushed } in
+    let new = headers_of c.fill_inside.new.self in
+    IfOk-weaker c.fill_inside.result _ _
+    (λ done behind. fills_one room rest (ether_payload_of c.args.payload) (ether_payload_of c.in-Some.inside) there.0 found
+    old middle new more there.2 same (ap (λ (x : List LinkExtHeader). record old { link_exts = x }) tagged)
+    (subst (λ (s : LenSource). FillsInside rest (ending_by s (ether_payload_of c.in-Some.inside)) middle new)
+    c.limit_in.ensures behind))
+    c.fill_inside.ensures.ok
+
+pub returns-in-Some-clause-err : goal.returns-in-Some-clause-err
+returns-in-Some-clause-err t c =
+    let found = link_extension_of c.in-Ok-Some.extension in
+    let there = found_there c.args.payload.ether_type c.args.payload.payload.now c.in-Ok-Some.field-0 c.in-Ok-Some.extension
+    c.in-Ok-Some.field-0-is c.in-Ok-Some.ensures.ok in
+    let pushed = c.push.new.self.items in
+    let room = most_link_exts - length c.args.self.now.link_exts.items in
+    let rest = most_link_exts - length pushed in
+    let more : room ≡ suc rest =
+    grind (arith, common_steps, ap length c.push.ensures.items, length-append {A = LinkExtHeader}) in
+    let shown : c.ether_payload.result ≡ Some c.in-Some.inside = cc c.in-Some.is in
+    let same : extension_ether_payload found ≡ Some (ether_payload_of c.in-Some.inside) =
+    sym c.ether_payload.ensures ∙ ap (option_map ether_payload_of) shown in
+    IfErr-weaker c.fill_inside.result _ _
+    (λ error refused. tag_refused room rest c.args.offset c.header_len.result (ether_payload_of c.args.payload)
+    (ether_payload_of c.in-Some.inside) there.0 found error more there.2 same c.header_len.ensures refused)
+    c.fill_inside.ensures.err
+
+pub returns-in-None-clause-ok : goal.returns-in-None-clause-ok
+returns-in-None-clause-ok t c =
+    let found = link_extension_of c.in-Ok-Some.extension in
+    let there = found_there c.args.payload.ether_type c.args.payload.payload.now c.in-Ok-Some.field-0 c.in-Ok-Some.extension
+    c.in-Ok-Some.field-0-is c.in-Ok-Some.ensures.ok in
+    let old = headers_of c.args.self.now in
+    let pushed = c.push.new.self.items in
+    let room = most_link_exts - length old.link_exts in
+    let rest = most_link_exts - length pushed in
+    let more : room ≡ suc rest =
+    grind (arith, common_steps, ap length c.push.ensures.items, length-append {A = LinkExtHeader}) in
+    let tagged = c.push.ensures.items ∙ ap (λ (h : LinkExtHeader). old.link_exts ++ h ∷ []) c.to_header.ensures in
+    let none : extension_ether_payload found ≡ None =
+    sym c.ether_payload.ensures ∙ ap (option_map ether_payload_of) c.in-None.is in
+    fills_modified room rest (ether_payload_of c.args.payload) there.0 found old _ more there.2 none c.requires.lacks
+    (ap (λ (x : List LinkExtHeader). record old { link_exts = x; payload = macsec_modified c.payload_slice.result.now }) tagged
+    ∙ ap (λ b. record (with_tag old found) { payload = macsec_modified b }) c.payload_slice.ensures)

@@ -1,0 +1,17 @@
+use Rattle.std.proofs.Common.{ap, arith}
+use Rattle.ep_base.specs.Layer.{headers}
+use Rattle.ep_base.specs.declared.err.len_error.LenError.{LenError}
+use Rattle.ep_transport.proofs.TransportPlaces.{at_start, transport_start}
+use Rattle.ep_packet.proofs.packet_headers.PacketHeaders.fill_transport.Goals as goal
+
+pub add_offset-requires : goal.add_offset-requires
+add_offset-requires c =
+    let error = c.in-Err-Len in
+    omega (
+      arith,
+      at_start headers c.args.payload.ip_number.0 c.args.payload.fragmented c.args.payload.payload.now
+          error.field-0 error.ensures.err,
+      ap transport_start error.field-0-is,
+      ap (λ (e : LenError). e.layer_start_offset) error.error-is,
+      c.requires.place,
+    )

@@ -1,0 +1,78 @@
+-- What the walk over a frame has filled in, as the private calls of it say it.
+use Rattle.std.specs.Prelude.{◌≡◌, ℕ, ◌+◌, ◌==◌, if◌then◌else◌, List, [], ◌∷◌, ◌++◌, map, Option, Some, None}
+use Rattle.std.specs.Option.{option_map}
+use Rattle.ep_base.specs.IpPayload.{IpPayload}
+use Rattle.ep_base.specs.Layer.{headers}
+use Rattle.ep_base.specs.declared.ether_type.EtherType.{EtherType}
+use Rattle.ep_base.specs.declared.len_source.LenSource.{LenSource}
+use Rattle.ep_base.specs.declared.len_source.LenSource.TheVariants as source
+use Rattle.ep_link.specs.EtherPayloads.{EtherPayload}
+use Rattle.ep_link.specs.LinkExtensions.{LinkExtension, extension_header}
+use Rattle.ep_transport.specs.TransportParts.{TransportLayer}
+use Rattle.ep_packet.specs.Frame.{NetKind, IsInside, IsNetPart, IsTransportIn}
+use Rattle.ep_packet.specs.FrameBytes.{payload_behind}
+use Rattle.ep_packet.specs.Layers.{NetLayer}
+use Rattle.ep_packet.specs.PacketHeaders.{Headers, net_header_in, transport_header_in}
+use Rattle.ep_packet.specs.PayloadParts.{PayloadPart, ip, innermost_part, open_part}
+use Rattle.ep_packet.specs.Payloads.{ether_payload_behind, have_short_len}
+use Rattle.ep_packet.specs.declared.ip_headers.IpHeaders.{IpHeaders}
+use Rattle.ep_packet.specs.declared.ip_headers.IpHeaders.TheVariants as variant
+
+-- what set the end of what lies behind some extensions, which lie in a payload whose end this set
+abbrev pub source_behind : LenSource → List LinkExtension → LenSource
+source_behind outer extensions = if have_short_len extensions then source.MacsecShortLength else outer
+
+-- a payload whose end this set
+abbrev pub ending_by : LenSource → EtherPayload → EtherPayload
+ending_by outer payload = record payload { len_source = outer }
+
+-- the payload behind some extensions, which lie in a payload
+abbrev pub open_behind : EtherPayload → List LinkExtension → PayloadPart
+open_behind payload extensions = open_part
+    (option_map (ending_by (source_behind payload.len_source extensions)) (ether_payload_behind (Some payload) extensions))
+    (payload_behind payload.bytes extensions)
+
+-- these headers, with what was found behind the link extensions
+abbrev pub with_net : Headers → PayloadPart → Option NetLayer → Option TransportLayer → Headers
+with_net old unread net transport = record old {
+  net = option_map net_header_in net;
+  transport = option_map transport_header_in transport;
+  payload = innermost_part unread net transport;
+}
+
+-- no net header and no transport header is filled in yet
+abbrev pub LacksNet : Headers → Type 0
+LacksNet old = (old.net ≡ None) × (old.transport ≡ None)
+
+-- the transport layer of an IP payload was filled in, where it has one, and the payload of the last layer
+pub record FillsTransport (payload : IpPayload) (old new : Headers) : Type 0 where
+  pub transport : Option TransportLayer
+  pub part : IsTransportIn headers payload transport
+  pub filled : new ≡ record old {
+    transport = option_map transport_header_in transport;
+    payload = innermost_part (ip payload) None transport;
+  }
+
+-- The net layer of a kind that bytes are was filled in, with the transport layer in it and the payload of the last layer,
+-- which is this one where no net layer is read.
+pub record FillsNet (kind : Option NetKind) (bytes : List ℕ) (unread : PayloadPart) (old new : Headers) : Type 0 where
+  pub net : Option NetLayer
+  pub transport : Option TransportLayer
+  pub part : IsNetPart headers kind bytes net transport
+  pub filled : new ≡ with_net old unread net transport
+
+-- What the bytes of a payload hold was filled in, where at most so many link extensions are taken.
+pub record FillsInside (room : ℕ) (payload : EtherPayload) (old new : Headers) : Type 0 where
+  pub extensions : List LinkExtension
+  pub net : Option NetLayer
+  pub transport : Option TransportLayer
+  pub inside : IsInside headers room (Some payload.ether_type) payload.bytes extensions net transport
+  pub filled : new ≡ with_net
+      (record old { link_exts = old.link_exts ++ map extension_header extensions })
+      (open_behind payload extensions) net transport
+
+-- where the content ends that the length field of IP headers counts, from the header's first byte on, of so many bytes
+abbrev pub content_end : IpHeaders → ℕ → ℕ
+content_end (variant.Ipv4 header extensions) len = header.total_len
+content_end (variant.Ipv6 header extensions) len =
+    if header.payload_length == 0 then len else 40 + header.payload_length

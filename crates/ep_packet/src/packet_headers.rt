@@ -1,0 +1,374 @@
+//! A packet, decoded into its headers.
+
+ghost use Rattle.std.specs.Prelude.{◌≡◌, ◌+◌, ◌-◌, ◌<◌, ◌≤◌, ◌^◌, length, IfOk, IfErr, Some};
+ghost use Rattle.ep_base.specs.Layer.{headers};
+ghost use Rattle.ep_base.specs.IpPayload.{ip_payload_of};
+ghost use Rattle.ep_link.specs.EtherPayloads.{ether_payload_of};
+ghost use Rattle.ep_packet.specs.Frame.{most_link_exts, only_ipv4, only_ipv6, only_arp, any_ip, net_kind};
+ghost use Rattle.ep_packet.specs.PacketHeaders.{headers_of};
+ghost use Rattle.ep_packet.specs.PayloadParts.{ether, empty};
+ghost use Rattle.ep_ip.specs.Ip.{cut_by};
+ghost use Rattle.ep_packet.specs.Refusals.{RefusesInside, RefusesNetPart, RefusesTransportIn};
+ghost use Rattle.ep_packet.specs.HeadersWalk.{FillsInside, FillsNet, FillsTransport, LacksNet, content_end};
+
+use crate::err::SliceError;
+use crate::ip_headers::IpHeaders;
+use crate::net_headers::NetHeaders;
+use crate::payload_slice::PayloadSlice;
+use arrayvec::ArrayVec;
+use ep_base::err::{LenError, ip, ipv4, ipv6, macsec, tcp};
+use ep_base::{EtherPayloadSlice, EtherType, IpPayloadSlice, LenSource, VlanId, ether_type};
+use ep_ip::Ipv6Header;
+use ep_link::{
+    ArpPacketSlice, DoubleVlanHeader, Ethernet2Header, Ethernet2Slice, LinkExtHeader, LinkExtSlice,
+    LinkHeader, VlanHeader,
+};
+use ep_transport::TransportHeader;
+
+/// The headers of a packet by value, from the outside in, and the payload of the last layer. A header that is no part
+/// of the packet, or whose protocol is not read, is `None`, and so is each header inside it. A value takes the room of
+/// all extension headers that IPv6 has, whichever of them are there.
+#[derive(Clone, Debug, PartialEq, Eq, Drop)]
+pub struct PacketHeaders<'a> {
+    /// The header of the link layer.
+    pub link: Option<LinkHeader>,
+    /// The tags of the link extensions, from the outside in, of which at most three are taken.
+    pub link_exts: ArrayVec<LinkExtHeader, 3>,
+    /// The headers of the net layer.
+    pub net: Option<NetHeaders>,
+    /// The header of the transport layer.
+    pub transport: Option<TransportHeader>,
+    /// The payload of the last layer.
+    pub payload: PayloadSlice<'a>,
+}
+
+impl<'a> PacketHeaders<'a> {
+    ghost use Rattle.std.specs.Prelude.{IsOkAnd, [], None};
+    ghost use Rattle.ep_packet.specs.Layers.{ethernet, ether_type as of_type, ip, Layers};
+    ghost use Rattle.ep_packet.specs.Frame.{IsFrameIn};
+    ghost use Rattle.ep_packet.specs.PacketHeaders.{LieIn, headers_in, header_vlan_ids, outer_headers, vlan_headers};
+    ghost use Rattle.ep_packet.specs.PayloadParts.{payload_part_bytes, payload_part_of};
+    ghost use Rattle.ep_packet.specs.Refusals.{RefusesFrameIn};
+
+    /// The greatest number of link extensions that are taken. A further one is left as payload.
+    pub const LINK_EXTS_CAP: usize = 3;
+
+    /// The headers of the packet that begins with an Ethernet II header.
+    pub fn from_ethernet_slice(slice: &'a [u8]) -> Result<PacketHeaders<'a>, SliceError>
+        ensures ok { IfOk result (λ packet. (layers : Layers) × IsFrameIn headers ethernet slice.now layers
+            × (headers_of packet ≡ headers_in layers)) }
+        ensures only { (layers : Layers) → IsFrameIn headers ethernet slice.now layers
+            → IsOkAnd result (λ packet. headers_of packet ≡ headers_in layers) }
+        ensures bytes { IfOk result (λ packet. LieIn (payload_part_bytes (payload_part_of packet.payload)) slice.now) }
+        ensures err { IfErr result (RefusesFrameIn headers ethernet slice.now) }
+    {
+        let frame = match Ethernet2Slice::from_slice_without_fcs(slice) {
+            Ok(frame) => frame,
+            Err(error) => return Err(SliceError::Len(error)),
+        };
+        let mut packet = PacketHeaders::behind(Some(LinkHeader::Ethernet2(frame.to_header())));
+        packet.fill_inside(Ethernet2Header::LEN, frame.payload())?;
+        Ok(packet)
+    }
+
+    /// The headers of the packet that is the payload of a link layer, with the type that the link layer gives.
+    pub fn from_ether_type(
+        ether_type: EtherType,
+        slice: &'a [u8],
+    ) -> Result<PacketHeaders<'a>, SliceError>
+        ensures ok { IfOk result (λ packet. (layers : Layers) × IsFrameIn headers (of_type ether_type) slice.now layers
+            × (headers_of packet ≡ headers_in layers)) }
+        ensures only { (layers : Layers) → IsFrameIn headers (of_type ether_type) slice.now layers
+            → IsOkAnd result (λ packet. headers_of packet ≡ headers_in layers) }
+        ensures bytes { IfOk result (λ packet. LieIn (payload_part_bytes (payload_part_of packet.payload)) slice.now) }
+        ensures err { IfErr result (RefusesFrameIn headers (of_type ether_type) slice.now) }
+    {
+        let payload = EtherPayloadSlice {
+            ether_type,
+            len_source: LenSource::Slice,
+            payload: slice,
+        };
+        let mut packet = PacketHeaders::behind(None);
+        packet.fill_inside(0, payload)?;
+        Ok(packet)
+    }
+
+    /// The headers of the packet that is an IP packet of either version, which has no link layer.
+    pub fn from_ip_slice(slice: &'a [u8]) -> Result<PacketHeaders<'a>, SliceError>
+        ensures ok { IfOk result (λ packet. (layers : Layers) × IsFrameIn headers ip slice.now layers
+            × (headers_of packet ≡ headers_in layers)) }
+        ensures only { (layers : Layers) → IsFrameIn headers ip slice.now layers
+            → IsOkAnd result (λ packet. headers_of packet ≡ headers_in layers) }
+        ensures bytes { IfOk result (λ packet. LieIn (payload_part_bytes (payload_part_of packet.payload)) slice.now) }
+        ensures err { IfErr result (RefusesFrameIn headers ip slice.now) }
+    {
+        let mut packet = PacketHeaders::behind(None);
+        packet.fill_ip(slice)?;
+        Ok(packet)
+    }
+
+    /// The outermost VLAN tag, or the outermost two.
+    pub fn vlan(&self) -> Option<VlanHeader>
+        ensures { result ≡ outer_headers (vlan_headers self.now.link_exts.items) }
+    {
+        let mut outer = None;
+        for extension in self.link_exts.iter() {
+            if let LinkExtHeader::Vlan(tag) = extension {
+                match outer {
+                    None => outer = Some(tag.clone().unwrap()),
+                    Some(outer) => {
+                        let inner = tag.clone().unwrap();
+                        return Some(VlanHeader::Double(DoubleVlanHeader { outer, inner }));
+                    }
+                }
+            }
+        }
+        Some(VlanHeader::Single(outer?))
+    }
+
+    /// The identifiers of all VLAN tags, from the outside in.
+    pub fn vlan_ids(&self) -> ArrayVec<VlanId, 3>
+        ensures { result.items ≡ header_vlan_ids self.now.link_exts.items }
+    {
+        let mut ids = ArrayVec::new();
+        for extension in self.link_exts.iter() {
+            if let LinkExtHeader::Vlan(tag) = extension {
+                ids.push(tag.vlan_id);
+            }
+        }
+        ids
+    }
+
+    /// A packet of which the link header alone is filled in, where there is one.
+    #[inline]
+    fn behind(link: Option<LinkHeader>) -> PacketHeaders<'a>
+        ensures { headers_of result ≡ record {
+          link = link;
+          link_exts = [];
+          net = None;
+          transport = None;
+          payload = empty;
+        } }
+    {
+        PacketHeaders {
+            link,
+            link_exts: ArrayVec::new(),
+            net: None,
+            transport: None,
+            payload: PayloadSlice::Empty,
+        }
+    }
+
+    /// Fills in what a payload with a type holds: the tags of the link extensions, as many as there is room for, and
+    /// what lies behind them. The payload lies `offset` bytes behind the packet's start.
+    fn fill_inside(
+        &mut self,
+        offset: usize,
+        payload: EtherPayloadSlice<'a>,
+    ) -> Result<(), SliceError>
+        requires place { offset + length payload.payload.now < 2 ^ 64 }
+        requires lacks { LacksNet (headers_of self.old) }
+        ensures ok { IfOk result (λ _. FillsInside (most_link_exts - length self.old.link_exts.items)
+            (ether_payload_of payload.entry) (headers_of self.old) (headers_of self.new)) }
+        ensures err { IfErr result (RefusesInside headers (most_link_exts - length self.old.link_exts.items) offset
+            (Some payload.entry.ether_type) payload.entry.payload.now) }
+    {
+        if self.link_exts.is_full() {
+            return self.fill_net(offset, payload);
+        }
+        let extension = match LinkExtSlice::from_ether_type(payload.ether_type, payload.payload) {
+            Ok(Some(extension)) => extension,
+            Ok(None) => return self.fill_net(offset, payload),
+            Err(macsec::HeaderSliceError::Len(error)) => {
+                return Err(SliceError::Len(error.add_offset(offset)));
+            }
+            Err(macsec::HeaderSliceError::Content(error)) => return Err(SliceError::Macsec(error)),
+        };
+        let offset = offset + extension.header_len();
+        self.link_exts.push(extension.to_header());
+        match extension.ether_payload() {
+            Some(inside) => self.fill_inside(
+                offset,
+                EtherPayloadSlice {
+                    len_source: limit_in(payload.len_source, inside.len_source),
+                    ..inside
+                },
+            ),
+            None => {
+                self.payload = PayloadSlice::MacsecMod(extension.payload_slice());
+                Ok(())
+            }
+        }
+    }
+
+    /// Fills in the net layer that a payload of a type is, and what lies in it. The payload lies `offset` bytes behind
+    /// the packet's start.
+    fn fill_net(&mut self, offset: usize, payload: EtherPayloadSlice<'a>) -> Result<(), SliceError>
+        requires place { offset + length payload.payload.now < 2 ^ 64 }
+        requires lacks { LacksNet (headers_of self.old) }
+        ensures ok { IfOk result (λ _. FillsNet (net_kind payload.entry.ether_type) payload.entry.payload.now
+            (ether (ether_payload_of payload.entry)) (headers_of self.old) (headers_of self.new)) }
+        ensures err { IfErr result
+            (RefusesNetPart headers offset (net_kind payload.entry.ether_type) payload.entry.payload.now) }
+    {
+        match payload.ether_type {
+            ether_type::IPV4 => self.fill_ipv4(offset, payload.payload),
+            ether_type::IPV6 => self.fill_ipv6(offset, payload.payload),
+            ether_type::ARP => self.fill_arp(offset, payload.payload),
+            _ => {
+                self.payload = PayloadSlice::Ether(payload);
+                Ok(())
+            }
+        }
+    }
+
+    /// Fills in the IPv4 packet that bytes are. They lie `offset` bytes behind the packet's start.
+    fn fill_ipv4(&mut self, offset: usize, slice: &'a [u8]) -> Result<(), SliceError>
+        requires place { offset + length slice.now < 2 ^ 64 }
+        requires lacks { LacksNet (headers_of self.old) }
+        ensures ok { IfOk result (λ _.
+            FillsNet (Some only_ipv4) slice.now empty (headers_of self.old) (headers_of self.new)) }
+        ensures err { IfErr result (RefusesNetPart headers offset (Some only_ipv4) slice.now) }
+    {
+        let (headers, payload) = match IpHeaders::from_ipv4_slice(slice) {
+            Ok(read) => read,
+            Err(ipv4::SliceError::Len(error)) => {
+                return Err(SliceError::Len(error.add_offset(offset)));
+            }
+            Err(ipv4::SliceError::Header(error)) => return Err(SliceError::Ipv4(error)),
+            Err(ipv4::SliceError::Exts(error)) => return Err(SliceError::Ipv4Exts(error)),
+        };
+        let content_end = content_end(&headers, slice);
+        self.net = Some(NetHeaders::from(headers));
+        self.fill_transport(offset + (content_end - payload.payload.len()), payload)
+    }
+
+    /// Fills in the IPv6 packet that bytes are. They lie `offset` bytes behind the packet's start.
+    fn fill_ipv6(&mut self, offset: usize, slice: &'a [u8]) -> Result<(), SliceError>
+        requires place { offset + length slice.now < 2 ^ 64 }
+        requires lacks { LacksNet (headers_of self.old) }
+        ensures ok { IfOk result (λ _.
+            FillsNet (Some only_ipv6) slice.now empty (headers_of self.old) (headers_of self.new)) }
+        ensures err { IfErr result (RefusesNetPart headers offset (Some only_ipv6) slice.now) }
+    {
+        let (headers, payload) = match IpHeaders::from_ipv6_slice(slice) {
+            Ok(read) => read,
+            Err(ipv6::SliceError::Len(error)) => {
+                return Err(SliceError::Len(error.add_offset(offset)));
+            }
+            Err(ipv6::SliceError::Header(error)) => return Err(SliceError::Ipv6(error)),
+            Err(ipv6::SliceError::Exts(error)) => return Err(SliceError::Ipv6Exts(error)),
+        };
+        let content_end = content_end(&headers, slice);
+        self.net = Some(NetHeaders::from(headers));
+        self.fill_transport(offset + (content_end - payload.payload.len()), payload)
+    }
+
+    /// Fills in the IP packet of either version that bytes are, with which the packet begins.
+    fn fill_ip(&mut self, slice: &'a [u8]) -> Result<(), SliceError>
+        requires { LacksNet (headers_of self.old) }
+        ensures ok { IfOk result (λ _.
+            FillsNet (Some any_ip) slice.now empty (headers_of self.old) (headers_of self.new)) }
+        ensures err { IfErr result (RefusesNetPart headers 0 (Some any_ip) slice.now) }
+    {
+        let (headers, payload) = match IpHeaders::from_slice(slice) {
+            Ok(read) => read,
+            Err(ip::HeadersSliceError::Len(error)) => return Err(SliceError::Len(error)),
+            Err(ip::HeadersSliceError::Content(error)) => return Err(match error {
+                ip::HeadersError::Ip(error) => SliceError::Ip(error),
+                ip::HeadersError::Ipv4Ext(error) => SliceError::Ipv4Exts(error),
+                ip::HeadersError::Ipv6Ext(error) => SliceError::Ipv6Exts(error),
+            }),
+        };
+        let content_end = content_end(&headers, slice);
+        self.net = Some(NetHeaders::from(headers));
+        self.fill_transport(content_end - payload.payload.len(), payload)
+    }
+
+    /// Fills in the ARP packet that bytes are, behind which nothing is left. They lie `offset` bytes behind the
+    /// packet's start.
+    fn fill_arp(&mut self, offset: usize, slice: &'a [u8]) -> Result<(), SliceError>
+        requires place { offset + length slice.now < 2 ^ 64 }
+        requires lacks { LacksNet (headers_of self.old) }
+        ensures ok { IfOk result (λ _.
+            FillsNet (Some only_arp) slice.now empty (headers_of self.old) (headers_of self.new)) }
+        ensures err { IfErr result (RefusesNetPart headers offset (Some only_arp) slice.now) }
+    {
+        match ArpPacketSlice::from_slice(slice) {
+            Ok(packet) => {
+                self.net = Some(NetHeaders::Arp(packet.to_header()));
+                self.payload = PayloadSlice::Empty;
+                Ok(())
+            }
+            Err(error) => Err(SliceError::Len(error.add_offset(offset))),
+        }
+    }
+
+    /// Fills in the transport header at the front of an IP payload, where it has one, and the payload of the last layer.
+    /// The IP payload lies `offset` bytes behind the packet's start.
+    fn fill_transport(
+        &mut self,
+        offset: usize,
+        payload: IpPayloadSlice<'a>,
+    ) -> Result<(), SliceError>
+        requires place { offset < 2 ^ 64 }
+        requires lacks { self.old.transport ≡ None }
+        ensures ok { IfOk result (λ _.
+            FillsTransport (ip_payload_of payload.entry) (headers_of self.old) (headers_of self.new)) }
+        ensures err { IfErr result (RefusesTransportIn headers offset (ip_payload_of payload.entry)) }
+    {
+        match TransportHeader::from_ip_number(
+            payload.ip_number,
+            payload.fragmented,
+            payload.payload,
+        ) {
+            Ok(Some((header, rest))) => {
+                self.payload = match &header {
+                    TransportHeader::Udp(_) => PayloadSlice::Udp(rest),
+                    TransportHeader::Tcp(_) => PayloadSlice::Tcp(rest),
+                    TransportHeader::Icmpv4(_) => PayloadSlice::Icmpv4(rest),
+                    TransportHeader::Icmpv6(_) => PayloadSlice::Icmpv6(rest),
+                };
+                self.transport = Some(header);
+                Ok(())
+            }
+            Ok(None) => {
+                self.payload = PayloadSlice::Ip(payload);
+                Ok(())
+            }
+            Err(tcp::HeaderSliceError::Len(error)) => Err(SliceError::Len(LenError {
+                len_source: limit_in(payload.len_source, error.len_source),
+                ..error.add_offset(offset)
+            })),
+            Err(tcp::HeaderSliceError::Content(error)) => Err(SliceError::Tcp(error)),
+        }
+    }
+}
+
+/// What set the end of bytes that end with what this layer sets, or else where the outer one does.
+#[inline]
+fn limit_in(outer: LenSource, len_source: LenSource) -> LenSource
+    ensures { result ≡ cut_by outer len_source }
+{
+    match len_source {
+        LenSource::Slice => outer,
+        _ => len_source,
+    }
+}
+
+/// Where the content ends that the length field counts, from the header's first byte on.
+#[inline]
+fn content_end(headers: &IpHeaders, slice: &[u8]) -> usize
+    ensures { result ≡ content_end headers.now (length slice.now) }
+{
+    match headers {
+        IpHeaders::Ipv4(header, _) => header.total_len as usize,
+        IpHeaders::Ipv6(header, _) => {
+            if header.payload_length == 0 {
+                slice.len()
+            } else {
+                Ipv6Header::LEN + header.payload_length as usize
+            }
+        }
+    }
+}
