@@ -5,3 +5,10 @@ mod Complete
 mod Held
 mod Cuts
 mod Runs
+mod Lookups
+mod Streams
+mod OneFragment
+mod Tables
+mod Taking
+mod Calls
+mod Alone

@@ -6,3 +6,7 @@ pub mod Runs
 pub mod Cuts
 pub mod Texts
 pub mod Comparisons
+pub mod Streams
+pub mod Calls
+pub mod Pools
+pub mod Isolation

@@ -1,6 +1,6 @@
 //! Laws of the definitions that the contracts of this crate cite. Each is the contract of a function that does nothing.
 
-ghost use Rattle.std.specs.Prelude.{◌≡◌, ◌↔◌, ◌⊎◌, ℕ, ◌%◌, ◌<◌, ◌≤◌, ◌||◌, List, length, IsTrue, IsSome, IfSome};
+ghost use Rattle.std.specs.Prelude.{◌≡◌, ◌↔◌, ◌⊎◌, ℕ, ◌%◌, ◌<◌, ◌≤◌, ◌||◌, Bool, List, length, IsTrue, IsSome, IfSome};
 ghost use Rattle.std.specs.List.{All, Any};
 ghost use Rattle.ep_defrag.specs.declared.TheConstants as constant;
 ghost use Rattle.ep_defrag.specs.Ranges.{touches, merge_of, SharePoint};
@@ -9,10 +9,17 @@ ghost use Rattle.ep_defrag.specs.Refusals.{Fits};
 ghost use Rattle.ep_defrag.specs.Cuts.{IsCut};
 ghost use Rattle.ep_defrag.specs.Buffers.{IsUnchanged};
 ghost use Rattle.ep_defrag.specs.Comparisons.{range_cmp, buffer_cmp, error_cmp};
+ghost use Rattle.ep_defrag.specs.Streams.{same_stream};
+ghost use Rattle.ep_defrag.specs.Calls.{Call, calls_of, answers_to};
+ghost use Rattle.ep_defrag.specs.Isolation.{answers_of, fragments_of, GivesCut, HandsOut, HandsOutAtMost};
+ghost use Rattle.ep_defrag.specs.Pools.{plain_payload, plain_answer};
 
 use crate::ip_defrag_buf::IpDefragBuf;
 use crate::ip_defrag_error::IpDefragError;
+use crate::ip_defrag_payload_vec::IpDefragPayloadVec;
+use crate::ip_frag_id::{IpFragId, IpFragVersionSpecId};
 use crate::ip_frag_range::IpFragRange;
+use crate::pool_run::PoolAnswer;
 use crate::run::RunStop;
 
 /// Which of two ranges is asked to merge with the other makes no difference.
@@ -45,6 +52,34 @@ pub fn complete_cuts_are_the_payload()
         IsComplete cuts → assembled cuts ≡ payload }
 {}
 
+/// Each stream is answered as if it were alone: two lists of calls on a new pool that agree on the calls of a stream
+/// give that stream the same answers.
+pub fn streams_are_alone<Timestamp, CustomChannelId: Eq, V>()
+    ensures { (keep : V → Timestamp → Bool) (name : IpFragId CustomChannelId)
+        (a b : List (Call Timestamp CustomChannelId V)) →
+        calls_of CustomChannelId.eq name a ≡ calls_of CustomChannelId.eq name b →
+        answers_of CustomChannelId.eq name a (answers_to CustomChannelId.eq keep a)
+        ≡ answers_of CustomChannelId.eq name b (answers_to CustomChannelId.eq keep b) }
+{}
+
+/// Where all fragments of a stream are cuts of a payload of at most 65535 bytes, in whatever order and with whatever
+/// repeats, none is refused, and nothing but the payload is handed out. It is handed out if the cuts cover it and a
+/// final one is among them.
+pub fn cuts_come_out<Timestamp, CustomChannelId: Eq, V>()
+    ensures only { (keep : V → Timestamp → Bool) (name : IpFragId CustomChannelId)
+        (calls : List (Call Timestamp CustomChannelId V)) (payload : List ℕ) → length payload ≤ 65535 →
+        All (GivesCut keep payload) (calls_of CustomChannelId.eq name calls) →
+        All (HandsOutAtMost payload)
+        (answers_of CustomChannelId.eq name calls (answers_to CustomChannelId.eq keep calls)) }
+    ensures comes { (keep : V → Timestamp → Bool) (name : IpFragId CustomChannelId)
+        (calls : List (Call Timestamp CustomChannelId V)) (payload : List ℕ) → length payload ≤ 65535 →
+        All (GivesCut keep payload) (calls_of CustomChannelId.eq name calls) →
+        let cuts = fragments_of (calls_of CustomChannelId.eq name calls) in
+        Any (λ cut. IsTrue (is_final cut)) cuts →
+        ((position : ℕ) → position < length payload → IsCovered cuts position) →
+        Any (HandsOut payload) (answers_of CustomChannelId.eq name calls (answers_to CustomChannelId.eq keep calls)) }
+{}
+
 /// The greatest length of a payload is what 16 bits can say, under either name.
 pub fn constants()
     ensures { (constant.MAX_IP_DEFRAG_LEN_U16 ≡ 65535) × (constant.MAX_IP_DEFRAG_LEN ≡ 65535) }
@@ -62,4 +97,19 @@ pub fn comparisons()
     ensures ranges { (a b : IpFragRange) → ⟦<IpFragRange as Ord>⟧.cmp a b ≡ range_cmp a b }
     ensures buffers { (a b : IpDefragBuf) → ⟦<IpDefragBuf as Ord>⟧.cmp a b ≡ buffer_cmp a b }
     ensures errors { (a b : IpDefragError) → ⟦<IpDefragError as Ord>⟧.cmp a b ≡ error_cmp a b }
+{}
+
+/// The parts of names are equal where they are the same, and payloads and answers of the pool where they show the same.
+pub fn pool_comparisons()
+    ensures versions { (a b : IpFragVersionSpecId) → IsTrue (⟦<IpFragVersionSpecId as PartialEq>⟧.eq a b) ↔ (a ≡ b) }
+    ensures payloads { (a b : IpDefragPayloadVec) →
+        IsTrue (⟦<IpDefragPayloadVec as PartialEq>⟧.eq a b) ↔ (plain_payload a ≡ plain_payload b) }
+    ensures answers { (a b : PoolAnswer) →
+        IsTrue (⟦<PoolAnswer as PartialEq>⟧.eq a b) ↔ (plain_answer a ≡ plain_answer b) }
+{}
+
+/// Two names are equal where they are one stream's, the channels by their own equality.
+pub fn names<CustomChannelId: Eq>()
+    ensures { (a b : IpFragId CustomChannelId) →
+        ⟦<IpFragId<CustomChannelId> as PartialEq>⟧.eq a b ≡ same_stream CustomChannelId.eq a b }
 {}

@@ -1,18 +1,29 @@
 //! Putting fragmented IP payloads together again (RFC 791, 3.2 and RFC 8200, 4.5).
 #![tactic(auto)]
 
+mod carried_fragment;
 mod fragment;
 mod ip_defrag_buf;
 mod ip_defrag_error;
+mod ip_defrag_payload_vec;
+mod ip_defrag_pool;
+mod ip_frag_id;
 mod ip_frag_range;
 pub mod laws;
+mod pool_run;
 mod run;
 
-pub use ep_base::{IpFragOffset, IpNumber};
+pub use arrayvec::ArrayVec;
+pub use ep_base::{IpFragOffset, IpNumber, LenSource, VlanId};
+pub use ep_packet::SlicedPacket;
 pub use fragment::Fragment;
 pub use ip_defrag_buf::IpDefragBuf;
 pub use ip_defrag_error::IpDefragError;
+pub use ip_defrag_payload_vec::IpDefragPayloadVec;
+pub use ip_defrag_pool::IpDefragPool;
+pub use ip_frag_id::{IpFragId, IpFragVersionSpecId};
 pub use ip_frag_range::IpFragRange;
+pub use pool_run::{PoolAnswer, PoolCall, run_calls};
 pub use run::{RunStop, add_all};
 
 /// The greatest length of a payload that is put together, in bytes.

@@ -18,7 +18,7 @@ use std::alloc::{AllocError, Global};
 /// A run that stopped for want of memory.
 #[derive(Debug, PartialEq, Eq, Drop)]
 pub struct RunStop {
-    /// The index of the fragment at which it stopped; also 0 where the answers' vector was refused.
+    /// The index of the fragment or call at which it stopped; also 0 where the answers' vector was refused.
     pub at: usize,
 }
 

@@ -1,0 +1,240 @@
+-- Each stream is answered as if it were alone, and payloads that are given in cuts come out.
+use Rattle.std.proofs.Common.{◌≡◌, ℕ, zero, suc, ◌≤◌, Bool, true, false, List, [], ◌∷◌, ◌++◌, append_assoc, length, map, take, Option, Some, None, option_map, slice_get, sym, refl, ap, ◌∙◌, arith, inl, inr}
+use Rattle.std.specs.List.{filter, AllByRecursion, All, Any}
+use Rattle.std.specs.Cmp.{IsEquivalence}
+use Rattle.std.proofs.lemmas.Bool.{cases_Bool, false≢true}
+use Rattle.std.proofs.lemmas.List.{append-nil, take-map}
+use Rattle.std.proofs.lemmas.List.Elements.{recursion_from_All, All-from_recursion}
+use Rattle.std.proofs.lemmas.Option.{slice_get-map}
+use Rattle.ep_defrag.specs.declared.ip_defrag_error.IpDefragError.{IpDefragError}
+use Rattle.ep_defrag.specs.declared.ip_frag_id.IpFragId.{IpFragId}
+use Rattle.ep_defrag.specs.Fragments.{IpFragment, is_complete}
+use Rattle.ep_defrag.specs.Refusals.{refusal_of}
+use Rattle.ep_defrag.specs.Cuts.{IsCut}
+use Rattle.ep_defrag.specs.Streams.{name_of, same_stream}
+use Rattle.ep_defrag.specs.Calls.{Call, gives_frame, drops_streams, returns_buffer, Kept, accepted_in, kept_of, kept_by, kept_with, kept_after, kept_after_all, concerns, calls_of, table_after, Answer, answer_unless, answer_with, answer_to, answers_after, answers_to, accepted_at, IfHandedOut}
+use Rattle.ep_defrag.specs.Isolation.{answers_of, fragments_of, GivesCut, HandsOut, HandsOutAtMost}
+use Rattle.ep_defrag.proofs.Streams.{same_stream_laws}
+use Rattle.ep_defrag.proofs.Cuts.{cut_fits_after, assembled-cuts}
+use Rattle.ep_defrag.proofs.Calls.{after_one_more}
+
+-- ---- what is handed out, where the fragments are cuts
+module _ (payload : List ℕ) where
+  handed_cuts : {C : Type 0} (refusal : Option IpDefragError) (name : IpFragId C) (accepted : List IpFragment)
+      → AllByRecursion (IsCut payload) accepted
+      → IfHandedOut (answer_unless refusal name accepted) (λ handed. handed.bytes ≡ payload)
+  handed_cuts (Some error) name accepted cuts = tt
+  handed_cuts None name accepted cuts = elim (cases_Bool (is_complete accepted)) [
+    | inl whole ↦ rw whole (assembled-cuts payload accepted cuts whole)
+    | inr partly ↦ rw partly tt
+  ]
+
+  handed_at : {T C V : Type 0} (table : IpFragId C → Option (Kept T)) (call : Call T C V)
+      → AllByRecursion (IsCut payload) (accepted_at table call)
+      → IfHandedOut (answer_to table call) (λ handed. handed.bytes ≡ payload)
+  handed_at table (gives_frame None timestamp channel) cuts = tt
+  handed_at table (gives_frame (Some carried) timestamp channel) cuts =
+      handed_cuts (refusal_of (accepted_in (table (name_of carried channel))) carried.fragment)
+      (name_of carried channel) (accepted_in (table (name_of carried channel)) ++ carried.fragment ∷ []) cuts
+  handed_at table (drops_streams value) cuts = tt
+  handed_at table returns_buffer cuts = tt
+
+module _ {T C V : Type 0} (eq : C → C → Bool) (keep : V → T → Bool) where
+  -- the answer at a place is that to the call there
+  answer_at : (earlier calls : List (Call T C V)) (at : ℕ) (call : Call T C V) (answer : Answer)
+      → slice_get calls at ≡ Some call → slice_get (answers_after eq keep earlier calls) at ≡ Some answer
+      → answer ≡ answer_to (table_after eq keep (earlier ++ take at calls)) call
+  answer_at earlier [] at call answer is_call is_answer = absurd (cc)
+  answer_at earlier (first ∷ calls) zero call answer is_call is_answer =
+      let same_call : first ≡ call = cc in
+      let same_answer : answer_to (table_after eq keep earlier) first ≡ answer = cc in
+      rw (append-nil earlier) (sym same_answer ∙ ap (answer_to (table_after eq keep earlier)) same_call)
+  answer_at earlier (first ∷ calls) (suc at) call answer is_call is_answer =
+      answer_at (earlier ++ first ∷ []) calls at call answer is_call is_answer
+      ∙ ap (λ before. answer_to (table_after eq keep before) call) (append_assoc earlier (first ∷ []) (take at calls))
+
+  pub cuts_at : {X Y : Type 0} (shown : X → Call T C V) (said : Y → Answer) (calls : List X) (answers : List Y)
+      → map said answers ≡ answers_to eq keep (map shown calls) → (at : ℕ) (call : X) (answer : Y)
+      → slice_get calls at ≡ Some call → slice_get answers at ≡ Some answer → (payload : List ℕ)
+      → All (IsCut payload) (accepted_at (table_after eq keep (map shown (take at calls))) (shown call))
+      → IfHandedOut (said answer) (λ handed. handed.bytes ≡ payload)
+  cuts_at shown said calls answers same at call answer is_call is_answer payload cuts =
+      let call_is : slice_get (map shown calls) at ≡ Some (shown call) =
+      slice_get-map shown calls at ∙ ap (option_map shown) is_call in
+      let answer_is : slice_get (answers_to eq keep (map shown calls)) at ≡ Some (said answer) =
+      ap (λ xs. slice_get xs at) (sym same) ∙ slice_get-map said answers at ∙ ap (option_map said) is_answer in
+      let answered : said answer ≡ answer_to (table_after eq keep (take at (map shown calls))) (shown call) =
+      answer_at [] (map shown calls) at (shown call) (said answer) call_is answer_is in
+      rw (answered, take-map shown at calls)
+      (handed_at payload (table_after eq keep (map shown (take at calls))) (shown call)
+      (recursion_from_All (IsCut payload) _ cuts))
+
+  -- the answers of a stream, by the calls that concern it alone
+  abbrev pub answers_alone : Option (Kept T) → List (Call T C V) → List Answer
+  answers_alone kept [] = []
+  answers_alone kept (call ∷ calls) =
+      answer_to (λ name. kept) call ∷ answers_alone (kept_after keep kept call) calls
+
+  module _ (laws : IsEquivalence eq) where
+    -- names of one stream have one entry
+    concerned_same : (a b : IpFragId C) → same_stream eq a b ≡ true → (call : Call T C V)
+        → concerns eq a call ≡ concerns eq b call
+    concerned_same a b alike (gives_frame None timestamp channel) = refl
+    concerned_same a b alike (gives_frame (Some carried) timestamp channel) =
+        let names = same_stream_laws eq laws in
+        names.symm (name_of carried channel) a ∙ names.congr a b (name_of carried channel) alike
+        ∙ names.symm b (name_of carried channel)
+    concerned_same a b alike (drops_streams value) = refl
+    concerned_same a b alike returns_buffer = refl
+
+    entries_same : (calls : List (Call T C V)) (a b : IpFragId C) → same_stream eq a b ≡ true
+        → table_after eq keep calls a ≡ table_after eq keep calls b
+    entries_same calls a b alike =
+        ap (λ (test : Call T C V → Bool). kept_after_all keep None (filter test calls))
+        (λ i call. concerned_same a b alike call i)
+
+    -- a call that concerns a stream is answered by what is kept of that stream
+    answer_alone : (earlier : List (Call T C V)) (name : IpFragId C) (call : Call T C V)
+        → concerns eq name call ≡ true
+        → answer_to (table_after eq keep earlier) call ≡ answer_to (λ other. table_after eq keep earlier name) call
+    answer_alone earlier name (gives_frame None timestamp channel) does = absurd (false≢true does)
+    answer_alone earlier name (gives_frame (Some carried) timestamp channel) does =
+        ap (λ kept. answer_with (name_of carried channel) kept carried.fragment)
+        (entries_same earlier (name_of carried channel) name does)
+    answer_alone earlier name (drops_streams value) does = refl
+    answer_alone earlier name returns_buffer does = absurd (false≢true does)
+
+    answers_by : (earlier : List (Call T C V)) (name : IpFragId C) (calls : List (Call T C V))
+        → answers_of eq name calls (answers_after eq keep earlier calls)
+        ≡ answers_alone (table_after eq keep earlier name) (calls_of eq name calls)
+    answers_by earlier name [] = refl
+    answers_by earlier name (call ∷ calls) = elim (cases_Bool (concerns eq name call)) [
+      | inl does ↦
+          let rest = answers_by (earlier ++ call ∷ []) name calls in
+          let here = answer_alone earlier name call does in
+          let more = after_one_more eq keep earlier call name true does in
+          rw (does, here, rest, more) refl
+      | inr not ↦
+          let rest = answers_by (earlier ++ call ∷ []) name calls in
+          let same = after_one_more eq keep earlier call name false not in
+          rw (not, rest, same) refl
+    ]
+
+    pub answers_of_stream : (name : IpFragId C) (calls : List (Call T C V))
+        → answers_of eq name calls (answers_to eq keep calls) ≡ answers_alone None (calls_of eq name calls)
+    answers_of_stream name calls = answers_by [] name calls
+
+    pub alone : (name : IpFragId C) (a b : List (Call T C V)) → calls_of eq name a ≡ calls_of eq name b
+        → answers_of eq name a (answers_to eq keep a) ≡ answers_of eq name b (answers_to eq keep b)
+    alone name a b same =
+        answers_of_stream name a ∙ ap (answers_alone None) same ∙ sym (answers_of_stream name b)
+
+  -- ---- a stream that is given cuts
+  module _ (payload : List ℕ) (short : length payload ≤ 65535) where
+    all_more : {X : Type 0} (P : X → Type 0) (xs : List X) (x : X) → AllByRecursion P xs → P x
+        → AllByRecursion P (xs ++ x ∷ [])
+    all_more P [] x all last = (last, tt)
+    all_more P (y ∷ xs) x all last = (all.0, all_more P xs x all.1 last)
+
+    any_here : {X : Type 0} (P : X → Type 0) (x : X) (xs : List X) → P x → Any P (x ∷ xs)
+    any_here P x xs here = (0, x, omega arith, refl, here)
+
+    any_later : {X : Type 0} (P : X → Type 0) (x : X) (xs : List X) → Any P xs → Any P (x ∷ xs)
+    any_later P x xs later = (suc later.0, later.1, omega (arith, later.2), later.3, later.4)
+
+    -- what a fragment that fits is answered, and what is kept then
+    answer_to_cut : (name : IpFragId C) (accepted : List IpFragment) (refusal : Option IpDefragError)
+        → refusal ≡ None → AllByRecursion (IsCut payload) accepted
+        → HandsOutAtMost payload (answer_unless refusal name accepted)
+    answer_to_cut name accepted (Some error) fits cuts = absurd (cc)
+    answer_to_cut name accepted None fits cuts = elim (cases_Bool (is_complete accepted)) [
+      | inl whole ↦ rw whole (assembled-cuts payload accepted cuts whole)
+      | inr partly ↦ rw partly tt
+    ]
+
+    kept_cuts : (accepted : List IpFragment) (timestamp : T) → AllByRecursion (IsCut payload) accepted
+        → AllByRecursion (IsCut payload) (accepted_in (kept_of accepted timestamp))
+    kept_cuts accepted timestamp cuts = elim (cases_Bool (is_complete accepted)) [
+      | inl whole ↦ rw whole tt
+      | inr partly ↦ rw partly cuts
+    ]
+
+    drop_keeps : (answers : T → Bool) → ((timestamp : T) → answers timestamp ≡ true) → (kept : Option (Kept T))
+        → kept_by answers kept ≡ kept
+    drop_keeps answers always None = refl
+    drop_keeps answers always (Some kept) = rw (always kept.timestamp) refl
+
+    only_alone : (calls : List (Call T C V)) (kept : Option (Kept T))
+        → AllByRecursion (IsCut payload) (accepted_in kept) → AllByRecursion (GivesCut keep payload) calls
+        → AllByRecursion (HandsOutAtMost payload) (answers_alone kept calls)
+    only_alone [] kept cuts gives = tt
+    only_alone (gives_frame None timestamp channel ∷ calls) kept cuts gives =
+        (tt, only_alone calls kept cuts gives.1)
+    only_alone (gives_frame (Some carried) timestamp channel ∷ calls) kept cuts gives =
+        let fits : refusal_of (accepted_in kept) carried.fragment ≡ None =
+        cut_fits_after payload (accepted_in kept) carried.fragment short cuts gives.0.0 gives.0.1 in
+        let more = all_more (IsCut payload) (accepted_in kept) carried.fragment cuts gives.0.0 in (
+          answer_to_cut (name_of carried channel) (accepted_in kept ++ carried.fragment ∷ []) _ fits more,
+          only_alone calls (kept_with kept carried.fragment timestamp)
+              (rw fits (kept_cuts (accepted_in kept ++ carried.fragment ∷ []) timestamp more)) gives.1,
+        )
+    only_alone (drops_streams value ∷ calls) kept cuts gives =
+        (tt, only_alone calls (kept_by (keep value) kept) (rw (drop_keeps (keep value) gives.0 kept) cuts) gives.1)
+    only_alone (returns_buffer ∷ calls) kept cuts gives = (tt, only_alone calls kept cuts gives.1)
+
+    comes_alone : (calls : List (Call T C V)) (kept : Option (Kept T))
+        → AllByRecursion (IsCut payload) (accepted_in kept) → AllByRecursion (GivesCut keep payload) calls
+        → is_complete (accepted_in kept) ≡ false
+        → is_complete (accepted_in kept ++ fragments_of calls) ≡ true
+        → Any (HandsOut payload) (answers_alone kept calls)
+    comes_alone [] kept cuts gives partly whole =
+        absurd (false≢true (sym partly ∙ ap is_complete (sym (append-nil (accepted_in kept))) ∙ whole))
+    comes_alone (gives_frame None timestamp channel ∷ calls) kept cuts gives partly whole =
+        any_later (HandsOut payload) _ _ (comes_alone calls kept cuts gives.1 partly whole)
+    comes_alone (gives_frame (Some carried) timestamp channel ∷ calls) kept cuts gives partly whole =
+        let fits : refusal_of (accepted_in kept) carried.fragment ≡ None =
+        cut_fits_after payload (accepted_in kept) carried.fragment short cuts gives.0.0 gives.0.1 in
+        let after = accepted_in kept ++ carried.fragment ∷ [] in
+        let more = all_more (IsCut payload) (accepted_in kept) carried.fragment cuts gives.0.0 in
+        elim (cases_Bool (is_complete after)) [
+          | inl now ↦ any_here (HandsOut payload) _ _ (rw (fits, now) (assembled-cuts payload after more now))
+          | inr not_yet ↦
+              let same : kept_with kept carried.fragment timestamp
+              ≡ Some (record { accepted = after; timestamp = timestamp }) =
+              rw (fits, not_yet) refl in
+              any_later (HandsOut payload) _ _
+              (rw same
+              (comes_alone calls (Some (record { accepted = after; timestamp = timestamp })) more gives.1 not_yet
+              (ap is_complete (append_assoc (accepted_in kept) (carried.fragment ∷ []) (fragments_of calls)) ∙ whole)))
+        ]
+    comes_alone (drops_streams value ∷ calls) kept cuts gives partly whole =
+        any_later (HandsOut payload) _ _
+        (rw (drop_keeps (keep value) gives.0 kept) (comes_alone calls kept cuts gives.1 partly whole))
+    comes_alone (returns_buffer ∷ calls) kept cuts gives partly whole =
+        any_later (HandsOut payload) _ _ (comes_alone calls kept cuts gives.1 partly whole)
+
+    module _ (laws : IsEquivalence eq) (name : IpFragId C) (calls : List (Call T C V))
+        (gives : All (GivesCut keep payload) (calls_of eq name calls)) where
+      pub cuts_only : All (HandsOutAtMost payload) (answers_of eq name calls (answers_to eq keep calls))
+      cuts_only =
+          All-from_recursion (HandsOutAtMost payload) _
+          (rw (answers_of_stream laws name calls)
+          (only_alone (calls_of eq name calls) None tt (recursion_from_All (GivesCut keep payload) _ gives)))
+
+      pub cuts_come : is_complete (fragments_of (calls_of eq name calls)) ≡ true
+          → Any (HandsOut payload) (answers_of eq name calls (answers_to eq keep calls))
+      cuts_come whole =
+          rw (answers_of_stream laws name calls)
+          (comes_alone (calls_of eq name calls) None tt (recursion_from_All (GivesCut keep payload) _ gives) refl whole)
+
+      -- the fragments that are given are cuts
+      given_cuts : (given : List (Call T C V)) → AllByRecursion (GivesCut keep payload) given
+          → AllByRecursion (IsCut payload) (fragments_of given)
+      given_cuts [] all = tt
+      given_cuts (gives_frame None timestamp channel ∷ given) all = given_cuts given all.1
+      given_cuts (gives_frame (Some carried) timestamp channel ∷ given) all = (all.0.0, given_cuts given all.1)
+      given_cuts (drops_streams value ∷ given) all = given_cuts given all.1
+      given_cuts (returns_buffer ∷ given) all = given_cuts given all.1
+
+      pub all_cuts : AllByRecursion (IsCut payload) (fragments_of (calls_of eq name calls))
+      all_cuts = given_cuts (calls_of eq name calls) (recursion_from_All (GivesCut keep payload) _ gives)

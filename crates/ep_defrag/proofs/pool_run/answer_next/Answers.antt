@@ -1,0 +1,35 @@
+use Rattle.std.proofs.Common.{sym, ◌∙◌, of_calls}
+use Rattle.ep_defrag.proofs.Taking.{frame_answer, frame_holds, frame_memory}
+use Rattle.ep_defrag.proofs.pool_run.answer_next.Goals as goal
+
+pub returns-then-lacks_memory-clause-memory : goal.returns-then-lacks_memory-clause-memory
+returns-then-lacks_memory-clause-memory g c = λ table held.
+    rw c.in-Frame.is
+    (frame_memory g.CustomChannelId.PartialEq.eq c.args.pool.now c.process_sliced_packet-answer.new.self _ _
+    c.process_sliced_packet-answer.result _ c.process_sliced_packet-answer.ensures
+    (sym c.lacks_memory.ensures ∙ c.if-lacks_memory.true) table held)
+
+pub returns-else-lacks_memory-clause-answer : goal.returns-else-lacks_memory-clause-answer
+returns-else-lacks_memory-clause-answer g c = λ table held.
+    rw c.in-Frame.is
+    (frame_answer g.CustomChannelId.PartialEq.eq c.args.pool.now c.process_sliced_packet-answer.new.self _ _
+    c.process_sliced_packet-answer.result _ c.process_sliced_packet-answer.ensures
+    (sym c.lacks_memory.ensures ∙ c.if-lacks_memory.false) table held)
+
+pub returns-else-lacks_memory-clause-holds : goal.returns-else-lacks_memory-clause-holds
+returns-else-lacks_memory-clause-holds g c = λ decide decided table held.
+    rw c.in-Frame.is
+    (frame_holds g.CustomChannelId.PartialEq.eq c.args.pool.now c.process_sliced_packet-answer.new.self _ _
+    c.process_sliced_packet-answer.result _ c.process_sliced_packet-answer.ensures
+    (sym c.lacks_memory.ensures ∙ c.if-lacks_memory.false) table held)
+
+pub returns-else-lacks_memory-clause-no_memory : goal.returns-else-lacks_memory-clause-no_memory
+returns-else-lacks_memory-clause-no_memory g c = sym c.lacks_memory.ensures ∙ c.if-lacks_memory.false
+
+pub returns-in-Drop-clause-holds : goal.returns-in-Drop-clause-holds
+returns-in-Drop-clause-holds g c = λ decide decided table held.
+    rw c.in-Drop.is
+    (c.retain.ensures.holds table held (decide c.in-Drop.value) (λ timestamp answer met. search (of_calls, decided)))
+
+pub returns-in-Return-clause-holds : goal.returns-in-Return-clause-holds
+returns-in-Return-clause-holds g c = λ decide decided table held. rw (c.in-Return.is, c.return_buf.ensures) held

@@ -1,0 +1,99 @@
+use Rattle.std.proofs.Common.{rules, refl, take, get_or, List, length, IsFalse, ◌+◌, vec_len, ◌≡◌, ◌++◌, ◌∷◌, [], map, sym, ap, ◌∙◌, arith, append_assoc}
+use Rattle.std.proofs.lemmas.List.{map-append, append-nil, length_push}
+use Rattle.std.proofs.lemmas.List.Elements.{All-push}
+use Rattle.ep_defrag.specs.Calls.{answers_to, table_after}
+use Rattle.ep_defrag.specs.declared.pool_run.PoolAnswer.{PoolAnswer}
+use Rattle.ep_defrag.specs.Pools.{plain_call, plain_answer, answer_wants_memory}
+use Rattle.ep_defrag.proofs.Calls.{table_after-push, answers_after-push}
+use Rattle.ep_defrag.proofs.Tables.{HoldsTable-same}
+use Rattle.ep_defrag.proofs.Alone.{cuts_at}
+use Rattle.ep_defrag.proofs.pool_run.run_calls.Goals as goal
+
+-- where nothing is left, all were taken
+all_taken : {X : Type 0} (taken left all : List X) → taken ++ left ≡ all → length left ≡ 0 → taken ≡ all
+all_taken taken [] all whole none = sym (append-nil taken) ∙ whole
+all_taken taken (x ∷ left) all whole none = absurd (omega arith)
+
+pub loop-call-preserved : goal.loop-call-preserved
+loop-call-preserved g c =
+    let known = c.loop-call.invariant in
+    let call = c.in-Some.call in
+    let answer = c.in-Ok-answer_next.answer in
+    let eq = g.CustomChannelId.PartialEq.eq in
+    let sofar = map plain_call c.loop-call.yielded in
+    let more : map plain_call (c.loop-call.yielded ++ call ∷ []) ≡ sofar ++ plain_call call ∷ [] =
+    map-append plain_call c.loop-call.yielded (call ∷ []) in
+    let pushed : c.push.new.self.items ≡ c.loop-call.answers.items ++ answer ∷ [] =
+    rw c.unwrap.ensures at c.push.ensures.items in
+    let step : c.loop-call.call-iterator.rest.items ≡ call ∷ c.next.new.self.rest.items = c.in-Some.ensures.steps.0 in
+    record {
+      answered = λ decide decided.
+          ap (map plain_answer) pushed
+          ∙ map-append plain_answer c.loop-call.answers.items (answer ∷ [])
+          ∙ ap (λ answers. answers ++ plain_answer answer ∷ []) (known.answered decide decided)
+          ∙ ap (λ last. answers_to eq decide sofar ++ last ∷ [])
+          (c.in-Ok-answer_next.ensures.answer (table_after eq decide sofar) (known.held decide decided))
+          ∙ sym (answers_after-push eq decide [] sofar (plain_call call))
+          ∙ ap (answers_to eq decide) (sym more);
+      held = λ decide decided.
+          rw more
+          (HoldsTable-same eq c.answer_next.new.pool _ _
+          (λ name. sym (table_after-push eq decide sofar (plain_call call) name))
+          (c.in-Ok-answer_next.ensures.holds decide decided (table_after eq decide sofar) (known.held decide decided)));
+      no_memory = rw pushed
+          (All-push (λ (answer : PoolAnswer). IsFalse (answer_wants_memory answer)) c.loop-call.answers.items answer
+          known.no_memory c.in-Ok-answer_next.ensures.no_memory);
+      whole =
+          append_assoc c.loop-call.yielded (call ∷ []) c.next.new.self.rest.items
+          ∙ ap (λ rest. c.loop-call.yielded ++ rest) (sym step)
+          ∙ known.whole;
+      counted =
+          let grown : vec_len c.push.new.self ≡ vec_len c.loop-call.answers + 1 =
+          rw c.unwrap.ensures at c.push.ensures.len in
+          omega (arith, known.counted, grown, length_push c.loop-call.yielded call);
+      room = search rules;
+    }
+
+pub returns-clause-answers : goal.returns-clause-answers
+returns-clause-answers g c = λ decide decided.
+    let all : c.loop-call.yielded ≡ c.args.calls.items =
+    all_taken c.loop-call.yielded c.loop-call.call-iterator.rest.items c.args.calls.items c.loop-call.invariant.whole
+    (sym c.loop-call.call-iterator.rest.ok.0 ∙ c.in-None.ensures.steps.0) in
+    rw (← all) (c.loop-call.invariant.answered decide decided)
+
+pub returns-clause-holds : goal.returns-clause-holds
+returns-clause-holds g c = λ decide decided.
+    let all : c.loop-call.yielded ≡ c.args.calls.items =
+    all_taken c.loop-call.yielded c.loop-call.call-iterator.rest.items c.args.calls.items c.loop-call.invariant.whole
+    (sym c.loop-call.call-iterator.rest.ok.0 ∙ c.in-None.ensures.steps.0) in
+    rw (← all) (c.loop-call.invariant.held decide decided)
+
+-- the calls before one, and the one
+before_and_at : {X : Type 0} (taken left : List X) (x d : X)
+    → (take (length taken) (taken ++ x ∷ left) ≡ taken) × (get_or (taken ++ x ∷ left) (length taken) d ≡ x)
+before_and_at [] left x d = (refl, refl)
+before_and_at (y ∷ taken) left x d =
+    let rest = before_and_at taken left x d in
+    (ap (λ xs. y ∷ xs) rest.0, rest.1)
+
+pub returns-in_default-answer_next-clause-stopped : goal.returns-in_default-answer_next-clause-stopped
+returns-in_default-answer_next-clause-stopped g c = λ _ decide decided d.
+    let known = c.loop-call.invariant in
+    let call = c.in-Some.call in
+    let taken = c.loop-call.yielded in
+    let left = c.next.new.self.rest.items in
+    let step : c.loop-call.call-iterator.rest.items ≡ call ∷ left = c.in-Some.ensures.steps.0 in
+    let all : taken ++ call ∷ left ≡ c.args.calls.items = ap (λ rest. taken ++ rest) (sym step) ∙ known.whole in
+    let at : c.len-at.result ≡ length taken = search rules in
+    let place = before_and_at taken left call d in
+    rw (at, ← all, place.0, place.1)
+    (c.in_default-answer_next.ensures.memory
+    (table_after g.CustomChannelId.PartialEq.eq decide (map plain_call taken)) (known.held decide decided))
+
+pub returns-clause-cuts : goal.returns-clause-cuts
+returns-clause-cuts g c = λ decide decided at call answer is_call is_answer payload cuts.
+    let all : c.loop-call.yielded ≡ c.args.calls.items =
+    all_taken c.loop-call.yielded c.loop-call.call-iterator.rest.items c.args.calls.items c.loop-call.invariant.whole
+    (sym c.loop-call.call-iterator.rest.ok.0 ∙ c.in-None.ensures.steps.0) in
+    cuts_at g.CustomChannelId.PartialEq.eq decide plain_call plain_answer c.args.calls.items c.loop-call.answers.items
+    (rw all at (c.loop-call.invariant.answered decide decided)) at call answer is_call is_answer payload cuts

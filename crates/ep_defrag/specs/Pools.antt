@@ -1,0 +1,214 @@
+-- What a pool holds of each stream, and what its calls bring and are answered, as plain data.
+use Rattle.std.specs.Prelude.{◌≡◌, ℕ, ◌≤◌, ◌<◌, Bool, false, IsTrue, IsFalse, Option, Some, None, Result, Ok, Err, List, [], ◌∷◌, length}
+use Rattle.std.specs.Option.{option_map}
+use Rattle.std.specs.List.{find, count_by, items_where_true}
+use Rattle.std.specs.List.Sorted.{IsPermutation}
+use Rattle.std.specs.Fn.{Shared, FnReturnsAt}
+use Rattle.std.proofs.Common.{Bor}
+use Rattle.ep_packet.specs.declared.sliced_packet.SlicedPacket.{SlicedPacket}
+use Rattle.ep_packet.specs.Layers.{layers_of}
+use Rattle.ep_packet.specs.Fragments.{fragment_of}
+use Rattle.ep_defrag.specs.declared.ip_defrag_error.IpDefragError.{IpDefragError}
+use Rattle.ep_defrag.specs.declared.ip_defrag_error.IpDefragError.TheVariants.{AllocationFailure}
+use Rattle.ep_defrag.specs.declared.ip_frag_range.IpFragRange.{IpFragRange}
+use Rattle.ep_defrag.specs.declared.ip_frag_id.IpFragId.{IpFragId}
+use Rattle.ep_defrag.specs.declared.ip_defrag_payload_vec.IpDefragPayloadVec.{IpDefragPayloadVec}
+use Rattle.ep_defrag.specs.declared.ip_defrag_pool.Stream.{Stream}
+use Rattle.ep_defrag.specs.declared.ip_defrag_pool.IpDefragPool.{IpDefragPool}
+use Rattle.ep_defrag.specs.declared.carried_fragment.CarriedFragment.{CarriedFragment}
+use Rattle.ep_defrag.specs.declared.pool_run.PoolCall.{PoolCall}
+use Rattle.ep_defrag.specs.declared.pool_run.PoolCall.TheVariants as call
+use Rattle.ep_defrag.specs.declared.pool_run.PoolAnswer.{PoolAnswer}
+use Rattle.ep_defrag.specs.declared.pool_run.PoolAnswer.TheVariants as answer
+use Rattle.ep_defrag.specs.Fragments.{IpFragment, fragment_end, range_of}
+use Rattle.ep_defrag.specs.Refusals.{MayNeedMemory, is_want_of_memory}
+use Rattle.ep_defrag.specs.Buffers.{HoldsFragments, IsUnchanged, ip_number_of, data_of, sections_of, known_end_of, data_after, sections_after, end_after}
+use Rattle.ep_defrag.specs.Streams.{PacketFragment, packet_fragment, name_of, same_stream}
+use Rattle.ep_defrag.specs.Calls.{Kept, accepted_in, answer_with, table_with_fragment, Call, gives_frame, drops_streams, returns_buffer, Payload, Answer, fragment_refused, payload_handed_out, nothing_handed_out, streams_dropped, buffer_returned}
+
+-- ---- what a pool holds
+
+-- the streams of a pool, in no promised order
+abbrev pub streams_of : {T C : Type 0} → IpDefragPool T C → List (Stream T C)
+streams_of pool = pool.streams.items
+
+-- the stream of a name
+abbrev pub stream_named : {T C : Type 0} → (C → C → Bool) → IpFragId C → IpDefragPool T C → Option (Stream T C)
+stream_named eq name pool = find (λ stream. same_stream eq stream.id name) (streams_of pool)
+
+-- no two streams of the pool have one name
+abbrev pub NamesDiffer : {T C : Type 0} → (C → C → Bool) → IpDefragPool T C → Type 0
+NamesDiffer {C = C} eq pool =
+    (name : IpFragId C) → count_by (λ stream. same_stream eq stream.id name) (streams_of pool) ≤ 1
+
+-- A stream has what is kept of it: a buffer of the name's payload that holds the accepted fragments, of which there are
+-- some, and the timestamp.
+pub record HoldsStream {T C : Type 0} (stream : Stream T C) (kept : Kept T) : Type 0 where
+  pub buffer : HoldsFragments stream.buffer kept.accepted
+  pub ip_number : ip_number_of stream.buffer ≡ stream.id.payload_ip_number
+  pub timestamp : stream.timestamp ≡ kept.timestamp
+  pub some : 0 < length kept.accepted
+
+-- there is a stream exactly where something is kept
+abbrev pub HoldsEntry : {T C : Type 0} → Option (Stream T C) → Option (Kept T) → Type 0
+HoldsEntry None None = Unit {0}
+HoldsEntry None (Some kept) = ⊥
+HoldsEntry (Some stream) None = ⊥
+HoldsEntry (Some stream) (Some kept) = HoldsStream stream kept
+
+-- The pool holds the table: it has one stream for each name of which something is kept, and no other.
+pub record HoldsTable {T C : Type 0} (eq : C → C → Bool) (pool : IpDefragPool T C)
+    (table : IpFragId C → Option (Kept T)) : Type 0 where
+  pub apart : NamesDiffer eq pool
+  pub each : (name : IpFragId C) → HoldsEntry (stream_named eq name pool) (table name)
+
+-- ---- what a fragment changes, by what the pool shows
+
+-- what is put together of a stream so far, which has not begun where there is none
+abbrev pub data_in : {T C : Type 0} → Option (Stream T C) → List ℕ
+data_in None = []
+data_in (Some stream) = data_of stream.buffer
+
+abbrev pub sections_in : {T C : Type 0} → Option (Stream T C) → List IpFragRange
+sections_in None = []
+sections_in (Some stream) = sections_of stream.buffer
+
+abbrev pub end_in : {T C : Type 0} → Option (Stream T C) → Option ℕ
+end_in None = None
+end_in (Some stream) = known_end_of stream.buffer
+
+-- the entry shows what it showed
+abbrev pub IsSameEntry : {T C : Type 0} → Option (Stream T C) → Option (Stream T C) → Type 0
+IsSameEntry None None = Unit {0}
+IsSameEntry None (Some new) = ⊥
+IsSameEntry (Some old) None = ⊥
+IsSameEntry (Some old) (Some new) =
+    (new.id ≡ old.id) × IsUnchanged old.buffer new.buffer × (new.timestamp ≡ old.timestamp)
+
+-- the stream shows what its entry showed, with a fragment
+pub record IsExtendedBy {T C : Type 0} (old : Option (Stream T C)) (fragment : IpFragment) (time : T)
+    (new : Stream T C) : Type 0 where
+  pub contents : data_of new.buffer ≡ data_after (data_in old) fragment
+  pub sections : IsPermutation (sections_of new.buffer) (sections_after (range_of fragment) (sections_in old))
+  pub end : known_end_of new.buffer ≡ end_after (end_in old) fragment
+  pub timestamp : new.timestamp ≡ time
+
+-- the stream is there, with the fragment
+abbrev pub IsExtendedEntry : {T C : Type 0} → Option (Stream T C) → IpFragment → T → Option (Stream T C) → Type 0
+IsExtendedEntry old fragment timestamp None = ⊥
+IsExtendedEntry old fragment timestamp (Some new) = IsExtendedBy old fragment timestamp new
+
+-- What becomes of the entry of a fragment's stream: nothing where it is refused; it has the fragment; or it is gone,
+-- and what it had with the fragment is handed out.
+abbrev pub BecomesEntry : {T C : Type 0} → Result (Option IpDefragPayloadVec) IpDefragError → Option (Stream T C)
+    → IpFragment → T → Option (Stream T C) → Type 0
+BecomesEntry (Err error) old fragment timestamp new = IsSameEntry old new
+BecomesEntry (Ok None) old fragment timestamp new = IsExtendedEntry old fragment timestamp new
+BecomesEntry (Ok (Some payload)) old fragment timestamp new =
+    (new ≡ None) × (payload.payload.items ≡ data_after (data_in old) fragment)
+
+-- ---- drops
+
+-- these are answers of a drop to the timestamps of these streams, one to each, in turn
+abbrev pub AnswersEach : {F T C : Type 0} → Shared F (Bor T × Unit {0}) Bool → F → List (Stream T C) → List Bool
+    → Type 0
+AnswersEach calls keep [] [] = Unit {0}
+AnswersEach calls keep [] (answer ∷ answers) = ⊥
+AnswersEach calls keep (stream ∷ streams) [] = ⊥
+AnswersEach calls keep (stream ∷ streams) (answer ∷ answers) =
+    FnReturnsAt calls keep stream.timestamp answer × AnswersEach calls keep streams answers
+
+-- those streams are left that the drop answered true
+pub record LeavesAnswered {F T C : Type 0} (calls : Shared F (Bor T × Unit {0}) Bool) (keep : F)
+    (old new : IpDefragPool T C) : Type 0 where
+  pub answers : List Bool
+  pub each : AnswersEach calls keep (streams_of old) answers
+  pub left : streams_of new ≡ items_where_true answers (streams_of old)
+
+-- a drop's answers are a function of the timestamp
+abbrev pub IsAnsweredBy : {F T : Type 0} → Shared F (Bor T × Unit {0}) Bool → F → (T → Bool) → Type 0
+IsAnsweredBy {F} {T} calls keep answers =
+    (timestamp : Bor T) (answer : Bool) → calls.post keep (timestamp, tt) answer → answer ≡ answers timestamp.now
+
+-- the answers of a list's drops are a function of the drop's value and the timestamp
+abbrev pub IsDecidedBy : {F V T : Type 0} → Shared F (Bor V × (Bor T × Unit {0})) Bool → F → (V → T → Bool) → Type 0
+IsDecidedBy {F} {V} {T} calls keep decide = (value : Bor V) (timestamp : Bor T) (answer : Bool)
+    → calls.post keep (value, (timestamp, tt)) answer → answer ≡ decide value.now timestamp.now
+
+-- ---- calls and answers as plain data
+
+-- the fragment that a packet carries, as its layers say
+abbrev pub fragment_in : SlicedPacket → Option PacketFragment
+fragment_in packet = option_map packet_fragment (fragment_of (layers_of packet))
+
+-- the fragment that was taken from a packet
+abbrev pub shown_fragment : CarriedFragment → PacketFragment
+shown_fragment carried = record {
+  vlan_ids = carried.vlan_ids.items;
+  ip = carried.ip;
+  payload_ip_number = carried.payload_ip_number;
+  fragment = carried.fragment;
+}
+
+-- what a call brings
+abbrev pub plain_call : {T C V : Type 0} → PoolCall T C V → Call T C V
+plain_call (call.Frame packet timestamp channel) = gives_frame (fragment_in packet) timestamp channel
+plain_call (call.Drop value) = drops_streams value
+plain_call (call.Return buffer) = returns_buffer
+
+-- what a payload shows
+abbrev pub plain_payload : IpDefragPayloadVec → Payload
+plain_payload payload = record {
+  ip_number = payload.ip_number;
+  len_source = payload.len_source;
+  bytes = payload.payload.items;
+}
+
+-- what an answer shows
+abbrev pub plain_frame_answer : Result (Option IpDefragPayloadVec) IpDefragError → Answer
+plain_frame_answer (Ok None) = nothing_handed_out
+plain_frame_answer (Ok (Some payload)) = payload_handed_out (plain_payload payload)
+plain_frame_answer (Err error) = fragment_refused error
+
+abbrev pub plain_answer : PoolAnswer → Answer
+plain_answer (answer.Frame result) = plain_frame_answer result
+plain_answer answer.Dropped = streams_dropped
+plain_answer answer.Returned = buffer_returned
+
+-- whether a frame lacked memory
+abbrev pub wants_memory : {X : Type 0} → Result X IpDefragError → Bool
+wants_memory (Ok value) = false
+wants_memory (Err error) = is_want_of_memory error
+
+abbrev pub answer_wants_memory : PoolAnswer → Bool
+answer_wants_memory (answer.Frame result) = wants_memory result
+answer_wants_memory answer.Dropped = false
+answer_wants_memory answer.Returned = false
+
+-- ---- what a fragment does to a pool
+
+-- A pool takes a fragment of a stream, and answers this.
+pub record TakesFragment {T C : Type 0} (eq : C → C → Bool) (old new : IpDefragPool T C) (id : IpFragId C)
+    (fragment : IpFragment) (timestamp : T) (result : Result (Option IpDefragPayloadVec) IpDefragError) : Type 0 where
+  -- The fragment is answered as if its stream were alone, and the entry of that stream alone has changed.
+  pub answer : IsFalse (wants_memory result) → (table : IpFragId C → Option (Kept T)) → HoldsTable eq old table
+      → plain_frame_answer result ≡ answer_with id (table id) fragment
+  pub holds : IsFalse (wants_memory result) → (table : IpFragId C → Option (Kept T)) → HoldsTable eq old table
+      → HoldsTable eq new (table_with_fragment eq table id fragment timestamp)
+  -- Want of memory comes for a fragment that fits and is not in place, and changes nothing.
+  pub memory : IsTrue (wants_memory result) → (table : IpFragId C → Option (Kept T)) → HoldsTable eq old table
+      → MayNeedMemory (accepted_in (table id)) fragment × (result ≡ Err (AllocationFailure (fragment_end fragment)))
+  pub keeps : IsTrue (wants_memory result) → (table : IpFragId C → Option (Kept T)) → HoldsTable eq old table
+      → HoldsTable eq new table
+  -- The same by what the pool shows.
+  pub entry : NamesDiffer eq old
+      → BecomesEntry result (stream_named eq id old) fragment timestamp (stream_named eq id new)
+  pub others : (name : IpFragId C) → IsFalse (same_stream eq id name)
+      → stream_named eq name new ≡ stream_named eq name old
+
+-- The same of a packet, which changes nothing where it carries no fragment.
+abbrev pub TakesFrame : {T C : Type 0} → (C → C → Bool) → IpDefragPool T C → IpDefragPool T C → Option PacketFragment
+    → T → C → Result (Option IpDefragPayloadVec) IpDefragError → Type 0
+TakesFrame eq old new None timestamp channel result = (result ≡ Ok None) × (new ≡ old)
+TakesFrame eq old new (Some carried) timestamp channel result =
+    TakesFragment eq old new (name_of carried channel) carried.fragment timestamp result

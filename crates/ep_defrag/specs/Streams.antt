@@ -1,0 +1,66 @@
+-- The streams of fragments: what names one, and when two names are the same stream's.
+use Rattle.std.specs.Prelude.{ℕ, Bool, false, ◌&&◌, ◌==◌, nat_eq, List}
+use Rattle.std.specs.Cmp.Lexicographic.{pointwise}
+use Rattle.ep_base.specs.declared.ip_number.IpNumber.{IpNumber}
+use Rattle.ep_base.specs.declared.len_source.LenSource.{LenSource}
+use Rattle.ep_base.specs.declared.len_source.LenSource.TheVariants.{Ipv4HeaderTotalLen, Ipv6HeaderPayloadLen}
+use Rattle.ep_packet.specs.Fragments.{FragmentId, ipv4_id, ipv6_id, FrameFragment}
+use Rattle.ep_defrag.specs.declared.ip_frag_id.IpFragVersionSpecId.{IpFragVersionSpecId}
+use Rattle.ep_defrag.specs.declared.ip_frag_id.IpFragVersionSpecId.TheVariants.{Ipv4, Ipv6}
+use Rattle.ep_defrag.specs.declared.ip_frag_id.IpFragId.{IpFragId}
+use Rattle.ep_defrag.specs.Fragments.{IpFragment, fragment_with}
+
+-- What a packet says of the fragment that it carries: the VLAN identifiers in their order, the version with the
+-- addresses and the identification, what the payload is, and the fragment itself.
+pub record PacketFragment : Type 0 where
+  pub vlan_ids : List ℕ
+  pub ip : IpFragVersionSpecId
+  pub payload_ip_number : IpNumber
+  pub fragment : IpFragment
+
+-- the version with the addresses and the identification, as a part of a name
+abbrev pub version_named : FragmentId → IpFragVersionSpecId
+version_named (ipv4_id source destination identification) = Ipv4 source destination identification
+version_named (ipv6_id source destination identification) = Ipv6 source destination identification
+
+-- the fragment that the layers of a frame say
+abbrev pub packet_fragment : FrameFragment → PacketFragment
+packet_fragment found = record {
+  vlan_ids = found.vlan_ids;
+  ip = version_named found.id;
+  payload_ip_number = record { 0 = found.payload_number };
+  fragment = fragment_with found.offset found.more found.bytes;
+}
+
+-- the name of its stream, with the channel
+abbrev pub name_of : {C : Type 0} → PacketFragment → C → IpFragId C
+name_of carried channel = record {
+  vlan_ids = record { items = carried.vlan_ids };
+  ip = carried.ip;
+  payload_ip_number = carried.payload_ip_number;
+  channel_id = channel;
+}
+
+-- whether two lists of numbers are the same
+abbrev pub same_numbers : List ℕ → List ℕ → Bool
+same_numbers a b = pointwise nat_eq a b
+
+-- whether the versions, the addresses and the identifications are the same
+abbrev pub same_version : IpFragVersionSpecId → IpFragVersionSpecId → Bool
+same_version (Ipv4 source destination identification) (Ipv4 other_source other_destination other) =
+    same_numbers source other_source && same_numbers destination other_destination && identification == other
+same_version (Ipv6 source destination identification) (Ipv6 other_source other_destination other) =
+    same_numbers source other_source && same_numbers destination other_destination && identification == other
+same_version (Ipv4 source destination identification) (Ipv6 other_source other_destination other) = false
+same_version (Ipv6 source destination identification) (Ipv4 other_source other_destination other) = false
+
+-- Whether two names are the same stream's: all of each is the same, the channel by its own equality.
+abbrev pub same_stream : {C : Type 0} → (C → C → Bool) → IpFragId C → IpFragId C → Bool
+same_stream eq a b =
+    same_numbers a.vlan_ids.items b.vlan_ids.items && same_version a.ip b.ip
+    && a.payload_ip_number.0 == b.payload_ip_number.0 && eq a.channel_id b.channel_id
+
+-- what gave the lengths of a stream's fragments
+abbrev pub source_of : IpFragVersionSpecId → LenSource
+source_of (Ipv4 source destination identification) = Ipv4HeaderTotalLen
+source_of (Ipv6 source destination identification) = Ipv6HeaderPayloadLen

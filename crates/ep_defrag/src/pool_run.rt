@@ -1,0 +1,150 @@
+//! A list of calls on a pool, in one call.
+
+ghost use Rattle.std.specs.Prelude.{◌≡◌, ◌<◌, ℕ, Bool, List, take, map, length, slice_get, Option, Some, IsFalse, IfOk, IfErr, OnOk, OnErr};
+ghost use Rattle.std.specs.List.{All, HoldsAt};
+ghost use Rattle.ep_defrag.specs.Cuts.{IsCut};
+ghost use Rattle.ep_defrag.specs.Calls.{Kept, table_after, table_with, answer_to, answers_to, CallMayNeedMemory, accepted_at, IfHandedOut};
+ghost use Rattle.ep_defrag.specs.Pools.{HoldsTable, IsDecidedBy, plain_call, plain_answer, wants_memory, answer_wants_memory};
+
+use crate::ip_defrag_error::IpDefragError;
+use crate::ip_defrag_payload_vec::IpDefragPayloadVec;
+use crate::ip_defrag_pool::IpDefragPool;
+use crate::ip_frag_id::IpFragId;
+use crate::run::RunStop;
+use ep_packet::SlicedPacket;
+use std::alloc::{AllocError, Global};
+use std::hash::Hash;
+
+/// A call of a pool.
+#[derive(Debug, Drop)]
+pub enum PoolCall<'a, Timestamp, CustomChannelId, V> {
+    /// A packet.
+    Frame {
+        /// Its layers.
+        packet: SlicedPacket<'a>,
+        /// When it came.
+        timestamp: Timestamp,
+        /// What the user tells streams apart by.
+        channel_id: CustomChannelId,
+    },
+    /// A drop of streams by their timestamps and this value.
+    Drop(V),
+    /// A payload whose memory is given back.
+    Return(IpDefragPayloadVec),
+}
+
+/// The answer to a call of a pool.
+#[derive(Debug, PartialEq, Eq, Drop)]
+pub enum PoolAnswer {
+    /// To a packet.
+    Frame(Result<Option<IpDefragPayloadVec>, IpDefragError>),
+    /// To a drop.
+    Dropped,
+    /// To a payload that was given back.
+    Returned,
+}
+
+/// Makes calls in turn on a new pool, and answers it with the answer to each call. A drop keeps the streams whose
+/// timestamp `keep` answers true of the drop's value and the timestamp. `RunStop` comes only for want of memory.
+///
+/// Each stream is answered as if it were alone.
+pub fn run_calls<
+    Timestamp: Drop,
+    CustomChannelId: Eq + Hash + Drop,
+    V: Drop,
+    F: Fn(&V, &Timestamp) -> bool + Drop,
+>(
+    alloc: Global,
+    calls: Vec<PoolCall<Timestamp, CustomChannelId, V>>,
+    keep: F,
+) -> Result<(Vec<PoolAnswer>, IpDefragPool<Timestamp, CustomChannelId>), RunStop>
+    requires { F.IsAlwaysCallable keep }
+    // The answers, and what the pool holds, where those of drops are a function of value and timestamp.
+    ensures answers { IfOk result (λ run. (decide : V → Timestamp → Bool) → IsDecidedBy F.Fn keep decide →
+        map plain_answer run.0.items ≡ answers_to CustomChannelId.eq decide (map plain_call calls.entry.items)) }
+    ensures holds { IfOk result (λ run. (decide : V → Timestamp → Bool) → IsDecidedBy F.Fn keep decide →
+        HoldsTable CustomChannelId.eq run.1
+        (table_after CustomChannelId.eq decide (map plain_call calls.entry.items))) }
+
+    // Where the fragments of a stream since it last began are cuts of a payload, what is handed out is the payload.
+    ensures cuts { IfOk result (λ run. (decide : V → Timestamp → Bool) → IsDecidedBy F.Fn keep decide →
+        (at : ℕ) (call : PoolCall Timestamp CustomChannelId V) (answer : PoolAnswer) →
+        slice_get calls.entry.items at ≡ Some call → slice_get run.0.items at ≡ Some answer →
+        (payload : List ℕ) → All (IsCut payload) (accepted_at
+        (table_after CustomChannelId.eq decide (map plain_call (take at calls.entry.items))) (plain_call call)) →
+        IfHandedOut (plain_answer answer) (λ handed. handed.bytes ≡ payload)) }
+
+    // No answer is one of memory, and a run that stops past the first call stops at a frame whose fragment fits and is
+    // not in place.
+    ensures no_memory { IfOk result (λ run. All (λ answer. IsFalse (answer_wants_memory answer)) run.0.items) }
+    ensures within { IfErr result (λ stop. stop.at < length calls.entry.items) }
+    ensures stopped { IfErr result (λ stop. 0 < stop.at →
+        (decide : V → Timestamp → Bool) → IsDecidedBy F.Fn keep decide →
+        HoldsAt (λ call. CallMayNeedMemory
+        (table_after CustomChannelId.eq decide (map plain_call (take stop.at calls.entry.items))) (plain_call call))
+        calls.entry.items stop.at) }
+{
+    let Ok(mut answers) = Vec::with_capacity(alloc, calls.len()) else {
+        return Err(RunStop { at: 0 });
+    };
+    let mut pool = IpDefragPool::new(alloc);
+    for call in calls {
+        let at = answers.len();
+        let Ok(answer) = answer_next(&mut pool, call, &keep) else {
+            return Err(RunStop { at });
+        };
+        answers.push(answer).unwrap();
+    }
+    Ok((answers, pool))
+}
+
+/// The answer to one more call, but for an answer of memory.
+fn answer_next<
+    Timestamp: Drop,
+    CustomChannelId: Eq + Hash + Drop,
+    V: Drop,
+    F: Fn(&V, &Timestamp) -> bool,
+>(
+    pool: &mut IpDefragPool<Timestamp, CustomChannelId>,
+    call: PoolCall<Timestamp, CustomChannelId, V>,
+    keep: &F,
+) -> Result<PoolAnswer, AllocError>
+    requires { F.IsAlwaysCallable keep.now }
+    ensures answer { IfOk result (λ answer. (table : IpFragId CustomChannelId → Option (Kept Timestamp)) →
+        HoldsTable CustomChannelId.eq pool.old table → plain_answer answer ≡ answer_to table (plain_call call.entry)) }
+    ensures holds { OnOk result ((decide : V → Timestamp → Bool) → IsDecidedBy F.Fn keep.now decide →
+        (table : IpFragId CustomChannelId → Option (Kept Timestamp)) → HoldsTable CustomChannelId.eq pool.old table →
+        HoldsTable CustomChannelId.eq pool.new (table_with CustomChannelId.eq decide table (plain_call call.entry))) }
+    ensures no_memory { IfOk result (λ answer. IsFalse (answer_wants_memory answer)) }
+    ensures memory { OnErr result ((table : IpFragId CustomChannelId → Option (Kept Timestamp)) →
+        HoldsTable CustomChannelId.eq pool.old table → CallMayNeedMemory table (plain_call call.entry)) }
+{
+    match call {
+        PoolCall::Frame {
+            packet,
+            timestamp,
+            channel_id,
+        } => {
+            let answer = pool.process_sliced_packet(&packet, timestamp, channel_id);
+            if lacks_memory(&answer) {
+                return Err(AllocError);
+            }
+            Ok(PoolAnswer::Frame(answer))
+        }
+        PoolCall::Drop(value) => {
+            pool.retain(|timestamp| keep(&value, timestamp));
+            Ok(PoolAnswer::Dropped)
+        }
+        PoolCall::Return(buf) => {
+            pool.return_buf(buf);
+            Ok(PoolAnswer::Returned)
+        }
+    }
+}
+
+/// Whether a frame lacked memory.
+fn lacks_memory(answer: &Result<Option<IpDefragPayloadVec>, IpDefragError>) -> bool
+    ensures { result ≡ wants_memory answer.now }
+{
+    matches!(answer, Err(error) if error.is_want_of_memory())
+}
