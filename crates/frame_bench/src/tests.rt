@@ -220,7 +220,7 @@ const ROWS: [(&str, &str); 57] = [
 ];
 
 /// Lines about IP packets of either version, their extension headers, TCP and ICMP, and their answers.
-const IP_ROWS: [(&str, &str); 36] = [
+const IP_ROWS: [(&str, &str); 44] = [
     // IP of open version.
     ("slice ip -", "err len 1 0 Slice IpHeader 0"),
     ("slice ip 50", "err ip-version 5"),
@@ -367,6 +367,39 @@ const IP_ROWS: [(&str, &str); 36] = [
         "slice ip 6000000000103a40000000000000000000000000000000000000000000000000000000000000000080000000007b01c80102030405060708",
         "ok - - ipv6 icmpv6 0102030405060708",
     ),
+    // The same refusals in Linux cooked captures, and a fragment header without bytes in a frame.
+    (
+        "slice sll 000300010006010203040506000086dd6000000000103c40000000000000000000000000000000000000000000000000000000000000000000000000000000001100000000000000",
+        "err ipv6-hop-by-hop",
+    ),
+    (
+        "slice sll 000300010006010203040506000086dd60000000000c334000000000000000000000000000000000000000000000000000000000000000003b0000000000000000000000",
+        "err ipv6-auth-zero",
+    ),
+    (
+        "slice sll 000300010006010203040506000086dd6000000000042c40000000000000000000000000000000000000000000000000000000000000000011000000",
+        "err len 8 4 Ipv6HeaderPayloadLen Ipv6FragHeader 56",
+    ),
+    (
+        "slice sll 000300010006010203040506000086dd6000000000002c400000000000000000000000000000000000000000000000000000000000000000",
+        "err len 8 0 Ipv6HeaderPayloadLen Ipv6FragHeader 56",
+    ),
+    (
+        "slice eth 0708090a0b0c01020304050686dd6000000000002c400000000000000000000000000000000000000000000000000000000000000000",
+        "err len 8 0 Ipv6HeaderPayloadLen Ipv6FragHeader 54",
+    ),
+    (
+        "slice sll 000300010006010203040506000086dd5000000000003b400000000000000000000000000000000000000000000000000000000000000000",
+        "err ipv6-version 5",
+    ),
+    (
+        "slice sll 00030001000601020304050600000800450000200000000040330000c0a80101c0a80102110000000000000000000000",
+        "err ipv4-auth-zero",
+    ),
+    (
+        "slice sll 000300010006010203040506000008004500001c0000000140330000c0a80101c0a801020102030405060708",
+        "err len 12 8 Ipv4HeaderTotalLen IpAuthHeader 36",
+    ),
 ];
 
 /// Texts whose lines are empty or do not end, and their answers.
@@ -432,7 +465,7 @@ struct Needs {
 }
 
 /// Frames that are cut to each length.
-const CUTS: [Needs; 6] = [
+const CUTS: [Needs; 7] = [
     Needs {
         entry: "eth",
         frame: b"0708090a0b0c010203040506080045000024000040001411e375c0a80101c0a80102001504d20010677f0102030405060708",
@@ -488,6 +521,15 @@ const CUTS: [Needs; 6] = [
             (1, 1, "Slice", "IpHeader", 0),
             (40, 40, "Slice", "Ipv6Header", 0),
             (64, 64, "Slice", "Ipv6Packet", 0),
+        ],
+    },
+    Needs {
+        entry: "eth",
+        frame: b"0708090a0b0c01020304050686dd6000000000182c4000000000000000000000000000000000000000000000000000000000000000002c0000000000000111000001000000020001020304050607",
+        layers: &[
+            (14, 14, "Slice", "Ethernet2Header", 0),
+            (54, 40, "Slice", "Ipv6Header", 14),
+            (78, 64, "Slice", "Ipv6Packet", 14),
         ],
     },
 ];

@@ -1,8 +1,10 @@
 //! IP packets of both versions, with extension headers, and the calls of the net layer.
 
-use crate::err::{SliceError, ip};
-use crate::{IpNumber, LenSource, NetSlice, SlicedPacket};
+use crate::err::{SliceError, ip, ip_auth, ipv6, ipv6_exts};
+use crate::{EtherType, IpNumber, Layer, LenError, LenSource, NetSlice, SlicedPacket};
 use ep_ip::IpSlice;
+use std::alloc::Global;
+use std::process::Abort;
 use std::test::Fail;
 
 /// An IPv6 packet whose payload, of the number 59, takes all bytes behind the header.
@@ -67,6 +69,52 @@ fn versions(rt: HostRuntime) -> Result<(), Fail> {
     assert_eq!(rt;
         SlicedPacket::from_ip(&[0x50]).err(),
         Some(SliceError::Ip(ip::HeaderError::UnsupportedIpVersion { version_number: 5 }))
+    );
+    Ok(())
+}
+
+/// An IPv6 packet whose payload, of this number, are these bytes.
+fn assert_ipv6_refused(
+    rt: &impl Abort,
+    alloc: Global,
+    number: u8,
+    payload: &[u8],
+    wanted: SliceError,
+) -> Result<(), Fail> {
+    let mut bytes = Vec::new(alloc);
+    bytes.extend_from_slice(&OPEN_LENGTH[..6])?;
+    bytes.push(number)?;
+    bytes.extend_from_slice(&OPEN_LENGTH[7..40])?;
+    bytes.extend_from_slice(payload)?;
+    let refused = SlicedPacket::from_ether_type(EtherType::IPV6, bytes.as_slice()).err();
+    assert_eq!(rt; refused, Some(wanted));
+    Ok(())
+}
+
+#[test]
+fn refusals_behind_a_type(rt: HostRuntime) -> Result<(), Fail> {
+    let version = SliceError::Ipv6(ipv6::HeaderError::UnexpectedVersion { version_number: 4 });
+    let refused = SlicedPacket::from_ether_type(EtherType::IPV6, &[0x40; 40]).err();
+    assert_eq!(rt; refused, Some(version));
+    let hop_by_hop = SliceError::Ipv6Exts(ipv6_exts::HeaderError::HopByHopNotAtStart);
+    assert_ipv6_refused(&rt, rt.alloc(), 60, &[0; 16], hop_by_hop)?;
+    let zero = ipv6_exts::HeaderError::IpAuth(ip_auth::HeaderError::ZeroPayloadLen);
+    assert_ipv6_refused(&rt, rt.alloc(), 51, &[0; 12], SliceError::Ipv6Exts(zero))?;
+    let short = LenError {
+        required_len: 8,
+        len: 4,
+        len_source: LenSource::Slice,
+        layer: Layer::Ipv6FragHeader,
+        layer_start_offset: 40,
+    };
+    assert_ipv6_refused(&rt, rt.alloc(), 44, &[0; 4], SliceError::Len(short))?;
+    let mut ipv4 = [0; 36];
+    ipv4.copy_from_slice(AUTHENTICATED);
+    ipv4[21] = 0;
+    let refused = SlicedPacket::from_ether_type(EtherType::IPV4, &ipv4).err();
+    assert_eq!(rt;
+        refused,
+        Some(SliceError::Ipv4Exts(ip_auth::HeaderError::ZeroPayloadLen))
     );
     Ok(())
 }
