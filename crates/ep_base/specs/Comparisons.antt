@@ -1,5 +1,6 @@
--- How the public types are ordered: variants and fields as declared, where the first field that differs decides.
-use Rattle.std.specs.Prelude.{ℕ}
+-- How the public types are compared and cloned. They are ordered by variants and fields as declared, where the first
+-- field that differs decides.
+use Rattle.std.specs.Prelude.{◌≡◌, ◌↔◌, ℕ, Bool, IsTrue}
 use Rattle.std.specs.declared.cmp.Ordering.{Ordering}
 use Rattle.std.specs.Ordering.{nat_cmp, bool_cmp, ordering_then}
 use Rattle.std.specs.Cmp.Lexicographic.{slice_cmp}
@@ -35,3 +36,12 @@ ip_payload_cmp a b =
     (ordering_then (bool_cmp a.fragmented b.fragmented)
     (ordering_then (len_source_cmp a.len_source b.len_source)
     (slice_cmp nat_cmp a.payload.now b.payload.now)))
+
+-- the comparison holds exactly where two values are the same
+abbrev pub TellsSame : {T : Type 0} → (T → T → Bool) → Type 0
+TellsSame {T = T} eq = (a b : T) → IsTrue (eq a b) ↔ (a ≡ b)
+
+-- a clone is there whatever memory there is, and is the same as its source
+abbrev pub ClonesExactly : {T : Type 0} → (T → Type 0) → (T → T → Type 0) → Type 0
+ClonesExactly {T = T} is_infallible is_clone =
+    ((value : T) → is_infallible value) × ((source copy : T) → is_clone source copy → copy ≡ source)

@@ -5,14 +5,18 @@ ghost use Rattle.std.specs.Ordering.{nat_cmp};
 ghost use Rattle.std.specs.Int.{w16, to_be_bytes};
 ghost use Rattle.std.specs.List.{All};
 ghost use Rattle.ep_base.specs.Checksum.{word_sum, ones_sum, ones_add, checksum_of};
-ghost use Rattle.ep_base.specs.Comparisons.{len_source_cmp, ether_payload_cmp, ip_payload_cmp};
+ghost use Rattle.ep_base.specs.Comparisons.{len_source_cmp, ether_payload_cmp, ip_payload_cmp, ClonesExactly};
+ghost use Rattle.ep_base.specs.declared.at_least.AtLeast.{AtLeast};
 ghost use Rattle.ep_base.specs.declared.ether_type.TheConstants as ether;
 ghost use Rattle.ep_base.specs.declared.ip_number.TheConstants as number;
 
+pub mod errors;
+
+use crate::checksum::Sum16BitWords;
 use crate::err::{Layer, LenError, ValueTooBigError, ValueType};
 use crate::{
-    EtherPayloadSlice, EtherType, IpFragOffset, IpNumber, IpPayloadSlice, Ipv4Dscp, Ipv4Ecn,
-    Ipv6FlowLabel, LenSource, MacsecAn, MacsecShortLen, VlanId, VlanPcp,
+    AtLeast, EtherPayloadSlice, EtherType, IpFragOffset, IpNumber, IpPayloadSlice, Ipv4Dscp,
+    Ipv4Ecn, Ipv6FlowLabel, LenSource, MacsecAn, MacsecShortLen, VlanId, VlanPcp,
 };
 
 /// A one's complement sum is the sum of the words modulo 65535, in 1 to 65535, and 0 only where all bytes are 0.
@@ -142,9 +146,40 @@ pub fn equalities()
     ensures flow_labels { (a b : ℕ) → IsTrue (⟦<Ipv6FlowLabel as PartialEq>⟧.eq a b) ↔ (a ≡ b) }
     ensures short_lens { (a b : ℕ) → IsTrue (⟦<MacsecShortLen as PartialEq>⟧.eq a b) ↔ (a ≡ b) }
     ensures association_numbers { (a b : ℕ) → IsTrue (⟦<MacsecAn as PartialEq>⟧.eq a b) ↔ (a ≡ b) }
+    ensures sums { (a b : ℕ) → IsTrue (⟦<Sum16BitWords as PartialEq>⟧.eq a b) ↔ (a ≡ b) }
+    ensures slices { (a b : AtLeast 8) →
+        IsTrue (⟦<AtLeast<'static, 8> as PartialEq>⟧.eq a b) ↔ (a.slice.now ≡ b.slice.now) }
     ensures layers { (a b : Layer) → IsTrue (⟦<Layer as PartialEq>⟧.eq a b) ↔ (a ≡ b) }
     ensures value_types { (a b : ValueType) → IsTrue (⟦<ValueType as PartialEq>⟧.eq a b) ↔ (a ≡ b) }
     ensures len_errors { (a b : LenError) → IsTrue (⟦<LenError as PartialEq>⟧.eq a b) ↔ (a ≡ b) }
     ensures value_errors { (a b : ValueTooBigError ℕ) →
         IsTrue (⟦<ValueTooBigError<u16> as PartialEq>⟧.eq a b) ↔ (a ≡ b) }
+{}
+
+/// A clone is there whatever memory there is, and is the same as its source.
+pub fn clones()
+    ensures ether_types { ClonesExactly ⟦<EtherType as Clone>⟧.is_infallible ⟦<EtherType as Clone>⟧.is_clone }
+    ensures ip_numbers { ClonesExactly ⟦<IpNumber as Clone>⟧.is_infallible ⟦<IpNumber as Clone>⟧.is_clone }
+    ensures len_sources { ClonesExactly ⟦<LenSource as Clone>⟧.is_infallible ⟦<LenSource as Clone>⟧.is_clone }
+    ensures ether_payloads { ClonesExactly
+        ⟦<EtherPayloadSlice<'static> as Clone>⟧.is_infallible ⟦<EtherPayloadSlice<'static> as Clone>⟧.is_clone }
+    ensures ip_payloads { ClonesExactly
+        ⟦<IpPayloadSlice<'static> as Clone>⟧.is_infallible ⟦<IpPayloadSlice<'static> as Clone>⟧.is_clone }
+    ensures vlan_ids { ClonesExactly ⟦<VlanId as Clone>⟧.is_infallible ⟦<VlanId as Clone>⟧.is_clone }
+    ensures vlan_pcps { ClonesExactly ⟦<VlanPcp as Clone>⟧.is_infallible ⟦<VlanPcp as Clone>⟧.is_clone }
+    ensures fragment_offsets { ClonesExactly
+        ⟦<IpFragOffset as Clone>⟧.is_infallible ⟦<IpFragOffset as Clone>⟧.is_clone }
+    ensures dscps { ClonesExactly ⟦<Ipv4Dscp as Clone>⟧.is_infallible ⟦<Ipv4Dscp as Clone>⟧.is_clone }
+    ensures ecns { ClonesExactly ⟦<Ipv4Ecn as Clone>⟧.is_infallible ⟦<Ipv4Ecn as Clone>⟧.is_clone }
+    ensures flow_labels { ClonesExactly ⟦<Ipv6FlowLabel as Clone>⟧.is_infallible ⟦<Ipv6FlowLabel as Clone>⟧.is_clone }
+    ensures short_lens { ClonesExactly ⟦<MacsecShortLen as Clone>⟧.is_infallible ⟦<MacsecShortLen as Clone>⟧.is_clone }
+    ensures association_numbers { ClonesExactly ⟦<MacsecAn as Clone>⟧.is_infallible ⟦<MacsecAn as Clone>⟧.is_clone }
+    ensures sums { ClonesExactly ⟦<Sum16BitWords as Clone>⟧.is_infallible ⟦<Sum16BitWords as Clone>⟧.is_clone }
+    ensures slices { ClonesExactly
+        ⟦<AtLeast<'static, 8> as Clone>⟧.is_infallible ⟦<AtLeast<'static, 8> as Clone>⟧.is_clone }
+    ensures layers { ClonesExactly ⟦<Layer as Clone>⟧.is_infallible ⟦<Layer as Clone>⟧.is_clone }
+    ensures value_types { ClonesExactly ⟦<ValueType as Clone>⟧.is_infallible ⟦<ValueType as Clone>⟧.is_clone }
+    ensures len_errors { ClonesExactly ⟦<LenError as Clone>⟧.is_infallible ⟦<LenError as Clone>⟧.is_clone }
+    ensures value_errors { ClonesExactly
+        ⟦<ValueTooBigError<u16> as Clone>⟧.is_infallible ⟦<ValueTooBigError<u16> as Clone>⟧.is_clone }
 {}

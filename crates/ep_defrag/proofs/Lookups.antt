@@ -10,10 +10,10 @@ use Rattle.std.proofs.lemmas.Option.{slice_get-get_or}
 
 -- ---- one test
 module _ {X : Type 0} (p : X → Bool) where
-  abbrev counted : X → ℕ
+  abbrev pub counted : X → ℕ
   counted x = cond (p x) 1 0
 
-  find_none : (xs : List X) → count_by p xs ≡ 0 → find p xs ≡ None
+  pub find_none : (xs : List X) → count_by p xs ≡ 0 → find p xs ≡ None
   find_none [] none = refl
   find_none (x ∷ xs) none = elim (cases_Bool (p x)) [
     | inl passes ↦ absurd (omega (arith, sum_by-cons counted x xs, ap {B = ℕ} (λ b. cond b 1 0) passes, none))

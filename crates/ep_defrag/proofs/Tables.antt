@@ -1,17 +1,18 @@
 -- What a pool holds, after one stream changed, went or began, and after a drop.
-use Rattle.std.proofs.Common.{◌≡◌, ℕ, Bool, true, false, List, [], ◌∷◌, ◌++◌, get_or, set, length, Bor, Option, Some, None, sym, refl, ap, ◌∙◌, subst, arith, inl, inr}
-use Rattle.std.specs.List.{filter, remove, position}
+use Rattle.std.proofs.Common.{◌≡◌, ℕ, ◌≤◌, Bool, true, false, List, [], ◌∷◌, ◌++◌, get_or, set, length, Bor, Option, Some, None, is_some, cond, sym, refl, ap, ◌∙◌, subst, arith, inl, inr}
+use Rattle.std.specs.List.{filter, find, count_by, items_where_true, remove, position}
 use Rattle.std.specs.List.Retain.{ReturnsInTurn, IsFiltered}
 use Rattle.std.specs.Cmp.{IsEquivalence}
 use Rattle.std.specs.Fn.{Shared, FnReturnsAt}
 use Rattle.std.proofs.lemmas.Bool.{cases_Bool}
+use Rattle.std.proofs.lemmas.List.Sums.{sum_by-cons}
 use Rattle.ep_defrag.specs.declared.ip_frag_id.IpFragId.{IpFragId}
 use Rattle.ep_defrag.specs.declared.ip_defrag_pool.Stream.{Stream}
 use Rattle.ep_defrag.specs.declared.ip_defrag_pool.IpDefragPool.{IpDefragPool}
 use Rattle.ep_defrag.specs.Streams.{same_stream}
 use Rattle.ep_defrag.specs.Calls.{Kept, kept_by}
-use Rattle.ep_defrag.specs.Pools.{streams_of, stream_named, HoldsEntry, HoldsTable, AnswersEach, LeavesAnswered}
-use Rattle.ep_defrag.proofs.Lookups.{find_here, find_set_here, find_set_there, count_set, find_removed_here, find_removed_there, count_removed, find_nowhere, find_pushed_here, find_pushed_there, count_pushed, count_filter, stays_if, find_filter}
+use Rattle.ep_defrag.specs.Pools.{streams_of, stream_named, HoldsEntry, HoldsTable, AnswersEach, LeavesAnswered, HoldsAnswered}
+use Rattle.ep_defrag.proofs.Lookups.{counted, find_none, find_here, find_set_here, find_set_there, count_set, find_removed_here, find_removed_there, count_removed, find_nowhere, find_pushed_here, find_pushed_there, count_pushed, count_filter, stays_if, find_filter}
 use Rattle.ep_defrag.proofs.Streams.{same_stream_laws}
 
 abbrev Table : Type 0 → Type 0 → Type 0
@@ -182,3 +183,100 @@ module _ {F T C : Type 0} (calls : Shared F (Bor T × Unit {0}) Bool) (keep : F)
     each = answers_each (streams_of old) left.0 left.1 left.2 left.3;
     left = left.4;
   }
+
+-- ---- a drop that decides by the timestamp or not
+-- what becomes of a stream that was found: an answer of keep decides
+abbrev IsDecided : {F T C : Type 0} → Shared F (Bor T × Unit {0}) Bool → F → Option (Stream T C) → Option (Stream T C)
+    → Type 0
+IsDecided calls keep None new = new ≡ None
+IsDecided calls keep (Some stream) new =
+    (answer : Bool) × FnReturnsAt calls keep stream.timestamp answer × (new ≡ cond answer (Some stream) None)
+
+module _ {F T C : Type 0} (calls : Shared F (Bor T × Unit {0}) Bool) (keep : F) where
+  module _ (p : Stream T C → Bool) where
+    count_answered : (streams : List (Stream T C)) (answers : List Bool) → AnswersEach calls keep streams answers
+        → count_by p (items_where_true answers streams) ≤ count_by p streams
+    count_answered [] [] each = omega arith
+    count_answered [] (answer ∷ answers) each = absurd each
+    count_answered (stream ∷ streams) [] each = absurd each
+    count_answered (stream ∷ streams) (true ∷ answers) each = omega (
+      arith,
+      sum_by-cons (counted p) stream streams,
+      sum_by-cons (counted p) stream (items_where_true answers streams),
+      count_answered streams answers each.1,
+    )
+    count_answered (stream ∷ streams) (false ∷ answers) each =
+        omega (arith, sum_by-cons (counted p) stream streams, count_answered streams answers each.1)
+
+    found_answered : (streams : List (Stream T C)) (answers : List Bool) → AnswersEach calls keep streams answers
+        → count_by p streams ≤ 1
+        → IsDecided calls keep (find p streams) (find p (items_where_true answers streams))
+    found_answered [] [] each one = refl
+    found_answered [] (answer ∷ answers) each one = absurd each
+    found_answered (stream ∷ streams) [] each one = absurd each
+    found_answered (stream ∷ streams) (true ∷ answers) each one = elim (cases_Bool (p stream)) [
+      | inl passes ↦ rw passes (true, each.0, refl)
+      | inr fails ↦ rw fails
+          (found_answered streams answers each.1 (omega (arith, sum_by-cons (counted p) stream streams, one)))
+    ]
+    found_answered (stream ∷ streams) (false ∷ answers) each one =
+        let more = sum_by-cons (counted p) stream streams in
+        elim (cases_Bool (p stream)) [
+          | inl passes ↦ rw passes (
+            false,
+            each.0,
+            find_none p (items_where_true answers streams)
+                (omega (
+                  arith,
+                  count_answered streams answers each.1,
+                  more,
+                  ap {B = ℕ} (λ b. cond b 1 0) passes,
+                  one,
+                )),
+          )
+          | inr fails ↦ rw fails (found_answered streams answers each.1 (omega (arith, more, one)))
+        ]
+
+  is_some_answered : (answer : Bool) (stream : Stream T C) → is_some (cond answer (Some stream) None) ≡ answer
+  is_some_answered true stream = refl
+  is_some_answered false stream = refl
+
+  decided_at : (old new : Option (Stream T C)) → IsDecided calls keep old new → (kept : Kept T)
+      → HoldsEntry old (Some kept) → FnReturnsAt calls keep kept.timestamp (is_some new)
+  decided_at None new decided kept entry = absurd entry
+  decided_at (Some stream) new decided kept entry =
+      rw (ap is_some decided.2 ∙ is_some_answered decided.0 stream, ← entry.timestamp) decided.1
+
+  entry_answered : (answer : Bool) (stream : Stream T C) (kept : Option (Kept T)) → HoldsEntry (Some stream) kept
+      → HoldsEntry (cond answer (Some stream) None) (cond (is_some (cond answer (Some stream) None)) kept None)
+  entry_answered true stream kept entry = entry
+  entry_answered false stream kept entry = tt
+
+  entry_decided : (old new : Option (Stream T C)) → IsDecided calls keep old new → (kept : Option (Kept T))
+      → HoldsEntry old kept → HoldsEntry new (cond (is_some new) kept None)
+  entry_decided None new decided kept entry = rw decided tt
+  entry_decided (Some stream) new decided kept entry =
+      rw decided.2 (entry_answered decided.0 stream kept entry)
+
+  -- the pool holds the entries of the streams that it shows
+  pub holds_answered : (eq : C → C → Bool) (old new : IpDefragPool T C) (table : Table T C) → HoldsTable eq old table
+      → LeavesAnswered calls keep old new → HoldsAnswered eq calls keep table new
+  holds_answered eq old new table held left =
+      let named = λ (name : IpFragId C) (stream : Stream T C). same_stream eq stream.id name in
+      let decided : (name : IpFragId C) → IsDecided calls keep (stream_named eq name old) (stream_named eq name new) =
+      λ name. rw left.left (found_answered (named name) (streams_of old) left.answers left.each (held.apart name)) in
+      record {
+        stays = λ name. is_some (stream_named eq name new);
+        each = λ name kept is_kept. decided_at (stream_named eq name old) (stream_named eq name new) (decided name) kept
+            (rw is_kept at (held.each name));
+        holds = record {
+          apart = λ name. rw left.left
+              (omega (
+                arith,
+                held.apart name,
+                count_answered (named name) (streams_of old) left.answers left.each,
+              ));
+          each = λ name. entry_decided (stream_named eq name old) (stream_named eq name new) (decided name)
+              (table name) (held.each name);
+        };
+      }

@@ -1,5 +1,5 @@
 -- What a pool holds of each stream, and what its calls bring and are answered, as plain data.
-use Rattle.std.specs.Prelude.{◌≡◌, ℕ, ◌≤◌, ◌<◌, Bool, false, IsTrue, IsFalse, Option, Some, None, Result, Ok, Err, List, [], ◌∷◌, length}
+use Rattle.std.specs.Prelude.{◌≡◌, ℕ, ◌≤◌, ◌<◌, Bool, false, IsTrue, IsFalse, if◌then◌else◌, Option, Some, None, Result, Ok, Err, List, [], ◌∷◌, length}
 use Rattle.std.specs.Option.{option_map}
 use Rattle.std.specs.List.{find, count_by, items_where_true}
 use Rattle.std.specs.List.Sorted.{IsPermutation}
@@ -124,6 +124,14 @@ pub record LeavesAnswered {F T C : Type 0} (calls : Shared F (Bor T × Unit {0})
   pub answers : List Bool
   pub each : AnswersEach calls keep (streams_of old) answers
   pub left : streams_of new ≡ items_where_true answers (streams_of old)
+
+-- Of what the pool held, it holds the entries that stay. An answer of the drop to the entry's timestamp decides each.
+pub record HoldsAnswered {F T C : Type 0} (eq : C → C → Bool) (calls : Shared F (Bor T × Unit {0}) Bool) (keep : F)
+    (table : IpFragId C → Option (Kept T)) (new : IpDefragPool T C) : Type 0 where
+  pub stays : IpFragId C → Bool
+  pub each : (name : IpFragId C) (kept : Kept T) → table name ≡ Some kept
+      → FnReturnsAt calls keep kept.timestamp (stays name)
+  pub holds : HoldsTable eq new (λ name. if stays name then table name else None)
 
 -- a drop's answers are a function of the timestamp
 abbrev pub IsAnsweredBy : {F T : Type 0} → Shared F (Bor T × Unit {0}) Bool → F → (T → Bool) → Type 0

@@ -62,7 +62,8 @@ impl fmt::Display for IpDefragError {
                 let offset = offset.value();
                 write!(
                     f,
-                    "Payload length {payload_len} of IP fragment (offset {offset}) is not a multiple of 8. This is only allowed for the last fragment packet."
+                    "Payload length {payload_len} of IP fragment (offset {offset}) is not a multiple of 8. \
+                     This is only allowed for the last fragment packet."
                 )
             }
             IpDefragError::SegmentTooBig {
@@ -73,7 +74,8 @@ impl fmt::Display for IpDefragError {
                 let offset = offset.value();
                 write!(
                     f,
-                    "Overall length of IP fragment (offset {offset}, payload len: {payload_len}) bigger then the maximum allowed size of {max}."
+                    "Overall length of IP fragment (offset {offset}, payload len: {payload_len}) \
+                     bigger then the maximum allowed size of {max}."
                 )
             }
             IpDefragError::ConflictingEnd {
@@ -81,7 +83,8 @@ impl fmt::Display for IpDefragError {
                 conflicting_end,
             } => write!(
                 f,
-                "Received a IP fragment (offset + len: {conflicting_end}) which conflicts a package that previously set the end to {previous_end}."
+                "Received a IP fragment (offset + len: {conflicting_end}) which conflicts a package that \
+                 previously set the end to {previous_end}."
             ),
             IpDefragError::AllocationFailure { len } => write!(
                 f,

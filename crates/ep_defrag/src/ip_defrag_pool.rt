@@ -6,7 +6,7 @@ ghost use Rattle.std.specs.Fn.{FnReturnsAt};
 ghost use Rattle.ep_defrag.specs.Buffers.{data_of};
 ghost use Rattle.ep_defrag.specs.Streams.{same_stream, source_of};
 ghost use Rattle.ep_defrag.specs.Calls.{Kept, kept_by};
-ghost use Rattle.ep_defrag.specs.Pools.{streams_of, HoldsTable, LeavesAnswered, IsAnsweredBy, TakesFragment, TakesFrame, fragment_in, plain_payload};
+ghost use Rattle.ep_defrag.specs.Pools.{streams_of, HoldsTable, LeavesAnswered, HoldsAnswered, IsAnsweredBy, TakesFragment, TakesFrame, fragment_in, plain_payload};
 
 use crate::carried_fragment::carried_fragment;
 use crate::fragment::Fragment;
@@ -173,7 +173,10 @@ impl<Timestamp: Drop, CustomChannelId: Eq + Hash + Drop> IpDefragPool<Timestamp,
             HoldsTable CustomChannelId.eq self.old table → (answers : Timestamp → Bool) →
             IsAnsweredBy F.Fn keep answers →
             HoldsTable CustomChannelId.eq self.new (λ name. kept_by answers (table name)) }
-        // The same whatever `keep` answers.
+        // The same whatever `keep` answers: some answer of it decides each entry, and each stream that the pool shows.
+        ensures entries { (table : IpFragId CustomChannelId → Option (Kept Timestamp)) →
+            HoldsTable CustomChannelId.eq self.old table →
+            HoldsAnswered CustomChannelId.eq F.Fn keep table self.new }
         ensures answered { LeavesAnswered F.Fn keep self.old self.new }
     {
         self.streams.retain(

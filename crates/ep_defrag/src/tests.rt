@@ -336,6 +336,39 @@ fn used_again(rt: HostRuntime) -> Result<(), Fail> {
     assert_eq!(rt; buffer.data().as_slice(), shown.as_slice());
     Ok(())
 }
+
+// The longest payload in many fragments, every other one first, so that there are many sections.
+#[test]
+fn many_fragments(rt: HostRuntime) -> Result<(), Fail> {
+    let payload = bytes_of(rt.alloc(), &[rising(0, 65535)])?;
+    let mut fragments = Vec::new(rt.alloc());
+    for parity in [1, 0] {
+        for (index, part) in payload.chunks(64).enumerate() {
+            if index % 2 == parity {
+                let units = u16::try_from(index)?.saturating_mul(8);
+                fragments.push(Fragment {
+                    offset: IpFragOffset::try_new(units)?,
+                    more_fragments: part.len() == 64,
+                    payload: part,
+                })?;
+            }
+        }
+    }
+    let (buffer, answers) = add_all(
+        rt.alloc(),
+        IpNumber::UDP,
+        Vec::new(rt.alloc()),
+        Vec::new(rt.alloc()),
+        fragments.as_slice(),
+    )?;
+    assert!(rt; answers.iter().all(|answer| answer.is_ok()));
+    assert_eq!(rt; answers.len(), 1024);
+    assert!(rt; buffer.is_complete());
+    assert_eq!(rt; buffer.data(), &payload);
+    assert_eq!(rt; buffer.clone()?, buffer);
+    Ok(())
+}
+
 // Adds a fragment, a second time where there was no memory at first: then nothing may have changed.
 fn add_again(
     rt: &impl Abort,

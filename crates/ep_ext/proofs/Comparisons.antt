@@ -18,9 +18,10 @@ use Rattle.ep_ext.specs.declared.ipv6_raw_ext_header.Ipv6RawExtHeader.{Ipv6RawEx
 use Rattle.ep_ext.specs.IpAuth.{FitsIpAuth}
 use Rattle.ep_ext.specs.RawExtension.{FitsRawExtension}
 use Rattle.ep_ext.specs.declared.ipv6_exts.Ipv6Extensions.{Ipv6Extensions}
+use Rattle.ep_ext.specs.declared.ipv6_routing_exts.Ipv6RoutingExtensions.{Ipv6RoutingExtensions}
 use Rattle.ep_ext.specs.ExtensionParts.{ExtensionPart, hop_by_hop, destination_options, routing, fragment, authentication, FitsPart, parts_there}
 use Rattle.ep_ext.specs.Chains.{FitParts}
-use Rattle.ep_ext.specs.Ipv6Chains.{ipv6_parts, routing_header, final_by}
+use Rattle.ep_ext.specs.Ipv6Chains.{FitRouting, ipv6_parts, routing_header, final_by}
 
 -- arrays of bytes, and so many units of them that are used
 stored_same : (width unit : ℕ) (a b : List ℕ) → (length a / unit ≡ length b / unit → length a ≡ length b)
@@ -55,10 +56,14 @@ same_ip_auth a b fits other =
     (Decides-and _ _ (Decides-eqb a.sequence_number b.sequence_number)
     (stored_same 1016 4 a.icv b.icv (λ words. omega (arith, words, fits.icv_words, other.icv_words))))))
 
-pub same_raw_extension : (a b : Ipv6RawExtHeader) → FitsRawExtension a → FitsRawExtension b
-    → Decides (nat_eq a.next_header.0 b.next_header.0
+-- the comparison of headers whose payload is left as bytes
+abbrev raw_extension_eq : Ipv6RawExtHeader → Ipv6RawExtHeader → Bool
+raw_extension_eq a b = nat_eq a.next_header.0 b.next_header.0
     && (pointwise nat_eq (padded 2046 a.payload) (padded 2046 b.payload)
-    && nat_eq (length a.payload / 8) (length b.payload / 8))) (a ≡ b)
+    && nat_eq (length a.payload / 8) (length b.payload / 8))
+
+pub same_raw_extension : (a b : Ipv6RawExtHeader) → FitsRawExtension a → FitsRawExtension b
+    → Decides (raw_extension_eq a b) (a ≡ b)
 same_raw_extension a b fits other =
     Decides-like _ (λ both. λ i. record { next_header = record { 0 = both.0 i }; payload = both.1 i })
     (λ same. (
@@ -107,6 +112,22 @@ there_fits kind None header fit same = absurd (none-some header same)
 there_fits kind (Some other) header fit same =
     let one : other ≡ header = cc in subst (λ h. FitsPart (kind h)) one fit.0
 
+pub same_routing : (a b : Ipv6RoutingExtensions)
+    → FitRouting a → FitRouting b
+    → Decides (raw_extension_eq a.routing b.routing
+    && option_eq raw_extension_eq a.final_destination_options b.final_destination_options) (a ≡ b)
+same_routing a b fits other =
+    Decides-like _ (λ both i. record { routing = both.0 i; final_destination_options = both.1 i })
+    (λ same. (
+      ap (λ (r : Ipv6RoutingExtensions). r.routing) same,
+      ap (λ (r : Ipv6RoutingExtensions). r.final_destination_options) same,
+    ))
+    (Decides-and _ _ (same_raw_extension a.routing b.routing fits.0 other.0)
+    (same_option raw_extension_eq a.final_destination_options b.final_destination_options
+    (λ x y is_x is_y. same_raw_extension x y
+    (there_fits destination_options a.final_destination_options x fits.1 is_x)
+    (there_fits destination_options b.final_destination_options y other.1 is_y))))
+
 fit_front : (parts more : List ExtensionPart) → FitParts (parts ++ more) → FitParts parts
 fit_front [] more fit = tt
 fit_front (part ∷ parts) more fit = (fit.0, fit_front parts more fit.1)
@@ -122,6 +143,15 @@ pub record FitEach (extensions : Ipv6Extensions) : Type 0 where
   pub behind : FitParts (parts_there routing (option_map routing_header extensions.routing))
   pub auth : FitParts (parts_there authentication extensions.auth)
   pub final : FitParts (parts_there destination_options (final_by extensions.routing))
+
+-- and so a routing header and the destination options behind it
+pub fit_routing : (extensions : Ipv6Extensions) (behind : Ipv6RoutingExtensions) → FitEach extensions
+    → extensions.routing ≡ Some behind → FitRouting behind
+fit_routing extensions behind fit is = (
+  there_fits routing (option_map routing_header extensions.routing) behind.routing fit.behind
+      (ap (option_map routing_header) is),
+  subst (λ (r : Option Ipv6RoutingExtensions). FitParts (parts_there destination_options (final_by r))) is fit.final,
+)
 
 pub fit_each : (extensions : Ipv6Extensions) → FitParts (ipv6_parts extensions) → FitEach extensions
 fit_each extensions fit =

@@ -188,7 +188,7 @@ headers_second_read first bytes number rest extensions read kind start there = (
 
 -- ---- how long the headers of a value are
 
-bytes-append : (parts more : List ExtensionPart)
+pub bytes-append : (parts more : List ExtensionPart)
     → length (parts_bytes (parts ++ more)) ≡ length (parts_bytes parts) + length (parts_bytes more)
 bytes-append [] more = omega arith
 bytes-append (part ∷ parts) more = omega (

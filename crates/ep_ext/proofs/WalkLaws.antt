@@ -17,7 +17,7 @@ option_cases None = inl refl
 option_cases (Some some) = inr (some, refl)
 
 -- from each number there is a walk, of fewer headers than can be taken
-walk_there : (most : ℕ) (extensions : Ipv6Extensions) (taken : List ℕ) (walked : Ipv6Extensions) (marks : Marks)
+pub walk_there : (most : ℕ) (extensions : Ipv6Extensions) (taken : List ℕ) (walked : Ipv6Extensions) (marks : Marks)
     (number : ℕ) → marks_left marks < most → IsMarked taken walked marks
     → (parts : List ExtensionPart) × (last : ℕ) × IsWalkBehind extensions taken number parts last
 walk_there zero extensions taken walked marks number within m = absurd (omega arith)

@@ -1,7 +1,8 @@
 -- A walk along the extension headers of IPv6, and the marks that it leaves.
-use Rattle.std.proofs.Common.{◌≡◌, ℕ, ◌<◌, ◌&&◌, Bool, true, false, not, if◌then◌else◌, List, [], ◌∷◌, ◌++◌, Option, Some, None, refl, sym, ap, subst, ◌∙◌, inl, inr, arith, append_assoc}
+use Rattle.std.proofs.Common.{◌≡◌, ℕ, ◌+◌, ◌<◌, ◌≤◌, ◌&&◌, Bool, true, false, not, if◌then◌else◌, List, [], ◌∷◌, ◌++◌, Option, Some, None, refl, sym, ap, subst, ◌∙◌, inl, inr, arith, length, length-append, append_assoc, vec_capacity}
 use Rattle.std.specs.Option.{option_map, is_some}
-use Rattle.std.specs.Prelude.{Result, Ok, Err, OnOk, is_err}
+use Rattle.std.specs.Prelude.{Result, Ok, Err, OnOk, OnErr, is_err}
+use Rattle.std.specs.Global.{Vec}
 use Rattle.std.proofs.lemmas.Bool.{cases_eq, false≢true, true≢false}
 use Rattle.std.proofs.lemmas.Option.{none-some}
 use Rattle.std.proofs.lemmas.Grind.{common_steps}
@@ -15,7 +16,7 @@ use Rattle.ep_ext.specs.ExtensionParts.{ExtensionPart, hop_by_hop, destination_o
 use Rattle.ep_ext.specs.Chains.{is_first, is_taken, parts_bytes, FitParts}
 use Rattle.ep_ext.specs.Ipv6Chains.{no_ipv6_extensions, extensions_of, with_part, with_destination, has_destination, final_by, header_for, IsWalkBehind, missing_number, walk_refusal, WalksAll, RefusesWalk}
 use Rattle.ep_ext.specs.Walks.{no_marks, marked, marks_left, unmarked, header_at, missing_at}
-use Rattle.ep_ext.proofs.ValueLemmas.{HasTaken, none_taken, taken_more, with_parts-append}
+use Rattle.ep_ext.proofs.ValueLemmas.{HasTaken, none_taken, taken_more, with_parts-append, bytes-append}
 
 -- the marks are those of the headers that were taken
 pub record IsMarked (taken : List ℕ) (walked : Ipv6Extensions) (marks : Marks) : Type 0 where
@@ -466,11 +467,12 @@ parts_bytes-append (other ∷ parts) part =
     ∙ sym (append_assoc (part_bytes other) (parts_bytes parts) (part_bytes part))
 
 pub record HasWritten (extensions : Ipv6Extensions) (first number : ℕ) (marks : Marks)
-    (start items : List ℕ) : Type 0 where
+    (start now : Vec ℕ) : Type 0 where
   pub parts : List ExtensionPart
   pub by : WalkedBy extensions first parts number marks
   pub fit : FitParts parts
-  pub written : items ≡ start ++ parts_bytes parts
+  pub written : now.items ≡ start.items ++ parts_bytes parts
+  pub capacity : vec_capacity start ≤ vec_capacity now
 
 pub written_more : (start items more : List ℕ) (parts : List ExtensionPart) (part : ExtensionPart)
     → items ≡ start ++ parts_bytes parts → more ≡ items ++ part_bytes part
@@ -480,11 +482,31 @@ written_more start items more parts part written more_is =
     ∙ append_assoc start (parts_bytes parts) (part_bytes part)
     ∙ ap (λ (s : List ℕ). start ++ s) (sym (parts_bytes-append parts part))
 
-pub fit_more : (parts : List ExtensionPart) (part : ExtensionPart) → FitParts parts → FitsPart part → FitParts (parts ++ part ∷ [])
+pub fit_more : (parts : List ExtensionPart) (part : ExtensionPart) → FitParts parts → FitsPart part
+    → FitParts (parts ++ part ∷ [])
 fit_more [] part fit here = (here, tt)
 fit_more (other ∷ parts) part fit here = (fit.0, fit_more parts part fit.1 here)
 
--- what holds at Ok holds where there is no error
+-- where a header found no room, there is none for all headers
+pub no_room : (room len now size : ℕ) (parts : List ExtensionPart) (part : ExtensionPart) (rest : List ExtensionPart)
+    → room ≤ now → size ≡ len + length (parts_bytes parts) → now < size + length (part_bytes part)
+    → room < len + length (parts_bytes ((parts ++ part ∷ []) ++ rest))
+no_room room len now size parts part rest grown written full = omega (
+  arith,
+  grown,
+  written,
+  full,
+  bytes-append (parts ++ part ∷ []) rest,
+  ap length (parts_bytes-append parts part),
+  length-append (parts_bytes parts) (part_bytes part),
+)
+
+-- what holds at Err holds where there is an error
+pub on_err : {A E : Type 0} (answer : Result A E) (P : Type 0) → is_err answer ≡ true → OnErr answer P → P
+on_err (Ok value) P error holds = absurd (false≢true error)
+on_err (Err error) P is holds = holds
+
+-- and what holds at Ok where there is none
 pub on_ok : {A E : Type 0} (answer : Result A E) (P : Type 0) → is_err answer ≡ false → OnOk answer P → P
 on_ok (Ok value) P none holds = holds
 on_ok (Err error) P none holds = absurd (true≢false none)

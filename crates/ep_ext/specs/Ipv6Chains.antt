@@ -10,7 +10,7 @@ use Rattle.ep_ext.specs.declared.ipv6_raw_ext_header.Ipv6RawExtHeader.{Ipv6RawEx
 use Rattle.ep_ext.specs.declared.ipv6_exts.Ipv6Extensions.{Ipv6Extensions}
 use Rattle.ep_ext.specs.declared.ipv6_routing_exts.Ipv6RoutingExtensions.{Ipv6RoutingExtensions}
 use Rattle.ep_ext.specs.ExtensionParts.{ExtensionPart, hop_by_hop, destination_options, routing, fragment, authentication, parts_there, part_next}
-use Rattle.ep_ext.specs.Chains.{is_taken, is_first}
+use Rattle.ep_ext.specs.Chains.{FitParts, is_taken, is_first}
 use Rattle.ep_ext.specs.Ipv4Chains.{ip_auth_leading_to}
 
 -- ---- the headers of a value
@@ -28,6 +28,11 @@ no_ipv6_extensions = record {
 -- the routing header
 abbrev pub routing_header : Ipv6RoutingExtensions → Ipv6RawExtHeader
 routing_header behind = behind.routing
+
+-- each field of a routing header, and of the destination options behind it, fits its place
+abbrev pub FitRouting : Ipv6RoutingExtensions → Type 0
+FitRouting behind = FitParts (routing behind.routing
+    ∷ parts_there destination_options behind.final_destination_options)
 
 -- the destination options behind a routing header
 abbrev pub final_by : Option Ipv6RoutingExtensions → Option Ipv6RawExtHeader

@@ -7,7 +7,7 @@ use Rattle.ep_ext.specs.declared.ipv6_exts_slice_iter.Ipv6ExtensionSliceIter.{Ip
 use Rattle.ep_ext.specs.IpAuthSlices.{ip_auth_slice_bytes, ip_auth_slice_header}
 use Rattle.ep_ext.specs.FragmentHeaderSlices.{fragment_slice_bytes, fragment_slice_header}
 use Rattle.ep_ext.specs.RawExtensionSlices.{raw_extension_slice_bytes, raw_extension_slice_header}
-use Rattle.ep_ext.specs.ExtensionParts.{ExtensionPart, hop_by_hop, destination_options, routing, fragment, authentication}
+use Rattle.ep_ext.specs.ExtensionParts.{ExtensionPart, hop_by_hop, destination_options, routing, fragment, authentication, part_next}
 use Rattle.ep_ext.specs.ShownChains.{shown_parts}
 
 -- the header of a slice
@@ -50,16 +50,18 @@ bytes_left iterator = iterator.rest.now
 abbrev pub parts_left : Ipv6ExtensionSliceIter → List ExtensionPart
 parts_left iterator = shown_parts (number_left iterator) (bytes_left iterator)
 
--- an iterator begins with all headers, and with their bytes
+-- an iterator begins with all headers, with their bytes, and with the number of the first
 pub record BeginsIteration (extensions : Ipv6ExtensionsSlice) (iterator : Ipv6ExtensionSliceIter) : Type 0 where
+  pub number : number_left iterator ≡ ipv6_slice_number extensions
   pub parts : parts_left iterator ≡ ipv6_slice_parts extensions
   pub bytes : bytes_left iterator ≡ ipv6_slice_bytes extensions
 
--- A call gives the first of the headers, which shows the bytes at the front, and keeps the others and the bytes behind
--- it, or there are no headers left, and nothing changes.
+-- A call gives the first of the headers, which shows the bytes at the front, and keeps the others, the bytes behind it
+-- and the number of what follows it, or there are no headers left, and nothing changes.
 abbrev pub YieldsExtension : Ipv6ExtensionSliceIter → Option Ipv6ExtensionSlice → Ipv6ExtensionSliceIter → Type 0
-YieldsExtension iterator None after =
-    (parts_left iterator ≡ []) × (parts_left after ≡ []) × (bytes_left after ≡ bytes_left iterator)
+YieldsExtension iterator None after = (parts_left iterator ≡ []) × (parts_left after ≡ [])
+    × (bytes_left after ≡ bytes_left iterator) × (number_left after ≡ number_left iterator)
 YieldsExtension iterator (Some header) after =
     (parts_left iterator ≡ extension_slice_part header ∷ parts_left after)
     × (bytes_left iterator ≡ extension_slice_bytes header ++ bytes_left after)
+    × (number_left after ≡ part_next (extension_slice_part header))

@@ -1,6 +1,6 @@
 //! The authentication header of IP (RFC 4302, 2).
 
-ghost use Rattle.std.specs.Prelude.{◌≡◌, ◌<◌, ◌≤◌, ◌%◌, ◌^◌, [], ◌∷◌, ◌++◌, List, ℕ, length, IfOk, IfErr, OnOk, OnErr, IsOkAnd, MatchResult};
+ghost use Rattle.std.specs.Prelude.{◌≡◌, ◌<◌, ◌≤◌, ◌+◌, ◌%◌, ◌^◌, [], ◌∷◌, ◌++◌, List, ℕ, length, vec_len, vec_capacity, IfOk, IfErr, OnOk, OnErr, IsOkAnd, MatchResult};
 ghost use Rattle.std.specs.Int.{w32, to_be_bytes};
 ghost use Rattle.ep_ext.specs.IpAuth.{FitsIpAuth, IsIpAuth, RefusesIcv, RefusesIpAuth, ip_auth_bytes, ip_auth_icv, ip_auth_len, ip_auth_with};
 
@@ -127,11 +127,14 @@ impl IpAuthHeader {
         bytes
     }
 
-    /// Appends the header's bytes. A refusal leaves the buffer as it was.
+    /// Appends the header's bytes. A refusal leaves the buffer as it was, and comes only where the buffer would have to
+    /// grow.
     pub fn write(&self, buf: &mut Vec<u8>) -> Result<(), AllocError>
         ensures ok { OnOk result (buf.new.items ≡ buf.old.items ++ ip_auth_bytes self.now) }
         ensures err { OnErr result (buf.new.items ≡ buf.old.items) }
         ensures fits { FitsIpAuth self.now }
+        ensures full { OnErr result (vec_capacity buf.old < vec_len buf.old + length (ip_auth_bytes self.now)) }
+        ensures capacity { vec_capacity buf.old ≤ vec_capacity buf.new }
     {
         buf.extend_from_slice(self.to_bytes().as_slice())
     }

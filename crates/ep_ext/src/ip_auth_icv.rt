@@ -28,9 +28,13 @@ impl Model for IpAuthIcv {
     ghost inverse = { λ icv. record { bytes = padded 1016 icv; words = length icv / 4 } };
 
     ghost inverse_ok = { λ v h.
-        let len : length (take (4 * v.words) v.bytes) ≡ 4 * v.words = length-take-le (4 * v.words) v.bytes (Prim.omega (arith, h.0, h.1)) in
+        let len : length (take (4 * v.words) v.bytes) ≡ 4 * v.words
+        = length-take-le (4 * v.words) v.bytes (Prim.omega (arith, h.0, h.1)) in
         let words : length (take (4 * v.words) v.bytes) / 4 ≡ v.words = Prim.omega (arith, len) in
-        λ i. record { bytes = padded_front 1016 (4 * v.words) v.bytes h.0 (Prim.omega (arith, h.1)) h.2 i; words = words i } };
+        λ i. record {
+          bytes = padded_front 1016 (4 * v.words) v.bytes h.0 (Prim.omega (arith, h.1)) h.2 i;
+          words = words i;
+        } };
 }
 
 impl IpAuthIcv {

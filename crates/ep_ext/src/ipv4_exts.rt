@@ -1,6 +1,6 @@
 //! The extension headers of IPv4 by value.
 
-ghost use Rattle.std.specs.Prelude.{◌≡◌, ◌≤◌, ◌++◌, ◌↔◌, ℕ, List, length, IfOk, IfErr, OnOk, OnErr, IsOkAnd, Ok, Err};
+ghost use Rattle.std.specs.Prelude.{◌≡◌, ◌<◌, ◌≤◌, ◌+◌, ◌++◌, ◌↔◌, ℕ, List, length, vec_len, vec_capacity, IfOk, IfErr, OnOk, OnErr, IsOkAnd, Ok, Err};
 ghost use Rattle.ep_base.specs.Layer.{headers};
 ghost use Rattle.ep_base.specs.declared.err.ipv4_exts.ExtsWalkError.{ExtsWalkError};
 ghost use Rattle.ep_base.specs.declared.err.ipv4_exts.HeaderWriteError.TheVariants as write_error;
@@ -87,13 +87,17 @@ impl Ipv4Extensions {
         }
     }
 
-    /// Appends the headers' bytes, where this is the first number. A refusal leaves the buffer as it was.
+    /// Appends the headers' bytes, where this is the first number. A refusal leaves the buffer as it was, and want of
+    /// memory comes only where the buffer would have to grow.
     pub fn write(&self, buf: &mut Vec<u8>, first: IpNumber) -> Result<(), HeaderWriteError>
         ensures ok { OnOk result (buf.new.items ≡ buf.old.items ++ parts_bytes (ipv4_parts self.now)) }
         ensures err { OnErr result (buf.new.items ≡ buf.old.items) }
         ensures fits { OnOk result (FitParts (ipv4_parts self.now)) }
         ensures walk { (error : ExtsWalkError)
             → (ipv4_walk self.now first ≡ Err error) ↔ (result ≡ Err (write_error.Content error)) }
+        ensures full { result ≡ Err write_error.OutOfMemory
+            → vec_capacity buf.old < vec_len buf.old + length (parts_bytes (ipv4_parts self.now)) }
+        ensures capacity { vec_capacity buf.old ≤ vec_capacity buf.new }
     {
         if let Err(error) = self.next_header(first) {
             return Err(HeaderWriteError::Content(error));

@@ -29,7 +29,7 @@ impl<'a> Ipv6ExtensionsSlice<'a> {
     ghost use Rattle.std.specs.Prelude.{◌≡◌, ◌++◌, List, ℕ, IfOk, IfErr, IsOkAnd};
     ghost use Rattle.ep_base.specs.Layer.{slices};
     ghost use Rattle.ep_ext.specs.Chains.{ipv6, ExtensionChain, IsExtensionChain, RefusesExtensionChain, chain_of, chain_fragments};
-    ghost use Rattle.ep_ext.specs.Ipv6Slices.{ipv6_slice_parts, ipv6_slice_bytes};
+    ghost use Rattle.ep_ext.specs.Ipv6Slices.{ipv6_slice_parts, ipv6_slice_bytes, ipv6_slice_number};
 
     /// The extension headers at the front of the slice, which begins with what the number says, the number of what
     /// follows them, and the bytes behind them.
@@ -43,6 +43,7 @@ impl<'a> Ipv6ExtensionsSlice<'a> {
         ensures only { (chain : ExtensionChain) → IsExtensionChain ipv6 slices number.0 slice.now chain
             → IsOkAnd result (λ read. chain_of (ipv6_slice_parts read.0) read.1.0 read.2.now ≡ chain) }
         ensures err { IfErr result (RefusesExtensionChain ipv6 slices number.0 slice.now) }
+        ensures number { IfOk result (λ read. ipv6_slice_number read.0 ≡ number.0) }
     {
         let mut next = number;
         let mut rest = slice;

@@ -1,6 +1,6 @@
 //! A walk along the numbers of the extension headers of IPv6 (RFC 8200, 4.1).
 
-ghost use Rattle.std.specs.Prelude.{◌≡◌, ◌++◌, ◌↔◌, ℕ, List, Err, option_map, IfOk, IfErr, OnOk, OnErr, IsOkAnd};
+ghost use Rattle.std.specs.Prelude.{◌≡◌, ◌<◌, ◌≤◌, ◌+◌, ◌++◌, ◌↔◌, ℕ, List, length, vec_len, vec_capacity, Err, option_map, IfOk, IfErr, OnOk, OnErr, IsOkAnd};
 ghost use Rattle.ep_base.specs.declared.err.ipv6_exts.ExtsWalkError.{ExtsWalkError};
 ghost use Rattle.ep_base.specs.declared.err.ipv6_exts.HeaderWriteError.TheVariants as write_error;
 ghost use Rattle.ep_base.specs.IpNumbers.{destination_options_number};
@@ -78,11 +78,15 @@ impl HeaderRef<'_> {
         }
     }
 
-    /// Appends the header's bytes. A refusal leaves the buffer as it was.
+    /// Appends the header's bytes. A refusal leaves the buffer as it was, and comes only where the buffer would have to
+    /// grow.
     fn write(&self, buf: &mut Vec<u8>) -> Result<(), AllocError>
         ensures ok { OnOk result (buf.new.items ≡ buf.old.items ++ part_bytes (header_ref_part self.now)) }
         ensures err { OnErr result (buf.new.items ≡ buf.old.items) }
         ensures fits { FitsPart (header_ref_part self.now) }
+        ensures full { OnErr result (vec_capacity buf.old < vec_len buf.old
+            + length (part_bytes (header_ref_part self.now))) }
+        ensures capacity { vec_capacity buf.old ≤ vec_capacity buf.new }
     {
         match self {
             HeaderRef::HopByHop(header) => header.write(buf),
@@ -115,13 +119,17 @@ impl Ipv6Extensions {
     }
 
     /// Appends the headers' bytes in the order in which the numbers lead to them, where this is the first number. A
-    /// refusal leaves the buffer as it was.
+    /// refusal leaves the buffer as it was, and want of memory comes only where the buffer would have to grow.
     pub fn write(&self, buf: &mut Vec<u8>, first: IpNumber) -> Result<(), HeaderWriteError>
         ensures ok { OnOk result ((parts : List ExtensionPart) × (last : ℕ) × WalksAll self.now first.0 parts last
             × FitParts parts × (buf.new.items ≡ buf.old.items ++ parts_bytes parts)) }
         ensures err { OnErr result (buf.new.items ≡ buf.old.items) }
         ensures walk { (error : ExtsWalkError)
             → RefusesWalk self.now first.0 error ↔ (result ≡ Err (write_error.Content error)) }
+        ensures full { result ≡ Err write_error.OutOfMemory
+            → (parts : List ExtensionPart) × (last : ℕ) × WalksAll self.now first.0 parts last
+            × (vec_capacity buf.old < vec_len buf.old + length (parts_bytes parts)) }
+        ensures capacity { vec_capacity buf.old ≤ vec_capacity buf.new }
     {
         if let Err(error) = self.next_header(first) {
             return Err(HeaderWriteError::Content(error));

@@ -1,6 +1,6 @@
 //! The fragment header of IPv6 (RFC 8200, 4.5).
 
-ghost use Rattle.std.specs.Prelude.{◌≡◌, ◌++◌, List, ℕ, length, IfOk, IfErr, OnOk, OnErr, IsOkAnd};
+ghost use Rattle.std.specs.Prelude.{◌≡◌, ◌<◌, ◌≤◌, ◌+◌, ◌++◌, List, ℕ, length, vec_len, vec_capacity, IfOk, IfErr, OnOk, OnErr, IsOkAnd};
 ghost use Rattle.ep_ext.specs.FragmentHeader.{FitsFragmentHeader, IsFragmentHeader, RefusesFragmentHeader, fragment_header_bytes, is_ipv6_fragment};
 
 use crate::err::LenError;
@@ -76,11 +76,14 @@ impl Ipv6FragmentHeader {
         ]
     }
 
-    /// Appends the header's bytes. A refusal leaves the buffer as it was.
+    /// Appends the header's bytes. A refusal leaves the buffer as it was, and comes only where the buffer would have to
+    /// grow.
     pub fn write(&self, buf: &mut Vec<u8>) -> Result<(), AllocError>
         ensures ok { OnOk result (buf.new.items ≡ buf.old.items ++ fragment_header_bytes self.now) }
         ensures err { OnErr result (buf.new.items ≡ buf.old.items) }
         ensures fits { FitsFragmentHeader self.now }
+        ensures full { OnErr result (vec_capacity buf.old < vec_len buf.old + length (fragment_header_bytes self.now)) }
+        ensures capacity { vec_capacity buf.old ≤ vec_capacity buf.new }
     {
         buf.extend_from_slice(&self.to_bytes())
     }

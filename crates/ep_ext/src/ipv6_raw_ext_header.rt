@@ -1,6 +1,6 @@
 //! An extension header of IPv6 whose payload is left as bytes (RFC 8200, 4).
 
-ghost use Rattle.std.specs.Prelude.{◌≡◌, ◌≤◌, ◌+◌, ◌%◌, ◌++◌, List, ℕ, length, IfOk, IfErr, OnOk, OnErr, IsOkAnd, MatchResult};
+ghost use Rattle.std.specs.Prelude.{◌≡◌, ◌<◌, ◌≤◌, ◌+◌, ◌%◌, ◌++◌, List, ℕ, length, vec_len, vec_capacity, IfOk, IfErr, OnOk, OnErr, IsOkAnd, MatchResult};
 ghost use Rattle.ep_ext.specs.RawExtension.{FitsRawExtension, IsRawExtension, RefusesRawPayload, RefusesRawExtension, raw_extension_bytes, raw_extension_len, raw_extension_payload, raw_extension_with};
 
 use crate::err::LenError;
@@ -121,11 +121,14 @@ impl Ipv6RawExtHeader {
         bytes
     }
 
-    /// Appends the header's bytes. A refusal leaves the buffer as it was.
+    /// Appends the header's bytes. A refusal leaves the buffer as it was, and comes only where the buffer would have to
+    /// grow.
     pub fn write(&self, buf: &mut Vec<u8>) -> Result<(), AllocError>
         ensures ok { OnOk result (buf.new.items ≡ buf.old.items ++ raw_extension_bytes self.now) }
         ensures err { OnErr result (buf.new.items ≡ buf.old.items) }
         ensures fits { FitsRawExtension self.now }
+        ensures full { OnErr result (vec_capacity buf.old < vec_len buf.old + length (raw_extension_bytes self.now)) }
+        ensures capacity { vec_capacity buf.old ≤ vec_capacity buf.new }
     {
         buf.extend_from_slice(self.to_bytes().as_slice())
     }

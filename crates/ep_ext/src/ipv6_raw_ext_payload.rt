@@ -28,9 +28,13 @@ impl Model for Ipv6RawExtPayload {
     ghost inverse = { λ payload. record { bytes = padded 2046 payload; units = length payload / 8 } };
 
     ghost inverse_ok = { λ v h.
-        let len : length (take (6 + 8 * v.units) v.bytes) ≡ 6 + 8 * v.units = length-take-le (6 + 8 * v.units) v.bytes (Prim.omega (arith, h.0, h.1)) in
+        let len : length (take (6 + 8 * v.units) v.bytes) ≡ 6 + 8 * v.units
+        = length-take-le (6 + 8 * v.units) v.bytes (Prim.omega (arith, h.0, h.1)) in
         let units : length (take (6 + 8 * v.units) v.bytes) / 8 ≡ v.units = Prim.omega (arith, len) in
-        λ i. record { bytes = padded_front 2046 (6 + 8 * v.units) v.bytes h.0 (Prim.omega (arith, h.1)) h.2 i; units = units i } };
+        λ i. record {
+          bytes = padded_front 2046 (6 + 8 * v.units) v.bytes h.0 (Prim.omega (arith, h.1)) h.2 i;
+          units = units i;
+        } };
 }
 
 impl Ipv6RawExtPayload {

@@ -13,7 +13,7 @@ ghost use Rattle.ep_ext.specs.ExtensionParts.{part_number};
 ghost use Rattle.ep_ext.specs.Ipv6Slices.{bytes_left, extension_slice_bytes, extension_slice_part, ipv6_slice_bytes, ipv6_slice_number, number_left};
 ghost use Rattle.ep_ext.specs.Chains.{FitParts};
 ghost use Rattle.ep_ext.specs.Ipv4Chains.{ipv4_parts};
-ghost use Rattle.ep_ext.specs.Ipv6Chains.{ipv6_parts};
+ghost use Rattle.ep_ext.specs.Ipv6Chains.{FitRouting, ipv6_parts};
 
 pub mod chains;
 
@@ -22,7 +22,7 @@ use crate::err::ipv6_exts::ExtPayloadLenError;
 use crate::{
     IpAuthHeader, IpAuthHeaderSlice, Ipv4Extensions, Ipv4ExtensionsSlice, Ipv6ExtensionSlice,
     Ipv6ExtensionSliceIter, Ipv6Extensions, Ipv6ExtensionsSlice, Ipv6FragmentHeader,
-    Ipv6FragmentHeaderSlice, Ipv6RawExtHeader, Ipv6RawExtHeaderSlice,
+    Ipv6FragmentHeaderSlice, Ipv6RawExtHeader, Ipv6RawExtHeaderSlice, Ipv6RoutingExtensions,
 };
 
 /// Bytes begin with an authentication header, of one value and with one rest behind it, or are refused with one error,
@@ -52,7 +52,8 @@ pub fn constants()
 {}
 
 /// Headers, and values of extension headers, are equal where each field is, check values and payloads by their bytes.
-/// Slices are equal where they show the same bytes of the same kinds, and errors where they are the same.
+/// Slices are equal where they show the same bytes of the same kinds, chains of slices and iterators where the number
+/// of the first header, or of what follows where there are none, is the same too, and errors where they are the same.
 pub fn comparisons()
     ensures icv_errors { (a b : IcvLenError) → IsTrue (⟦<IcvLenError as PartialEq>⟧.eq a b) ↔ (a ≡ b) }
     ensures payload_errors { (a b : ExtPayloadLenError) →
@@ -63,6 +64,8 @@ pub fn comparisons()
         IsTrue (⟦<IpAuthHeader as PartialEq>⟧.eq a b) ↔ (a ≡ b) }
     ensures raw_extension { (a b : Ipv6RawExtHeader) → FitsRawExtension a → FitsRawExtension b →
         IsTrue (⟦<Ipv6RawExtHeader as PartialEq>⟧.eq a b) ↔ (a ≡ b) }
+    ensures routing { (a b : Ipv6RoutingExtensions) → FitRouting a → FitRouting b →
+        IsTrue (⟦<Ipv6RoutingExtensions as PartialEq>⟧.eq a b) ↔ (a ≡ b) }
     ensures ip_auth_slice { (a b : IpAuthHeaderSlice) → IsTrue (⟦<IpAuthHeaderSlice<'static> as PartialEq>⟧.eq a b)
         ↔ (ip_auth_slice_bytes a ≡ ip_auth_slice_bytes b) }
     ensures raw_extension_slice { (a b : Ipv6RawExtHeaderSlice) →
@@ -88,4 +91,47 @@ pub fn comparisons()
         IsTrue (⟦<Ipv4Extensions as PartialEq>⟧.eq a b) ↔ (a ≡ b) }
     ensures ipv6 { (a b : Ipv6Extensions) → FitParts (ipv6_parts a) → FitParts (ipv6_parts b) →
         IsTrue (⟦<Ipv6Extensions as PartialEq>⟧.eq a b) ↔ (a ≡ b) }
+{}
+
+/// A clone equals its source.
+pub fn clones()
+    ensures icv_errors { (a b : IcvLenError) → ⟦<IcvLenError as Clone>⟧.is_clone a b → b ≡ a }
+    ensures payload_errors { (a b : ExtPayloadLenError) → ⟦<ExtPayloadLenError as Clone>⟧.is_clone a b → b ≡ a }
+    ensures fragment_header { (a b : Ipv6FragmentHeader) → ⟦<Ipv6FragmentHeader as Clone>⟧.is_clone a b → b ≡ a }
+    ensures ip_auth { (a b : IpAuthHeader) → ⟦<IpAuthHeader as Clone>⟧.is_clone a b → b ≡ a }
+    ensures raw_extension { (a b : Ipv6RawExtHeader) → ⟦<Ipv6RawExtHeader as Clone>⟧.is_clone a b → b ≡ a }
+    ensures routing { (a b : Ipv6RoutingExtensions) → ⟦<Ipv6RoutingExtensions as Clone>⟧.is_clone a b → b ≡ a }
+    ensures ip_auth_slice { (a b : IpAuthHeaderSlice) → ⟦<IpAuthHeaderSlice<'static> as Clone>⟧.is_clone a b → b ≡ a }
+    ensures raw_extension_slice { (a b : Ipv6RawExtHeaderSlice) →
+        ⟦<Ipv6RawExtHeaderSlice<'static> as Clone>⟧.is_clone a b → b ≡ a }
+    ensures fragment_slice { (a b : Ipv6FragmentHeaderSlice) →
+        ⟦<Ipv6FragmentHeaderSlice<'static> as Clone>⟧.is_clone a b → b ≡ a }
+    ensures ipv4_slices { (a b : Ipv4ExtensionsSlice) → ⟦<Ipv4ExtensionsSlice<'static> as Clone>⟧.is_clone a b → b ≡ a }
+    ensures ipv6_slice { (a b : Ipv6ExtensionSlice) → ⟦<Ipv6ExtensionSlice<'static> as Clone>⟧.is_clone a b → b ≡ a }
+    ensures ipv6_slices { (a b : Ipv6ExtensionsSlice) → ⟦<Ipv6ExtensionsSlice<'static> as Clone>⟧.is_clone a b → b ≡ a }
+    ensures iterators { (a b : Ipv6ExtensionSliceIter) →
+        ⟦<Ipv6ExtensionSliceIter<'static> as Clone>⟧.is_clone a b → b ≡ a }
+    ensures ipv4 { (a b : Ipv4Extensions) → ⟦<Ipv4Extensions as Clone>⟧.is_clone a b → b ≡ a }
+    ensures ipv6 { (a b : Ipv6Extensions) → ⟦<Ipv6Extensions as Clone>⟧.is_clone a b → b ≡ a }
+{}
+
+/// A clone takes no memory, and so is there.
+pub fn clones_succeed()
+    ensures icv_errors { (a : IcvLenError) → ⟦<IcvLenError as Clone>⟧.is_infallible a }
+    ensures payload_errors { (a : ExtPayloadLenError) → ⟦<ExtPayloadLenError as Clone>⟧.is_infallible a }
+    ensures fragment_header { (a : Ipv6FragmentHeader) → ⟦<Ipv6FragmentHeader as Clone>⟧.is_infallible a }
+    ensures ip_auth { (a : IpAuthHeader) → ⟦<IpAuthHeader as Clone>⟧.is_infallible a }
+    ensures raw_extension { (a : Ipv6RawExtHeader) → ⟦<Ipv6RawExtHeader as Clone>⟧.is_infallible a }
+    ensures routing { (a : Ipv6RoutingExtensions) → ⟦<Ipv6RoutingExtensions as Clone>⟧.is_infallible a }
+    ensures ip_auth_slice { (a : IpAuthHeaderSlice) → ⟦<IpAuthHeaderSlice<'static> as Clone>⟧.is_infallible a }
+    ensures raw_extension_slice { (a : Ipv6RawExtHeaderSlice) →
+        ⟦<Ipv6RawExtHeaderSlice<'static> as Clone>⟧.is_infallible a }
+    ensures fragment_slice { (a : Ipv6FragmentHeaderSlice) →
+        ⟦<Ipv6FragmentHeaderSlice<'static> as Clone>⟧.is_infallible a }
+    ensures ipv4_slices { (a : Ipv4ExtensionsSlice) → ⟦<Ipv4ExtensionsSlice<'static> as Clone>⟧.is_infallible a }
+    ensures ipv6_slice { (a : Ipv6ExtensionSlice) → ⟦<Ipv6ExtensionSlice<'static> as Clone>⟧.is_infallible a }
+    ensures ipv6_slices { (a : Ipv6ExtensionsSlice) → ⟦<Ipv6ExtensionsSlice<'static> as Clone>⟧.is_infallible a }
+    ensures iterators { (a : Ipv6ExtensionSliceIter) → ⟦<Ipv6ExtensionSliceIter<'static> as Clone>⟧.is_infallible a }
+    ensures ipv4 { (a : Ipv4Extensions) → ⟦<Ipv4Extensions as Clone>⟧.is_infallible a }
+    ensures ipv6 { (a : Ipv6Extensions) → ⟦<Ipv6Extensions as Clone>⟧.is_infallible a }
 {}

@@ -1,11 +1,11 @@
 -- What slices of IP of either version show.
-use Rattle.std.specs.Prelude.{ℕ, List}
+use Rattle.std.specs.Prelude.{⊤, ℕ, List}
 use Rattle.ep_base.specs.IpPayload.{IpPayload}
 use Rattle.ep_ip.specs.declared.ip_slice.IpSlice.{IpSlice}
 use Rattle.ep_ip.specs.declared.ip_slice.IpSlice.TheVariants as slice
 use Rattle.ep_ip.specs.IpPackets.{IpPart, ipv4_part, ipv6_part}
-use Rattle.ep_ip.specs.Ipv4Slices.{ipv4_slice_bytes, ipv4_slice_packet, ipv4_slice_payload}
-use Rattle.ep_ip.specs.Ipv6Slices.{ipv6_slice_bytes, ipv6_slice_packet, ipv6_slice_payload}
+use Rattle.ep_ip.specs.Ipv4Slices.{ShowSameIpv4, ipv4_slice_bytes, ipv4_slice_packet, ipv4_slice_payload}
+use Rattle.ep_ip.specs.Ipv6Slices.{FollowsIpv6Header, ShowSameIpv6, ipv6_slice_bytes, ipv6_slice_packet, ipv6_slice_payload}
 
 -- the bytes of a packet
 abbrev pub ip_slice_bytes : IpSlice → List ℕ
@@ -21,3 +21,15 @@ ip_slice_payload (slice.Ipv6 packet) = ipv6_slice_payload packet
 abbrev pub ip_slice_packet : IpSlice → List ℕ → IpPart
 ip_slice_packet (slice.Ipv4 packet) left = ipv4_part (ipv4_slice_packet packet left)
 ip_slice_packet (slice.Ipv6 packet) left = ipv6_part (ipv6_slice_packet packet left)
+
+-- of IPv6, the number of the first extension header is the one that the header says
+abbrev pub FollowsIpHeader : IpSlice → Type 0
+FollowsIpHeader (slice.Ipv4 packet) = ⊤
+FollowsIpHeader (slice.Ipv6 packet) = FollowsIpv6Header packet
+
+-- the packets are of one version and show the same
+abbrev pub ShowSameIp : IpSlice → IpSlice → Type 0
+ShowSameIp (slice.Ipv4 a) (slice.Ipv4 b) = ShowSameIpv4 a b
+ShowSameIp (slice.Ipv4 a) (slice.Ipv6 b) = ⊥
+ShowSameIp (slice.Ipv6 a) (slice.Ipv4 b) = ⊥
+ShowSameIp (slice.Ipv6 a) (slice.Ipv6 b) = ShowSameIpv6 a b

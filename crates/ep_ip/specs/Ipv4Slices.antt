@@ -1,7 +1,8 @@
 -- What slices of IPv4 show.
-use Rattle.std.specs.Prelude.{ℕ, List, ◌++◌}
+use Rattle.std.specs.Prelude.{◌≡◌, ℕ, List, ◌++◌, option_map}
 use Rattle.ep_base.specs.IpPayload.{IpPayload, ip_payload_of}
 use Rattle.ep_ext.specs.ExtensionParts.{ExtensionPart}
+use Rattle.ep_ext.specs.IpAuthSlices.{ip_auth_slice_bytes}
 use Rattle.ep_ext.specs.Ipv4Chains.{ipv4_slice_parts as extension_parts, ipv4_slice_bytes as extension_bytes}
 use Rattle.ep_ip.specs.declared.ipv4_header.Ipv4Header.{Ipv4Header}
 use Rattle.ep_ip.specs.declared.ipv4_header_slice.Ipv4HeaderSlice.{Ipv4HeaderSlice}
@@ -45,3 +46,9 @@ ipv4_slice_packet slice left = record {
   payload = ipv4_slice_payload slice;
   left = left;
 }
+
+-- the packets show the same bytes as header and as authentication header, and the same payload
+pub record ShowSameIpv4 (a b : Ipv4Slice) : Type 0 where
+  pub header : ipv4_header_slice_bytes a.header ≡ ipv4_header_slice_bytes b.header
+  pub extensions : option_map ip_auth_slice_bytes a.extensions.auth ≡ option_map ip_auth_slice_bytes b.extensions.auth
+  pub payload : ipv4_slice_payload a ≡ ipv4_slice_payload b

@@ -1,8 +1,9 @@
 -- What slices of IPv6 show.
-use Rattle.std.specs.Prelude.{ℕ, List, ◌++◌}
+use Rattle.std.specs.Prelude.{◌≡◌, ℕ, List, ◌++◌}
 use Rattle.ep_base.specs.IpPayload.{IpPayload, ip_payload_of}
 use Rattle.ep_ext.specs.ExtensionParts.{ExtensionPart}
 use Rattle.ep_ext.specs.Ipv6Slices.{ipv6_slice_parts as extension_parts, ipv6_slice_bytes as extension_bytes}
+use Rattle.ep_ext.specs.Ipv6Slices.{ipv6_slice_number as extension_number}
 use Rattle.ep_ip.specs.declared.ipv6_header.Ipv6Header.{Ipv6Header}
 use Rattle.ep_ip.specs.declared.ipv6_header_slice.Ipv6HeaderSlice.{Ipv6HeaderSlice}
 use Rattle.ep_ip.specs.declared.ipv6_slice.Ipv6Slice.{Ipv6Slice}
@@ -45,3 +46,14 @@ ipv6_slice_packet slice left = record {
   payload = ipv6_slice_payload slice;
   left = left;
 }
+
+-- the number of the first of its extension headers is the one that its header says
+abbrev pub FollowsIpv6Header : Ipv6Slice → Type 0
+FollowsIpv6Header slice = extension_number slice.extensions ≡ (ipv6_slice_header slice).next_header.0
+
+-- the packets show the same bytes as header and as extension headers, the first of one kind, and the same payload
+pub record ShowSameIpv6 (a b : Ipv6Slice) : Type 0 where
+  pub header : ipv6_header_slice_bytes a.header ≡ ipv6_header_slice_bytes b.header
+  pub first : extension_number a.extensions ≡ extension_number b.extensions
+  pub extensions : extension_bytes a.extensions ≡ extension_bytes b.extensions
+  pub payload : ipv6_slice_payload a ≡ ipv6_slice_payload b

@@ -26,7 +26,7 @@ impl<'a> IpSlice<'a> {
     ghost use Rattle.ep_base.specs.Layer.{slices};
     ghost use Rattle.ep_base.specs.IpPayload.{ip_payload_of};
     ghost use Rattle.ep_ip.specs.IpPackets.{IpPart, IsIp, RefusesIp, ip_left};
-    ghost use Rattle.ep_ip.specs.IpSlices.{ip_slice_bytes, ip_slice_packet, ip_slice_payload};
+    ghost use Rattle.ep_ip.specs.IpSlices.{FollowsIpHeader, ip_slice_bytes, ip_slice_packet, ip_slice_payload};
 
     /// The packet at the front of the slice, of the version that its first byte says. Its length field cuts it.
     pub fn from_slice(slice: &'a [u8]) -> Result<IpSlice<'a>, SliceError>
@@ -35,6 +35,7 @@ impl<'a> IpSlice<'a> {
         ensures only { (part : IpPart) → IsIp slices slice.now part
             → IsOkAnd result (λ shown. ip_slice_packet shown (ip_left part) ≡ part) }
         ensures err { IfErr result (RefusesIp slices slice.now) }
+        ensures number { IfOk result (λ shown. FollowsIpHeader shown) }
     {
         if slice.len() == 0 {
             return Err(SliceError::Len(LenError::at_start(

@@ -1,13 +1,14 @@
 //! The header of IPv4 (RFC 791, 3.1).
 
 ghost use Rattle.std.specs.Prelude.{◌≡◌, ◌+◌, ◌-◌, ◌%◌, ◌<◌, ◌≤◌, ◌++◌, List, ℕ, length};
-ghost use Rattle.std.specs.Prelude.{IfOk, IfErr, OnOk, OnErr, IsOkAnd, MatchResult};
+ghost use Rattle.std.specs.Prelude.{IfOk, IfErr, OnOk, OnErr, IsOkAnd, MatchResult, vec_len, vec_capacity};
 ghost use Rattle.ep_base.specs.declared.err.value_type.ValueType.TheVariants as value_type;
-ghost use Rattle.ep_ip.specs.Ipv4.{IsIpv4Header, RefusesIpv4Header, ipv4_bytes, ipv4_checksum, ipv4_header_len};
-ghost use Rattle.ep_ip.specs.Ipv4.{is_ipv4_fragment, default_ipv4_header, new_ipv4_header};
+ghost use Rattle.ep_ip.specs.Ipv4.{FitsIpv4, IsIpv4Header, RefusesIpv4Header, ipv4_bytes, ipv4_checksum};
+ghost use Rattle.ep_ip.specs.Ipv4.{ipv4_header_len, is_ipv4_fragment, default_ipv4_header, new_ipv4_header};
 
 use crate::ipv4_header_slice::Ipv4HeaderSlice;
 use crate::ipv4_options::Ipv4Options;
+use crate::widths::{has_8_bits, has_16_bits, holds_bytes};
 use arrayvec::ArrayVec;
 use ep_base::checksum::Sum16BitWords;
 use ep_base::err::ipv4::HeaderSliceError;
@@ -166,7 +167,8 @@ impl Ipv4Header {
     /// The header as it stands on the wire, with the checksum that it holds.
     #[inline]
     pub fn to_bytes(&self) -> ArrayVec<u8, 60>
-        ensures { result.items ≡ ipv4_bytes self.now }
+        ensures bytes { result.items ≡ ipv4_bytes self.now }
+        ensures fits { FitsIpv4 self.now }
     {
         self.bytes_with(self.header_checksum)
     }
@@ -182,20 +184,44 @@ impl Ipv4Header {
     }
 
     /// Appends the header's bytes with the checksum that they have, whatever checksum it holds. A refusal leaves the
-    /// buffer as it was.
+    /// buffer as it was, and comes only where the buffer would have to grow.
     pub fn write(&self, buf: &mut Vec<u8>) -> Result<(), AllocError>
         ensures ok { OnOk result (buf.new.items ≡ buf.old.items
             ++ ipv4_bytes (record self.now { header_checksum = ipv4_checksum self.now })) }
         ensures err { OnErr result (buf.new.items ≡ buf.old.items) }
+        ensures fits { FitsIpv4 self.now }
+        ensures full { OnErr result (vec_capacity buf.old < vec_len buf.old
+            + length (ipv4_bytes (record self.now { header_checksum = ipv4_checksum self.now }))) }
+        ensures capacity { vec_capacity buf.old ≤ vec_capacity buf.new }
     {
         let bytes = self.bytes_with(self.calc_header_checksum());
         buf.extend_from_slice(bytes.as_slice())
     }
 
+    /// Each field has the width of its type.
+    #[inline]
+    fn fits(&self)
+        ensures { FitsIpv4 self.now }
+    {
+        let _ = self.dscp.value();
+        let _ = self.ecn.value();
+        has_16_bits(self.total_len);
+        has_16_bits(self.identification);
+        let _ = self.fragment_offset.value();
+        has_8_bits(self.time_to_live);
+        has_8_bits(self.protocol.0);
+        has_16_bits(self.header_checksum);
+        holds_bytes(&self.source);
+        holds_bytes(&self.destination);
+        holds_bytes(self.options.as_slice());
+    }
+
     /// The header as it stands on the wire, with this checksum.
     fn bytes_with(&self, header_checksum: u16) -> ArrayVec<u8, 60>
-        ensures { result.items ≡ ipv4_bytes (record self.now { header_checksum = header_checksum }) }
+        ensures bytes { result.items ≡ ipv4_bytes (record self.now { header_checksum = header_checksum }) }
+        ensures fits { FitsIpv4 self.now }
     {
+        self.fits();
         let mut bytes = ArrayVec::new();
         bytes
             .try_extend_from_slice(&self.fixed_bytes(header_checksum))

@@ -1,11 +1,12 @@
 //! The header of IPv6 (RFC 8200, 3).
 
-ghost use Rattle.std.specs.Prelude.{◌≡◌, ◌<◌, ◌≤◌, ◌++◌, List, ℕ};
-ghost use Rattle.std.specs.Prelude.{IfOk, IfErr, OnOk, OnErr, IsOkAnd, MatchResult};
+ghost use Rattle.std.specs.Prelude.{◌≡◌, ◌<◌, ◌≤◌, ◌+◌, ◌++◌, List, ℕ, length};
+ghost use Rattle.std.specs.Prelude.{IfOk, IfErr, OnOk, OnErr, IsOkAnd, MatchResult, vec_len, vec_capacity};
 ghost use Rattle.ep_base.specs.declared.err.value_type.ValueType.TheVariants as value_type;
-ghost use Rattle.ep_ip.specs.Ipv6.{IsIpv6Header, RefusesIpv6Header, ipv6_bytes, default_ipv6_header};
+ghost use Rattle.ep_ip.specs.Ipv6.{FitsIpv6, IsIpv6Header, RefusesIpv6Header, ipv6_bytes, default_ipv6_header};
 
 use crate::ipv6_header_slice::Ipv6HeaderSlice;
+use crate::widths::{has_8_bits, has_16_bits, holds_bytes};
 use ep_base::err::ipv6::HeaderSliceError;
 use ep_base::err::{ValueTooBigError, ValueType};
 use ep_base::{IpNumber, Ipv6FlowLabel};
@@ -94,8 +95,10 @@ impl Ipv6Header {
     /// The header as it stands on the wire.
     #[inline]
     pub fn to_bytes(&self) -> [u8; 40]
-        ensures { result ≡ ipv6_bytes self.now }
+        ensures bytes { result ≡ ipv6_bytes self.now }
+        ensures fits { FitsIpv6 self.now }
     {
+        self.fits();
         let version_class_and_label = 0x6000_0000
             + 0x10_0000 * self.traffic_class as u32
             + self.flow_label.value();
@@ -145,10 +148,28 @@ impl Ipv6Header {
         ]
     }
 
-    /// Appends the header's bytes. A refusal leaves the buffer as it was.
+    /// Each field has the width of its type.
+    #[inline]
+    fn fits(&self)
+        ensures { FitsIpv6 self.now }
+    {
+        has_8_bits(self.traffic_class);
+        let _ = self.flow_label.value();
+        has_16_bits(self.payload_length);
+        has_8_bits(self.next_header.0);
+        has_8_bits(self.hop_limit);
+        holds_bytes(&self.source);
+        holds_bytes(&self.destination);
+    }
+
+    /// Appends the header's bytes. A refusal leaves the buffer as it was, and comes only where the buffer would have to
+    /// grow.
     pub fn write(&self, buf: &mut Vec<u8>) -> Result<(), AllocError>
         ensures ok { OnOk result (buf.new.items ≡ buf.old.items ++ ipv6_bytes self.now) }
         ensures err { OnErr result (buf.new.items ≡ buf.old.items) }
+        ensures fits { FitsIpv6 self.now }
+        ensures full { OnErr result (vec_capacity buf.old < vec_len buf.old + length (ipv6_bytes self.now)) }
+        ensures capacity { vec_capacity buf.old ≤ vec_capacity buf.new }
     {
         buf.extend_from_slice(&self.to_bytes())
     }

@@ -25,10 +25,12 @@ impl<'a> Ipv6Slice<'a> {
     ghost use Rattle.ep_base.specs.Layer.{slices};
     ghost use Rattle.ep_base.specs.IpPayload.{ip_payload_of};
     ghost use Rattle.ep_ext.specs.Ipv6Slices.{ipv6_slice_parts as extension_parts, ipv6_slice_bytes as extension_bytes};
+    ghost use Rattle.ep_ext.specs.Ipv6Slices.{ipv6_slice_number as extension_number};
     ghost use Rattle.ep_ip.specs.declared.ipv6_header.Ipv6Header.{Ipv6Header};
     ghost use Rattle.ep_ip.specs.IpPackets.{IpPacket, IsIpv6, RefusesIpv6};
     ghost use Rattle.ep_ip.specs.Ipv6Slices.{ipv6_slice_bytes, ipv6_slice_header, ipv6_slice_extensions};
     ghost use Rattle.ep_ip.specs.Ipv6Slices.{ipv6_slice_payload, ipv6_slice_content, ipv6_slice_packet};
+    ghost use Rattle.ep_ip.specs.Ipv6Slices.{FollowsIpv6Header};
 
     /// The packet at the front of the slice. Its payload length cuts it; the number 0 takes all bytes.
     pub fn from_slice(slice: &'a [u8]) -> Result<Ipv6Slice<'a>, SliceError>
@@ -37,6 +39,7 @@ impl<'a> Ipv6Slice<'a> {
         ensures only { (packet : IpPacket Ipv6Header) → IsIpv6 slices slice.now packet
             → IsOkAnd result (λ shown. ipv6_slice_packet shown packet.left ≡ packet) }
         ensures err { IfErr result (RefusesIpv6 slices slice.now) }
+        ensures number { IfOk result (λ shown. FollowsIpv6Header shown) }
     {
         let (header, content) = cut(slice)?;
         let len_source = payload_source(&header, content);

@@ -16,6 +16,8 @@ ghost use Rattle.ep_ip.specs.IpPackets.{IsIpv4, RefusesIpv4, IsIpv6, RefusesIpv6
 ghost use Rattle.ep_ip.specs.declared.ipv4_header.Ipv4Header.{Ipv4Header};
 ghost use Rattle.ep_ip.specs.declared.ipv6_header.Ipv6Header.{Ipv6Header};
 
+pub mod comparisons;
+
 use crate::{Ipv4Header, Ipv4Options, Ipv6Header};
 
 /// Bytes begin with a header, of one value and with one rest behind it, or are refused with one error, and never both.

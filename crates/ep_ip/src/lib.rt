@@ -13,6 +13,7 @@ mod ipv6_slice;
 pub mod laws;
 #[cfg(test)]
 mod tests;
+mod widths;
 
 pub use arrayvec::ArrayVec;
 pub use ep_base::err::{Layer, LenError, ValueTooBigError, ValueType, ip, ipv4, ipv6};

@@ -17,7 +17,7 @@ use Rattle.ep_link.specs.VlanSlices.{vlan_slice_bytes, vlan_slice_header, vlan_s
 use Rattle.ep_link.specs.Macsec.{macsec_bytes, macsec_header_len, EncodesMacsec, IsMacsec, RefusesMacsec}
 use Rattle.ep_link.specs.Macsec.{MacsecPayload, macsec_payload, macsec_payload_bytes, macsec_payload_type, ptype_type}
 use Rattle.ep_link.specs.EtherPayloads.{EtherPayload, macsec_ether_payload}
-use Rattle.ep_link.specs.MacsecSlices.{macsec_slice_bytes, macsec_slice_header, macsec_slice_payload}
+use Rattle.ep_link.specs.MacsecSlices.{macsec_slice_bytes, macsec_slice_header, macsec_slice_payload, ShowSameMacsec}
 
 -- an extension as plain data: its tag and its payload
 pub data LinkExtension : Type 0 where
@@ -33,6 +33,12 @@ link_extension_of (slice.Macsec packet) = macsec (macsec_slice_header packet) (m
 abbrev pub link_ext_slice_bytes : LinkExtSlice → List ℕ
 link_ext_slice_bytes (slice.Vlan tag) = vlan_slice_bytes tag
 link_ext_slice_bytes (slice.Macsec packet) = macsec_slice_bytes packet
+
+-- two slices show the same extension: the same bytes of a VLAN tag and its payload, or the same MACsec packet
+abbrev pub ShowSameExtension : LinkExtSlice → LinkExtSlice → Type 0
+ShowSameExtension (slice.Vlan a) (slice.Vlan b) = vlan_slice_bytes a ≡ vlan_slice_bytes b
+ShowSameExtension (slice.Macsec a) (slice.Macsec b) = ShowSameMacsec a b
+ShowSameExtension a b = ⊥
 
 -- ---- which bytes are an extension, and why others are none
 

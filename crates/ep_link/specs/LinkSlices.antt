@@ -1,5 +1,5 @@
 -- Which link layer a slice shows.
-use Rattle.std.specs.Prelude.{ℕ, List, Option, Some, None, option_map}
+use Rattle.std.specs.Prelude.{◌≡◌, ℕ, List, Option, Some, None, option_map}
 use Rattle.ep_base.specs.declared.ether_type.EtherType.{EtherType}
 use Rattle.ep_base.specs.declared.len_source.LenSource.{LenSource}
 use Rattle.ep_base.specs.declared.len_source.LenSource.TheVariants as source
@@ -11,10 +11,10 @@ use Rattle.ep_link.specs.declared.link.link_header.LinkHeader.TheVariants as hea
 use Rattle.ep_link.specs.declared.link.link_slice.LinkSlice.{LinkSlice}
 use Rattle.ep_link.specs.declared.link.link_slice.LinkSlice.TheVariants as slice
 use Rattle.ep_link.specs.Ethernet2.{ethernet2_bytes, ethernet2_header_len}
-use Rattle.ep_link.specs.Ethernet2Slices.{ethernet2_slice_header, ethernet2_slice_payload}
-use Rattle.ep_link.specs.EtherPayloads.{EtherPayload}
+use Rattle.ep_link.specs.Ethernet2Slices.{ethernet2_slice_bytes, ethernet2_slice_header, ethernet2_slice_payload}
+use Rattle.ep_link.specs.EtherPayloads.{EtherPayload, ether_payload_of}
 use Rattle.ep_link.specs.LinuxSll.{linux_sll_bytes, linux_sll_header_len, protocol_ether_type}
-use Rattle.ep_link.specs.LinuxSllSlices.{linux_sll_slice_header, linux_sll_slice_payload}
+use Rattle.ep_link.specs.LinuxSllSlices.{linux_sll_slice_bytes, linux_sll_slice_header, linux_sll_slice_payload, ShowSameSllPayload}
 
 -- a link layer: its header, where it has one, and its payload
 pub data LinkLayer : Type 0 where
@@ -76,3 +76,11 @@ link_layer_header_len (ethernet2 ethernet payload) = ethernet2_header_len
 link_layer_header_len (linux_sll sll payload) = linux_sll_header_len
 link_layer_header_len (ether_payload type source payload) = 0
 link_layer_header_len (linux_sll_payload protocol payload) = 0
+
+-- two slices show the same link layer: the same bytes of a link header and its payload, or the same payload of one type
+abbrev pub ShowSameLink : LinkSlice → LinkSlice → Type 0
+ShowSameLink (slice.Ethernet2 a) (slice.Ethernet2 b) = ethernet2_slice_bytes a ≡ ethernet2_slice_bytes b
+ShowSameLink (slice.LinuxSll a) (slice.LinuxSll b) = linux_sll_slice_bytes a ≡ linux_sll_slice_bytes b
+ShowSameLink (slice.EtherPayload a) (slice.EtherPayload b) = ether_payload_of a ≡ ether_payload_of b
+ShowSameLink (slice.LinuxSllPayload a) (slice.LinuxSllPayload b) = ShowSameSllPayload a b
+ShowSameLink a b = ⊥

@@ -1,5 +1,5 @@
 -- What slices of MACsec show.
-use Rattle.std.specs.Prelude.{ℕ, List, ◌++◌}
+use Rattle.std.specs.Prelude.{◌≡◌, ℕ, List, ◌++◌}
 use Rattle.ep_base.specs.Tables.{Parts, parts_of}
 use Rattle.ep_link.specs.declared.link_ext.macsec_header.MacsecHeader.{MacsecHeader}
 use Rattle.ep_link.specs.declared.link_ext.macsec_header_slice.MacsecHeaderSlice.{MacsecHeaderSlice}
@@ -37,3 +37,9 @@ macsec_slice_bytes slice = macsec_header_slice_bytes slice.header ++ macsec_payl
 abbrev pub macsec_slice_parts : MacsecSlice → List ℕ → Parts MacsecHeader
 macsec_slice_parts slice left =
     parts_of (macsec_slice_header slice) (macsec_payload_bytes (macsec_slice_payload slice)) left
+
+-- two slices show the same bytes of a tag, reserved bits among them, and the same payload
+abbrev pub ShowSameMacsec : MacsecSlice → MacsecSlice → Type 0
+ShowSameMacsec a b =
+    (macsec_header_slice_bytes a.header ≡ macsec_header_slice_bytes b.header)
+    × (macsec_slice_payload a ≡ macsec_slice_payload b)

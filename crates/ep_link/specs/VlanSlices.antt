@@ -1,5 +1,5 @@
 -- What slices of VLAN tags show.
-use Rattle.std.specs.Prelude.{ℕ, List, drop}
+use Rattle.std.specs.Prelude.{◌≡◌, ℕ, List, drop}
 use Rattle.ep_base.specs.Tables.{Parts}
 use Rattle.ep_link.specs.declared.link_ext.single_vlan_header.SingleVlanHeader.{SingleVlanHeader}
 use Rattle.ep_link.specs.declared.link_ext.double_vlan_header.DoubleVlanHeader.{DoubleVlanHeader}
@@ -44,3 +44,14 @@ vlan_tags_of (slice.DoubleVlan pair) = tags.Double (double_vlan_slice_header pai
 abbrev pub innermost_tag : VlanSlice → SingleVlanSlice
 innermost_tag (slice.SingleVlan tag) = tag
 innermost_tag (slice.DoubleVlan pair) = pair.inner
+
+-- two slices show the same two tags, each with what follows it
+abbrev pub ShowSameDoubleVlan : DoubleVlanSlice → DoubleVlanSlice → Type 0
+ShowSameDoubleVlan a b =
+    (vlan_slice_bytes a.outer ≡ vlan_slice_bytes b.outer) × (vlan_slice_bytes a.inner ≡ vlan_slice_bytes b.inner)
+
+-- two slices show as many tags, and the same
+abbrev pub ShowSameVlan : VlanSlice → VlanSlice → Type 0
+ShowSameVlan (slice.SingleVlan a) (slice.SingleVlan b) = vlan_slice_bytes a ≡ vlan_slice_bytes b
+ShowSameVlan (slice.DoubleVlan a) (slice.DoubleVlan b) = ShowSameDoubleVlan a b
+ShowSameVlan a b = ⊥

@@ -1,8 +1,9 @@
 //! What holds of every list of bytes, each law the contract of a function that does nothing.
 
-ghost use Rattle.std.specs.Prelude.{◌≡◌, ◌+◌, ◌++◌, ◌⊎◌, false, ℕ, List, [], length};
+ghost use Rattle.std.specs.Prelude.{◌≡◌, ◌↔◌, ◌+◌, ◌++◌, ◌⊎◌, IsTrue, false, ℕ, List, [], length};
 ghost use Rattle.std.specs.Ordering.{nat_cmp};
 ghost use Rattle.ep_base.specs.Bytes.{AreBytes};
+ghost use Rattle.ep_base.specs.Comparisons.{TellsSame, ClonesExactly};
 ghost use Rattle.ep_base.specs.Tables.{IsDecided};
 ghost use Rattle.ep_base.specs.declared.ether_type.EtherType.{EtherType};
 ghost use Rattle.ep_base.specs.declared.err.macsec.HeaderSliceError.{HeaderSliceError};
@@ -15,10 +16,33 @@ ghost use Rattle.ep_link.specs.LinkExtensions.{link_ext_header_len, link_extensi
 ghost use Rattle.ep_link.specs.Macsec.{IsMacsecHeader, RefusesMacsecHeader, IsMacsec, RefusesMacsec};
 ghost use Rattle.ep_link.specs.declared.link_ext.link_ext_header.LinkExtHeader.TheVariants as header;
 ghost use Rattle.ep_link.specs.Vlan.{IsVlan, RefusesVlan, IsDoubleVlan, RefusesDoubleVlan};
+ghost use Rattle.ep_link.specs.declared.arp.arp_packet_slice.ArpPacketSlice.{ArpPacketSlice};
+ghost use Rattle.ep_link.specs.declared.link.ethernet2_slice.Ethernet2Slice.{Ethernet2Slice};
+ghost use Rattle.ep_link.specs.declared.link.linux_sll_slice.LinuxSllSlice.{LinuxSllSlice};
+ghost use Rattle.ep_link.specs.declared.link.linux_sll_payload_slice.LinuxSllPayloadSlice.{LinuxSllPayloadSlice};
+ghost use Rattle.ep_link.specs.declared.link.link_slice.LinkSlice.{LinkSlice};
+ghost use Rattle.ep_link.specs.declared.link_ext.single_vlan_slice.SingleVlanSlice.{SingleVlanSlice};
+ghost use Rattle.ep_link.specs.declared.link_ext.double_vlan_slice.DoubleVlanSlice.{DoubleVlanSlice};
+ghost use Rattle.ep_link.specs.declared.link_ext.vlan_slice.VlanSlice.{VlanSlice};
+ghost use Rattle.ep_link.specs.declared.link_ext.macsec_header_slice.MacsecHeaderSlice.{MacsecHeaderSlice};
+ghost use Rattle.ep_link.specs.declared.link_ext.macsec_payload_slice.MacsecPayloadSlice.{MacsecPayloadSlice};
+ghost use Rattle.ep_link.specs.declared.link_ext.macsec_slice.MacsecSlice.{MacsecSlice};
+ghost use Rattle.ep_link.specs.declared.link_ext.link_ext_slice.LinkExtSlice.{LinkExtSlice};
+ghost use Rattle.ep_link.specs.ArpSlices.{arp_of, arp_slice_bytes};
+ghost use Rattle.ep_link.specs.Ethernet2Slices.{ethernet2_slice_bytes};
+ghost use Rattle.ep_link.specs.LinuxSllSlices.{ShowSameSllPayload, linux_sll_slice_bytes};
+ghost use Rattle.ep_link.specs.LinkSlices.{ShowSameLink};
+ghost use Rattle.ep_link.specs.LinkExtensions.{ShowSameExtension};
+ghost use Rattle.ep_link.specs.MacsecSlices.{ShowSameMacsec, macsec_header_slice_bytes, macsec_payload_of};
+ghost use Rattle.ep_link.specs.VlanSlices.{ShowSameDoubleVlan, ShowSameVlan, vlan_slice_bytes};
 
+use crate::err::arp::{ArpHwAddrError, ArpNewError, ArpProtoAddrError};
 use crate::{
-    ArpHardwareId, ArpOperation, ArpPacket, DoubleVlanHeader, Ethernet2Header, LinkExtHeader,
-    LinkExtSlice, LinuxSllHeader, LinuxSllPacketType, MacsecHeader, SingleVlanHeader,
+    ArpHardwareId, ArpOperation, ArpPacket, ArpPacketSlice, DoubleVlanHeader, DoubleVlanSlice,
+    Ethernet2Header, Ethernet2Slice, LinkExtHeader, LinkExtSlice, LinkHeader, LinkSlice,
+    LinuxSllHeader, LinuxSllPacketType, LinuxSllPayloadSlice, LinuxSllProtocolType, LinuxSllSlice,
+    MacsecHeader, MacsecHeaderSlice, MacsecPType, MacsecPayloadSlice, MacsecSlice,
+    SingleVlanHeader, SingleVlanSlice, VlanHeader, VlanSlice,
 };
 
 /// Bytes are an Ethernet II frame, of one header and payload, or are refused with one error, and never both.
@@ -107,6 +131,108 @@ pub fn constants()
 pub fn comparisons()
     ensures hardware_types { (a b : ArpHardwareId) → ⟦<ArpHardwareId as Ord>⟧.cmp a b ≡ nat_cmp a.0 b.0 }
     ensures operations { (a b : ArpOperation) → ⟦<ArpOperation as Ord>⟧.cmp a b ≡ nat_cmp a.0 b.0 }
+{}
+
+/// Headers and errors are equal where each of their parts is, ARP packets by the bytes of their addresses. Slices are
+/// equal where they show the same: the same bytes, reserved bits among them, or the same payload of the same type.
+pub fn equalities()
+    ensures hardware_types { TellsSame ⟦<ArpHardwareId as PartialEq>⟧.eq }
+    ensures operations { TellsSame ⟦<ArpOperation as PartialEq>⟧.eq }
+    ensures arp_hw_addr_error { TellsSame ⟦<ArpHwAddrError as PartialEq>⟧.eq }
+    ensures arp_proto_addr_error { TellsSame ⟦<ArpProtoAddrError as PartialEq>⟧.eq }
+    ensures arp_new_error { TellsSame ⟦<ArpNewError as PartialEq>⟧.eq }
+    ensures ethernet2_header { TellsSame ⟦<Ethernet2Header as PartialEq>⟧.eq }
+    ensures packet_types { TellsSame ⟦<LinuxSllPacketType as PartialEq>⟧.eq }
+    ensures protocol_types { TellsSame ⟦<LinuxSllProtocolType as PartialEq>⟧.eq }
+    ensures linux_sll_header { TellsSame ⟦<LinuxSllHeader as PartialEq>⟧.eq }
+    ensures link_header { TellsSame ⟦<LinkHeader as PartialEq>⟧.eq }
+    ensures vlan_header { TellsSame ⟦<SingleVlanHeader as PartialEq>⟧.eq }
+    ensures double_vlan_header { TellsSame ⟦<DoubleVlanHeader as PartialEq>⟧.eq }
+    ensures vlan_tags { TellsSame ⟦<VlanHeader as PartialEq>⟧.eq }
+    ensures macsec_ptype { TellsSame ⟦<MacsecPType as PartialEq>⟧.eq }
+    ensures macsec_header { TellsSame ⟦<MacsecHeader as PartialEq>⟧.eq }
+    ensures link_ext_header { TellsSame ⟦<LinkExtHeader as PartialEq>⟧.eq }
+    ensures arp { (a b : ArpPacket) → IsTrue (⟦<ArpPacket as PartialEq>⟧.eq a b) ↔ (arp_of a ≡ arp_of b) }
+    ensures arp_slice { (a b : ArpPacketSlice) → IsTrue (⟦<ArpPacketSlice<'static> as PartialEq>⟧.eq a b)
+        ↔ (arp_slice_bytes a ≡ arp_slice_bytes b) }
+    ensures ethernet2_slice { (a b : Ethernet2Slice) → IsTrue (⟦<Ethernet2Slice<'static> as PartialEq>⟧.eq a b)
+        ↔ (ethernet2_slice_bytes a ≡ ethernet2_slice_bytes b) }
+    ensures linux_sll_slice { (a b : LinuxSllSlice) → IsTrue (⟦<LinuxSllSlice<'static> as PartialEq>⟧.eq a b)
+        ↔ (linux_sll_slice_bytes a ≡ linux_sll_slice_bytes b) }
+    ensures linux_sll_payload { (a b : LinuxSllPayloadSlice) →
+        IsTrue (⟦<LinuxSllPayloadSlice<'static> as PartialEq>⟧.eq a b) ↔ ShowSameSllPayload a b }
+    ensures link_slice { (a b : LinkSlice) → IsTrue (⟦<LinkSlice<'static> as PartialEq>⟧.eq a b) ↔ ShowSameLink a b }
+    ensures vlan_slice { (a b : SingleVlanSlice) → IsTrue (⟦<SingleVlanSlice<'static> as PartialEq>⟧.eq a b)
+        ↔ (vlan_slice_bytes a ≡ vlan_slice_bytes b) }
+    ensures double_vlan_slice { (a b : DoubleVlanSlice) → IsTrue (⟦<DoubleVlanSlice<'static> as PartialEq>⟧.eq a b)
+        ↔ ShowSameDoubleVlan a b }
+    ensures vlan_tags_slice { (a b : VlanSlice) → IsTrue (⟦<VlanSlice<'static> as PartialEq>⟧.eq a b)
+        ↔ ShowSameVlan a b }
+    ensures macsec_header_slice { (a b : MacsecHeaderSlice) → IsTrue (⟦<MacsecHeaderSlice<'static> as PartialEq>⟧.eq a b)
+        ↔ (macsec_header_slice_bytes a ≡ macsec_header_slice_bytes b) }
+    ensures macsec_payload { (a b : MacsecPayloadSlice) → IsTrue (⟦<MacsecPayloadSlice<'static> as PartialEq>⟧.eq a b)
+        ↔ (macsec_payload_of a ≡ macsec_payload_of b) }
+    ensures macsec_slice { (a b : MacsecSlice) → IsTrue (⟦<MacsecSlice<'static> as PartialEq>⟧.eq a b)
+        ↔ ShowSameMacsec a b }
+    ensures link_ext_slice { (a b : LinkExtSlice) → IsTrue (⟦<LinkExtSlice<'static> as PartialEq>⟧.eq a b)
+        ↔ ShowSameExtension a b }
+{
+    ep_base::laws::equalities();
+}
+
+/// A clone is there whatever memory there is, and is the same as its source.
+pub fn clones()
+    ensures hardware_types { ClonesExactly
+        ⟦<ArpHardwareId as Clone>⟧.is_infallible ⟦<ArpHardwareId as Clone>⟧.is_clone }
+    ensures operations { ClonesExactly ⟦<ArpOperation as Clone>⟧.is_infallible ⟦<ArpOperation as Clone>⟧.is_clone }
+    ensures arp_hw_addr_error { ClonesExactly
+        ⟦<ArpHwAddrError as Clone>⟧.is_infallible ⟦<ArpHwAddrError as Clone>⟧.is_clone }
+    ensures arp_proto_addr_error { ClonesExactly
+        ⟦<ArpProtoAddrError as Clone>⟧.is_infallible ⟦<ArpProtoAddrError as Clone>⟧.is_clone }
+    ensures arp_new_error { ClonesExactly ⟦<ArpNewError as Clone>⟧.is_infallible ⟦<ArpNewError as Clone>⟧.is_clone }
+    ensures ethernet2_header { ClonesExactly
+        ⟦<Ethernet2Header as Clone>⟧.is_infallible ⟦<Ethernet2Header as Clone>⟧.is_clone }
+    ensures packet_types { ClonesExactly
+        ⟦<LinuxSllPacketType as Clone>⟧.is_infallible ⟦<LinuxSllPacketType as Clone>⟧.is_clone }
+    ensures protocol_types { ClonesExactly
+        ⟦<LinuxSllProtocolType as Clone>⟧.is_infallible ⟦<LinuxSllProtocolType as Clone>⟧.is_clone }
+    ensures linux_sll_header { ClonesExactly
+        ⟦<LinuxSllHeader as Clone>⟧.is_infallible ⟦<LinuxSllHeader as Clone>⟧.is_clone }
+    ensures link_header { ClonesExactly ⟦<LinkHeader as Clone>⟧.is_infallible ⟦<LinkHeader as Clone>⟧.is_clone }
+    ensures vlan_header { ClonesExactly
+        ⟦<SingleVlanHeader as Clone>⟧.is_infallible ⟦<SingleVlanHeader as Clone>⟧.is_clone }
+    ensures double_vlan_header { ClonesExactly
+        ⟦<DoubleVlanHeader as Clone>⟧.is_infallible ⟦<DoubleVlanHeader as Clone>⟧.is_clone }
+    ensures vlan_tags { ClonesExactly ⟦<VlanHeader as Clone>⟧.is_infallible ⟦<VlanHeader as Clone>⟧.is_clone }
+    ensures macsec_ptype { ClonesExactly ⟦<MacsecPType as Clone>⟧.is_infallible ⟦<MacsecPType as Clone>⟧.is_clone }
+    ensures macsec_header { ClonesExactly ⟦<MacsecHeader as Clone>⟧.is_infallible ⟦<MacsecHeader as Clone>⟧.is_clone }
+    ensures link_ext_header { ClonesExactly
+        ⟦<LinkExtHeader as Clone>⟧.is_infallible ⟦<LinkExtHeader as Clone>⟧.is_clone }
+    ensures arp { ClonesExactly ⟦<ArpPacket as Clone>⟧.is_infallible ⟦<ArpPacket as Clone>⟧.is_clone }
+    ensures arp_slice { ClonesExactly
+        ⟦<ArpPacketSlice<'static> as Clone>⟧.is_infallible ⟦<ArpPacketSlice<'static> as Clone>⟧.is_clone }
+    ensures ethernet2_slice { ClonesExactly
+        ⟦<Ethernet2Slice<'static> as Clone>⟧.is_infallible ⟦<Ethernet2Slice<'static> as Clone>⟧.is_clone }
+    ensures linux_sll_slice { ClonesExactly
+        ⟦<LinuxSllSlice<'static> as Clone>⟧.is_infallible ⟦<LinuxSllSlice<'static> as Clone>⟧.is_clone }
+    ensures linux_sll_payload { ClonesExactly
+        ⟦<LinuxSllPayloadSlice<'static> as Clone>⟧.is_infallible ⟦<LinuxSllPayloadSlice<'static> as Clone>⟧.is_clone }
+    ensures link_slice { ClonesExactly
+        ⟦<LinkSlice<'static> as Clone>⟧.is_infallible ⟦<LinkSlice<'static> as Clone>⟧.is_clone }
+    ensures vlan_slice { ClonesExactly
+        ⟦<SingleVlanSlice<'static> as Clone>⟧.is_infallible ⟦<SingleVlanSlice<'static> as Clone>⟧.is_clone }
+    ensures double_vlan_slice { ClonesExactly
+        ⟦<DoubleVlanSlice<'static> as Clone>⟧.is_infallible ⟦<DoubleVlanSlice<'static> as Clone>⟧.is_clone }
+    ensures vlan_tags_slice { ClonesExactly
+        ⟦<VlanSlice<'static> as Clone>⟧.is_infallible ⟦<VlanSlice<'static> as Clone>⟧.is_clone }
+    ensures macsec_header_slice { ClonesExactly
+        ⟦<MacsecHeaderSlice<'static> as Clone>⟧.is_infallible ⟦<MacsecHeaderSlice<'static> as Clone>⟧.is_clone }
+    ensures macsec_payload { ClonesExactly
+        ⟦<MacsecPayloadSlice<'static> as Clone>⟧.is_infallible ⟦<MacsecPayloadSlice<'static> as Clone>⟧.is_clone }
+    ensures macsec_slice { ClonesExactly
+        ⟦<MacsecSlice<'static> as Clone>⟧.is_infallible ⟦<MacsecSlice<'static> as Clone>⟧.is_clone }
+    ensures link_ext_slice { ClonesExactly
+        ⟦<LinkExtSlice<'static> as Clone>⟧.is_infallible ⟦<LinkExtSlice<'static> as Clone>⟧.is_clone }
 {}
 
 /// The default of a link extension and of its slice: a VLAN tag of four bytes 0, and no payload.

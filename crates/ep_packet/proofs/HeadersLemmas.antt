@@ -32,6 +32,7 @@ use Rattle.ep_packet.specs.NetHeaders.{net_headers_of}
 use Rattle.ep_packet.specs.PacketHeaders.{Headers, arp_packet, net_header_in, net_header_of, transport_header_in}
 use Rattle.ep_packet.specs.PayloadParts.{PayloadPart, empty, ether, ip, innermost_part, net_payload_part}
 use Rattle.ep_packet.specs.Refusals.{RefusesNetLayer, RefusesNetPart, RefusesTransportBehind, RefusesTransportIn, ip_content_refusal, net_header_len}
+use Rattle.ep_packet.proofs.WalkLemmas.{ends_at}
 use Rattle.ep_packet.specs.HeadersWalk.{FillsInside, FillsNet, FillsTransport, LacksNet, content_end, open_behind, with_net}
 
 -- ---- IP packets
@@ -271,15 +272,6 @@ fills_kind found kind bytes unread other old new same fills = record {
 }
 
 -- ---- link extensions
-
--- the extensions end where no more are taken, or at a type that begins none
-ends_at : (reading : Reading) (room : ℕ) (type : EtherType) (bytes : List ℕ)
-    → ((room ≡ 0) ⊎ (¬ BeginsLinkExtension type)) → (net : Option NetLayer) (transport : Option TransportLayer)
-    → IsNetPart reading (net_kind type) bytes net transport
-    → IsInside reading room (Some type) bytes [] net transport
-ends_at reading zero type bytes why net transport part = part
-ends_at reading (suc room) type bytes (inl full) net transport part = absurd (omega (arith, full))
-ends_at reading (suc room) type bytes (inr none) net transport part = (none, part)
 
 pub fills_no_more : (room : ℕ) (payload : EtherPayload) (old new : Headers)
     → ((room ≡ 0) ⊎ (¬ BeginsLinkExtension payload.ether_type))

@@ -3,7 +3,7 @@ use Rattle.std.proofs.Common.{◌≡◌, ◌⊎◌, ℕ, zero, suc, ◌+◌, ◌
 use Rattle.std.specs.Option.{option_map}
 use Rattle.std.specs.Prelude.{IfSome, IfNone}
 use Rattle.std.proofs.lemmas.List.{append-nil}
-use Rattle.ep_base.specs.Layer.{slices}
+use Rattle.ep_base.specs.Layer.{Reading, slices}
 use Rattle.ep_base.specs.declared.ether_type.EtherType.{EtherType}
 use Rattle.ep_link.specs.declared.link_ext.link_ext_slice.LinkExtSlice.{LinkExtSlice}
 use Rattle.ep_link.specs.LinkExtensions.{LinkExtension, BeginsLinkExtension, IsLinkExtension, extension_header, extension_payload, extension_type, link_ext_header_len, link_ext_slice_bytes, link_extension_of}
@@ -40,12 +40,13 @@ appends_nothing room type bytes old is = record {
 }
 
 -- the extensions end where no more are taken, or at a type that begins none
-ends_here : (room : ℕ) (type : EtherType) (bytes : List ℕ) → ((room ≡ 0) ⊎ (¬ BeginsLinkExtension type))
-    → (net : Option NetLayer) (transport : Option TransportLayer) → IsNetPart slices (net_kind type) bytes net transport
-    → IsInside slices room (Some type) bytes [] net transport
-ends_here zero type bytes why net transport part = part
-ends_here (suc room) type bytes (inl full) net transport part = absurd (omega (arith, full))
-ends_here (suc room) type bytes (inr none) net transport part = (none, part)
+pub ends_at : (reading : Reading) (room : ℕ) (type : EtherType) (bytes : List ℕ)
+    → ((room ≡ 0) ⊎ (¬ BeginsLinkExtension type)) → (net : Option NetLayer) (transport : Option TransportLayer)
+    → IsNetPart reading (net_kind type) bytes net transport
+    → IsInside reading room (Some type) bytes [] net transport
+ends_at reading zero type bytes why net transport part = part
+ends_at reading (suc room) type bytes (inl full) net transport part = absurd (omega (arith, full))
+ends_at reading (suc room) type bytes (inr none) net transport part = (none, part)
 
 -- then nothing is appended to those before them
 pub appends_no_more : (room : ℕ) (type : Option EtherType) (known : EtherType) (bytes : List ℕ) (old : List LinkExtSlice)
@@ -57,7 +58,7 @@ appends_no_more room type known bytes old is why net transport holds = record {
   appended = sym (append-nil old);
   inside = subst
       (λ (t : Option EtherType). IsInside slices room t bytes [] (option_map net_layer_of net) (option_map transport_layer_of transport))
-      (sym is) (ends_here room known bytes why _ _ holds.part);
+      (sym is) (ends_at slices room known bytes why _ _ holds.part);
   shows = holds.shows;
 }
 

@@ -96,10 +96,14 @@ abbrev pub headers_fragment : IpHeaders → Bool
 headers_fragment (variant.Ipv4 header extensions) = is_ipv4_fragment header
 headers_fragment (variant.Ipv6 header extensions) = chain_fragments (ipv6_parts extensions)
 
--- each field fits its place
+-- each field of the header fits its place
+abbrev pub FitsIpHeader : IpHeaders → Type 0
+FitsIpHeader (variant.Ipv4 header extensions) = FitsIpv4 header
+FitsIpHeader (variant.Ipv6 header extensions) = FitsIpv6 header
+
+-- the same of all headers
 abbrev pub FitIpHeaders : IpHeaders → Type 0
-FitIpHeaders (variant.Ipv4 header extensions) = FitsIpv4 header × FitParts (ipv4_parts extensions)
-FitIpHeaders (variant.Ipv6 header extensions) = FitsIpv6 header × FitParts (ipv6_parts extensions)
+FitIpHeaders headers = FitsIpHeader headers × FitParts (ip_headers_parts headers)
 
 -- ---- lengths
 

@@ -14,3 +14,4 @@ pub mod PayloadParts
 pub mod PacketHeaders
 pub mod HeadersWalk
 pub mod TwoParsers
+pub mod Comparisons

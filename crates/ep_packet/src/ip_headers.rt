@@ -31,7 +31,7 @@ impl IpHeaders {
     ghost use Rattle.ep_ext.specs.ExtensionParts.{ExtensionPart};
     ghost use Rattle.ep_packet.specs.IpHeaders.{ipv4_headers_in, ipv6_headers_in, ip_headers_len, ip_headers_type};
     ghost use Rattle.ep_packet.specs.IpHeaders.{headers_fragment, linked_headers, with_payload_len, payload_len_rows};
-    ghost use Rattle.ep_packet.specs.IpHeaders.{ip_extensions_len, most_behind_header, ip_header_bytes};
+    ghost use Rattle.ep_packet.specs.IpHeaders.{FitsIpHeader, ip_extensions_len, most_behind_header, ip_header_bytes};
     ghost use Rattle.ep_packet.specs.IpHeaders.{with_checksum, written_headers, LeadThrough, RefusesLeading};
 
     /// The number of bytes of the longest headers, which are of IPv6.
@@ -159,11 +159,12 @@ impl IpHeaders {
 
     /// Appends the headers' bytes: the header, with its checksum as it is computed, and the extension headers in the
     /// order in which the numbers lead to them. That the numbers lead to each is looked at first. A refusal leaves the
-    /// buffer as it was.
+    /// buffer as it was. Each field of what is written fits its place.
     pub fn write(&self, buf: &mut Vec<u8>) -> Result<(), HeadersWriteError>
         ensures ok { OnOk result ((parts : List ExtensionPart) × (last : ℕ) × LeadThrough self.now parts last
             × FitParts parts × (buf.new.items ≡ buf.old.items ++ written_headers self.now parts)) }
         ensures err { OnErr result (buf.new.items ≡ buf.old.items) }
+        ensures fits { OnOk result (FitsIpHeader self.now) }
         ensures leading { (error : ExtsWalkError)
             → RefusesLeading self.now error ↔ (result ≡ Err (of_walk_error error)) }
     {
@@ -187,6 +188,7 @@ impl IpHeaders {
     fn write_header(&self, buf: &mut Vec<u8>) -> Result<(), AllocError>
         ensures ok { OnOk result (buf.new.items ≡ buf.old.items ++ ip_header_bytes (with_checksum self.now)) }
         ensures err { OnErr result (buf.new.items ≡ buf.old.items) }
+        ensures fits { FitsIpHeader self.now }
     {
         match self {
             IpHeaders::Ipv4(header, _) => header.write(buf),

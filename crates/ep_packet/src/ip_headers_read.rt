@@ -1,12 +1,11 @@
 //! How IP headers are read from a slice.
 
-ghost use Rattle.std.specs.Prelude.{◌≡◌, ◌+◌, ◌<◌, ◌≤◌, ◌^◌, IfOk, IfErr, List, ℕ, length};
+ghost use Rattle.std.specs.Prelude.{◌≡◌, ◌+◌, ◌≤◌, IfOk, IfErr, List, ℕ, length};
 ghost use Rattle.ep_base.specs.Layer.{headers};
 ghost use Rattle.ep_base.specs.Tables.{parts_of, RefusesAs};
 ghost use Rattle.ep_base.specs.declared.err.ip.HeaderError.TheVariants as content;
 ghost use Rattle.ep_base.specs.declared.err.ip.HeadersError.TheVariants as headers_error;
 ghost use Rattle.ep_base.specs.declared.err.ip.HeadersSliceError.TheVariants as headers_slice_error;
-ghost use Rattle.ep_ip.specs.Ip.{behind_header};
 ghost use Rattle.ep_ip.specs.declared.ipv4_header.Ipv4Header.{Ipv4Header};
 ghost use Rattle.ep_ip.specs.declared.ipv6_header.Ipv6Header.{Ipv6Header};
 ghost use Rattle.ep_ip.specs.IpPackets.{IpPacket, IpPart, IsIp, IsIpv4, IsIpv6, RefusesIp, RefusesIpv4, RefusesIpv6};
@@ -16,6 +15,7 @@ ghost use Rattle.ep_ext.specs.Ipv4Chains.{ipv4_parts, ipv4_slice_parts};
 ghost use Rattle.ep_packet.specs.IpHeaders.{AreOfPart, of_slice_error};
 
 use crate::ip_headers::IpHeaders;
+use crate::limits::refusal_in;
 use ep_base::err::ip::{HeaderError, HeadersError, HeadersSliceError};
 use ep_base::err::{Layer, LenError, ipv4, ipv6, ipv6_exts};
 use ep_base::{IpNumber, IpPayloadSlice, LenSource};
@@ -179,7 +179,7 @@ fn read_ipv6(slice: &[u8]) -> Result<(IpHeaders, IpPayloadSlice<'_>), ipv6::Slic
             Ok((IpHeaders::Ipv6(header, extensions), payload))
         }
         Err(ipv6_exts::HeaderSliceError::Len(error)) => {
-            Err(ipv6::SliceError::Len(behind_header(error, len_source)))
+            Err(ipv6::SliceError::Len(refusal_in(error, Ipv6Header::LEN, len_source)))
         }
         Err(ipv6_exts::HeaderSliceError::Content(error)) => Err(ipv6::SliceError::Exts(error)),
     }
@@ -222,22 +222,6 @@ fn payload_source(header: &Ipv6Header, content: &[u8]) -> LenSource
         LenSource::Slice
     } else {
         LenSource::Ipv6HeaderPayloadLen
-    }
-}
-
-/// The refusal of an extension header behind the header of IPv6, where this set the end of what follows the header.
-fn behind_header(error: LenError, outer: LenSource) -> LenError
-    requires { error.layer_start_offset + 40 < 2 ^ 64 }
-    ensures { result ≡ behind_header 40 outer error }
-{
-    let len_source = if error.len_source == LenSource::Slice {
-        outer
-    } else {
-        error.len_source
-    };
-    LenError {
-        len_source,
-        ..error.add_offset(Ipv6Header::LEN)
     }
 }
 

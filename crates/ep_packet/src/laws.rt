@@ -1,6 +1,6 @@
-//! What holds of every list of bytes, each law the contract of a function that does nothing.
+//! What holds of every list of bytes, and how values compare: each law the contract of a function that does nothing.
 
-ghost use Rattle.std.specs.Prelude.{◌≡◌, ℕ, List};
+ghost use Rattle.std.specs.Prelude.{◌≡◌, ◌↔◌, ℕ, List, IsTrue};
 ghost use Rattle.ep_base.specs.Bytes.{AreBytes};
 ghost use Rattle.ep_base.specs.Layer.{Reading};
 ghost use Rattle.ep_base.specs.Tables.{IsDecided};
@@ -8,11 +8,19 @@ ghost use Rattle.ep_packet.specs.Layers.{Entry, Layers};
 ghost use Rattle.ep_packet.specs.Frame.{IsFrame, IsFrameIn, most_link_exts};
 ghost use Rattle.ep_packet.specs.FrameBytes.{AreInOrder};
 ghost use Rattle.ep_packet.specs.Refusals.{RefusesFrame, RefusesFrameIn};
+ghost use Rattle.ep_packet.specs.PayloadParts.{payload_part_of};
+ghost use Rattle.ep_packet.specs.Comparisons.{payload_cmp, same_ip_headers, same_net_headers, same_net_slices};
+ghost use Rattle.ep_packet.specs.Comparisons.{same_packet_headers, same_sliced_packets};
 
 pub mod ip_headers;
 pub mod parsers;
 
-use crate::sliced_packet::SlicedPacket;
+use crate::err::{HeadersWriteError, NetSetNextHeaderError, SliceError};
+use crate::{
+    ArpPacket, ArpPacketSlice, IpHeaders, Ipv4Extensions, Ipv4Header, Ipv4Slice, Ipv6Extensions,
+    Ipv6Header, Ipv6Slice, LinkExtHeader, LinkExtSlice, LinkHeader, LinkSlice, NetHeaders,
+    NetSlice, PacketHeaders, PayloadSlice, SlicedPacket, TransportHeader, TransportSlice,
+};
 
 /// Bytes are a frame, of one list of layers, or are refused with one error, and never both, in each reading. It follows
 /// from the laws of the layers alone, which the body names.
@@ -57,4 +65,47 @@ pub fn frame_bytes()
 pub fn constants()
     ensures value { SlicedPacket.LINK_EXTS_CAP ≡ 3 }
     ensures cap { SlicedPacket.LINK_EXTS_CAP ≡ most_link_exts }
+{}
+
+/// Errors are equal where they are the same, and payloads where they are of one kind and show the same. Headers, slices
+/// and packets are equal where each of their parts is, by the equality of the part. The order of payloads goes by their
+/// kinds as declared, and within a kind by what they are made of.
+pub fn comparisons()
+    ensures slice_errors { (a b : SliceError) → IsTrue (⟦<SliceError as PartialEq>⟧.eq a b) ↔ (a ≡ b) }
+    ensures write_errors { (a b : HeadersWriteError) →
+        IsTrue (⟦<HeadersWriteError as PartialEq>⟧.eq a b) ↔ (a ≡ b) }
+    ensures net_errors { (a b : NetSetNextHeaderError) →
+        IsTrue (⟦<NetSetNextHeaderError as PartialEq>⟧.eq a b) ↔ (a ≡ b) }
+    ensures payloads { (a b : PayloadSlice) →
+        IsTrue (⟦<PayloadSlice<'static> as PartialEq>⟧.eq a b) ↔ (payload_part_of a ≡ payload_part_of b) }
+    ensures payload_order { (a b : PayloadSlice) → ⟦<PayloadSlice<'static> as Ord>⟧.cmp a b ≡ payload_cmp a b }
+    ensures ip_headers { (a b : IpHeaders) → ⟦<IpHeaders as PartialEq>⟧.eq a b ≡ same_ip_headers
+        ⟦<Ipv4Header as PartialEq>⟧.eq ⟦<Ipv4Extensions as PartialEq>⟧.eq
+        ⟦<Ipv6Header as PartialEq>⟧.eq ⟦<Ipv6Extensions as PartialEq>⟧.eq a b }
+    ensures net_headers { (a b : NetHeaders) → ⟦<NetHeaders as PartialEq>⟧.eq a b ≡ same_net_headers
+        ⟦<IpHeaders as PartialEq>⟧.eq ⟦<ArpPacket as PartialEq>⟧.eq a b }
+    ensures net_slices { (a b : NetSlice) → ⟦<NetSlice<'static> as PartialEq>⟧.eq a b ≡ same_net_slices
+        ⟦<Ipv4Slice<'static> as PartialEq>⟧.eq ⟦<Ipv6Slice<'static> as PartialEq>⟧.eq
+        ⟦<ArpPacketSlice<'static> as PartialEq>⟧.eq a b }
+    ensures sliced_packets { (a b : SlicedPacket) →
+        ⟦<SlicedPacket<'static> as PartialEq>⟧.eq a b ≡ same_sliced_packets
+        ⟦<LinkSlice<'static> as PartialEq>⟧.eq ⟦<LinkExtSlice<'static> as PartialEq>⟧.eq
+        ⟦<NetSlice<'static> as PartialEq>⟧.eq ⟦<TransportSlice<'static> as PartialEq>⟧.eq a b }
+    ensures packet_headers { (a b : PacketHeaders) →
+        ⟦<PacketHeaders<'static> as PartialEq>⟧.eq a b ≡ same_packet_headers
+        ⟦<LinkHeader as PartialEq>⟧.eq ⟦<LinkExtHeader as PartialEq>⟧.eq ⟦<NetHeaders as PartialEq>⟧.eq
+        ⟦<TransportHeader as PartialEq>⟧.eq ⟦<PayloadSlice<'static> as PartialEq>⟧.eq a b }
+{
+    ep_base::laws::equalities();
+}
+
+/// A clone equals its source.
+pub fn clones()
+    ensures slice_errors { (a b : SliceError) → ⟦<SliceError as Clone>⟧.is_clone a b → b ≡ a }
+    ensures write_errors { (a b : HeadersWriteError) → ⟦<HeadersWriteError as Clone>⟧.is_clone a b → b ≡ a }
+    ensures net_errors { (a b : NetSetNextHeaderError) → ⟦<NetSetNextHeaderError as Clone>⟧.is_clone a b → b ≡ a }
+    ensures payloads { (a b : PayloadSlice) → ⟦<PayloadSlice<'static> as Clone>⟧.is_clone a b → b ≡ a }
+    ensures ip_headers { (a b : IpHeaders) → ⟦<IpHeaders as Clone>⟧.is_clone a b → b ≡ a }
+    ensures net_headers { (a b : NetHeaders) → ⟦<NetHeaders as Clone>⟧.is_clone a b → b ≡ a }
+    ensures net_slices { (a b : NetSlice) → ⟦<NetSlice<'static> as Clone>⟧.is_clone a b → b ≡ a }
 {}

@@ -5,6 +5,7 @@ pub mod err;
 mod ip_headers;
 mod ip_headers_read;
 pub mod laws;
+mod limits;
 mod net_headers;
 mod net_slice;
 mod packet_headers;

@@ -7,16 +7,16 @@ ghost use Rattle.ep_link.specs.EtherPayloads.{ether_payload_of};
 ghost use Rattle.ep_packet.specs.Frame.{most_link_exts, only_ipv4, only_ipv6, only_arp, any_ip, net_kind};
 ghost use Rattle.ep_packet.specs.PacketHeaders.{headers_of};
 ghost use Rattle.ep_packet.specs.PayloadParts.{ether, empty};
-ghost use Rattle.ep_ip.specs.Ip.{cut_by};
 ghost use Rattle.ep_packet.specs.Refusals.{RefusesInside, RefusesNetPart, RefusesTransportIn};
 ghost use Rattle.ep_packet.specs.HeadersWalk.{FillsInside, FillsNet, FillsTransport, LacksNet, content_end};
 
 use crate::err::SliceError;
 use crate::ip_headers::IpHeaders;
+use crate::limits::{limit_in, refusal_in};
 use crate::net_headers::NetHeaders;
 use crate::payload_slice::PayloadSlice;
 use arrayvec::ArrayVec;
-use ep_base::err::{LenError, ip, ipv4, ipv6, macsec, tcp};
+use ep_base::err::{ip, ipv4, ipv6, macsec, tcp};
 use ep_base::{EtherPayloadSlice, EtherType, IpPayloadSlice, LenSource, VlanId, ether_type};
 use ep_ip::Ipv6Header;
 use ep_link::{
@@ -336,23 +336,11 @@ impl<'a> PacketHeaders<'a> {
                 self.payload = PayloadSlice::Ip(payload);
                 Ok(())
             }
-            Err(tcp::HeaderSliceError::Len(error)) => Err(SliceError::Len(LenError {
-                len_source: limit_in(payload.len_source, error.len_source),
-                ..error.add_offset(offset)
-            })),
+            Err(tcp::HeaderSliceError::Len(error)) => {
+                Err(SliceError::Len(refusal_in(error, offset, payload.len_source)))
+            }
             Err(tcp::HeaderSliceError::Content(error)) => Err(SliceError::Tcp(error)),
         }
-    }
-}
-
-/// What set the end of bytes that end with what this layer sets, or else where the outer one does.
-#[inline]
-fn limit_in(outer: LenSource, len_source: LenSource) -> LenSource
-    ensures { result ≡ cut_by outer len_source }
-{
-    match len_source {
-        LenSource::Slice => outer,
-        _ => len_source,
     }
 }
 

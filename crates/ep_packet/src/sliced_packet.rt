@@ -5,20 +5,20 @@ ghost use Rattle.std.specs.Option.{option_map};
 ghost use Rattle.ep_base.specs.Layer.{slices};
 ghost use Rattle.ep_base.specs.IpPayload.{ip_payload_of};
 ghost use Rattle.ep_ext.specs.Ipv4Chains.{ipv4_slice_bytes};
-ghost use Rattle.ep_ip.specs.Ip.{cut_by};
 ghost use Rattle.ep_transport.specs.TransportParts.{transport_layer_of};
 ghost use Rattle.ep_packet.specs.Frame.{IsTransportBehind, IsTransportIn, most_link_exts};
 ghost use Rattle.ep_packet.specs.Frame.{only_ipv4, only_ipv6, only_arp, any_ip, net_kind};
 ghost use Rattle.ep_packet.specs.Layers.{net_layer_of, net_payload};
 ghost use Rattle.ep_packet.specs.Refusals.{RefusesInside, RefusesNetPart, RefusesTransportBehind, RefusesTransportIn};
-ghost use Rattle.ep_packet.specs.Refusals.{further_behind, net_header_len};
+ghost use Rattle.ep_packet.specs.Refusals.{net_header_len};
 ghost use Rattle.ep_packet.specs.ShownBytes.{ShowsTransport, net_slice_bytes, net_slice_payload};
 ghost use Rattle.ep_packet.specs.Walk.{AppendsInside, HasHeaders, HoldsBehind, HoldsNet};
 
 use crate::err::SliceError;
+use crate::limits::refusal_in;
 use crate::net_slice::NetSlice;
 use arrayvec::ArrayVec;
-use ep_base::err::{LenError, ip, ipv4, ipv6, linux_sll, macsec, tcp};
+use ep_base::err::{ip, ipv4, ipv6, linux_sll, macsec, tcp};
 use ep_base::{EtherPayloadSlice, EtherType, IpPayloadSlice, LenSource, VlanId, ether_type};
 use ep_ext::Ipv4ExtensionsSlice;
 use ep_ip::{IpSlice, Ipv4Slice, Ipv6Header, Ipv6Slice};
@@ -437,27 +437,9 @@ fn slice_transport<'a>(
 {
     match TransportSlice::from_ip_number(payload.ip_number, payload.fragmented, payload.payload) {
         Ok(transport) => Ok(transport),
-        Err(tcp::HeaderSliceError::Len(error)) => Err(SliceError::Len(transport_error(
-            offset,
-            &payload.len_source,
-            error,
-        ))),
+        Err(tcp::HeaderSliceError::Len(error)) => {
+            Err(SliceError::Len(refusal_in(error, offset, payload.len_source)))
+        }
         Err(tcp::HeaderSliceError::Content(error)) => Err(SliceError::Tcp(error)),
-    }
-}
-
-/// A transport layer's refusal as one of the packet: the payload lies `offset` bytes behind the packet's start, and
-/// where the payload's end is the refusal's limit, the limit is what set that end.
-fn transport_error(offset: usize, len_source: &LenSource, error: LenError) -> LenError
-    requires { error.layer_start_offset + offset < 2 ^ 64 }
-    ensures { result ≡ record (further_behind offset error) { len_source = cut_by len_source.now error.len_source } }
-{
-    let error = error.add_offset(offset);
-    match error.len_source {
-        LenSource::Slice => LenError {
-            len_source: *len_source,
-            ..error
-        },
-        _ => error,
     }
 }

@@ -9,6 +9,7 @@ pub mod TcpOptionBytes
 pub mod TcpOptionSteps
 pub mod TcpSlices
 pub mod TransportHeaders
+pub mod TransportNumbers
 pub mod TransportParts
 pub mod Udp
 pub mod UdpSlices

@@ -1,6 +1,6 @@
 //! The header of ICMP (RFC 792).
 
-ghost use Rattle.std.specs.Prelude.{◌≡◌, ◌++◌, length, IfOk, IfErr, OnOk, OnErr, IsOkAnd, List, ℕ, []};
+ghost use Rattle.std.specs.Prelude.{◌≡◌, ◌+◌, ◌≤◌, ◌<◌, ◌++◌, length, IfOk, IfErr, OnOk, OnErr, IsOkAnd, List, ℕ, [], vec_len, vec_capacity};
 ghost use Rattle.ep_base.specs.Checksum.{checksum_of};
 ghost use Rattle.ep_base.specs.Tables.{Parts, parts_of};
 ghost use Rattle.ep_transport.specs.Icmpv4.{IsIcmpv4, RefusesIcmpv4, icmpv4_bytes, icmpv4_kind, icmpv4_len, icmpv4_message};
@@ -72,10 +72,13 @@ impl Icmpv4Header {
         bytes
     }
 
-    /// Appends the header's bytes with the checksum that it holds. A refusal leaves the buffer as it was.
+    /// Appends the header's bytes with the checksum that it holds. A refusal leaves the buffer as it was, and comes
+    /// only where the buffer would have to grow.
     pub fn write(&self, buf: &mut Vec<u8>) -> Result<(), AllocError>
         ensures ok { OnOk result (buf.new.items ≡ buf.old.items ++ icmpv4_bytes self.now) }
         ensures err { OnErr result (buf.new.items ≡ buf.old.items) }
+        ensures full { OnErr result (vec_capacity buf.old < vec_len buf.old + length (icmpv4_bytes self.now)) }
+        ensures capacity { vec_capacity buf.old ≤ vec_capacity buf.new }
     {
         let bytes = self.to_bytes();
         buf.extend_from_slice(bytes.as_slice())

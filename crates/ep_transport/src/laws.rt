@@ -1,6 +1,7 @@
 //! What holds of every list of bytes, each law the contract of a function that does nothing.
 
-ghost use Rattle.std.specs.Prelude.{◌≡◌, ◌%◌, ◌≤◌, ◌++◌, ℕ, Bool, List, length, map, Option, Result, Ok};
+ghost use Rattle.std.specs.Prelude.{◌≡◌, ◌%◌, ◌≤◌, ◌++◌, ◌↔◌, ℕ, Bool, IsTrue, List, length, take, drop, map, Option, Result, Ok};
+ghost use Rattle.std.specs.Int.{w16, to_be_bytes};
 ghost use Rattle.std.specs.List.{All};
 ghost use Rattle.ep_transport.specs.declared.tcp_option_element.TcpOptionElement.{TcpOptionElement};
 ghost use Rattle.ep_transport.specs.declared.tcp_option_element.TcpOptionReadError.{TcpOptionReadError};
@@ -13,14 +14,27 @@ ghost use Rattle.ep_base.specs.declared.err.tcp.HeaderSliceError.TheVariants as 
 ghost use Rattle.ep_transport.specs.Udp.{IsUdp, IsUdpHeader, RefusesUdp, RefusesUdpHeader, udp_bytes};
 ghost use Rattle.ep_transport.specs.Tcp.{IsTcp, RefusesTcp, tcp_bytes, default_tcp_header};
 ghost use Rattle.ep_transport.specs.TcpOptionBytes.{FitsOption, IsNextOption, RefusesOption, AreItems, as_read, in_words, options_bytes};
+ghost use Rattle.ep_transport.specs.PseudoHeaders.{pseudo_header_ipv4, pseudo_header_ipv6};
 ghost use Rattle.ep_transport.specs.PseudoHeaders.{udp_message, tcp_message, tcp_bytes_without_checksum};
 ghost use Rattle.ep_transport.specs.declared.udp_header.UdpHeader.{UdpHeader};
 ghost use Rattle.ep_transport.specs.declared.tcp_header.TcpHeader.{TcpHeader};
+ghost use Rattle.ep_transport.specs.declared.transport_header.TransportHeader.{TransportHeader};
+ghost use Rattle.ep_transport.specs.declared.transport_checksum_error.TransportChecksumError.{TransportChecksumError};
+ghost use Rattle.ep_transport.specs.declared.tcp_options.TcpOptionWriteError.{TcpOptionWriteError};
+ghost use Rattle.ep_transport.specs.TcpOptionSteps.{options_left};
+ghost use Rattle.ep_transport.specs.UdpSlices.{udp_slice_bytes};
+ghost use Rattle.ep_transport.specs.TcpSlices.{tcp_slice_bytes};
 ghost use Rattle.ep_transport.specs.TransportParts.{TransportLayer, AreTransport, IsTransportPart, RefusesTransportPart};
+ghost use Rattle.ep_transport.specs.TransportParts.{transport_slice_bytes};
+ghost use Rattle.ep_transport.specs.TransportNumbers.{transport_slice_number};
 
 pub mod icmp;
 
-use crate::{TcpHeader, TcpOptions, UdpHeader};
+use crate::{
+    TcpHeader, TcpOptionElement, TcpOptionReadError, TcpOptionWriteError, TcpOptions,
+    TcpOptionsIterator, TcpSlice, TransportChecksumError, TransportHeader, TransportSlice,
+    UdpHeader, UdpSlice,
+};
 
 /// Bytes are a datagram, of one header, payload and rest, or are refused with one error, and never both.
 pub fn udp()
@@ -78,7 +92,8 @@ pub fn transport_bytes()
 {}
 
 /// A message with its checksum filled in sums to 65535 with its pseudo header, by which a receiver tests it, whatever
-/// bytes stand in front of it as pseudo header; and a segment's bytes are summed as its header and payload are.
+/// bytes stand in front of it as pseudo header; so do the bytes of a segment, reserved bits as they stand, which are
+/// summed as its header and payload are. A pseudo header ends with a whole word.
 pub fn checksums()
     ensures udp { (front : List ℕ) (header : UdpHeader) (payload : List ℕ) → length front % 2 ≡ 0
         → ones_sum (front ++ (udp_bytes
@@ -90,6 +105,13 @@ pub fn checksums()
         ++ payload)) ≡ 65535 }
     ensures segment { (header : TcpHeader) (payload : List ℕ)
         → tcp_bytes_without_checksum (tcp_bytes header ++ payload) ≡ tcp_message header payload }
+    ensures segment_bytes { (front bytes : List ℕ) → length front % 2 ≡ 0 → 16 ≤ length bytes
+        → ones_sum (front ++ (take 16 bytes
+        ++ (to_be_bytes w16 (checksum_of (front ++ tcp_bytes_without_checksum bytes)) ++ drop 18 bytes))) ≡ 65535 }
+    ensures pseudo_ipv4 { (source destination : List ℕ) (number len : ℕ) → length source ≡ 4 → length destination ≡ 4
+        → length (pseudo_header_ipv4 source destination number len) % 2 ≡ 0 }
+    ensures pseudo_ipv6 { (source destination : List ℕ) (number len : ℕ) → length source ≡ 16
+        → length destination ≡ 16 → length (pseudo_header_ipv6 source destination number len) % 2 ≡ 0 }
 {}
 
 /// The lengths of headers and options (RFC 768; RFC 9293, 3.1), and that the defaults are all 0, false or empty.
@@ -102,4 +124,71 @@ pub fn constants() -> (UdpHeader, TcpHeader)
     ensures tcp_default { result.1 ≡ default_tcp_header }
 {
     (UdpHeader::default(), TcpHeader::default())
+}
+
+/// Headers are equal where each field is, and options where their bytes are. Slices are equal where they show the same
+/// bytes of the same protocol, an iteration over options where the same bytes are before it, and errors where they are
+/// the same.
+pub fn comparisons()
+    ensures udp { (a b : UdpHeader) → IsTrue (⟦<UdpHeader as PartialEq>⟧.eq a b) ↔ (a ≡ b) }
+    ensures udp_slices { (a b : UdpSlice) →
+        IsTrue (⟦<UdpSlice<'static> as PartialEq>⟧.eq a b) ↔ (udp_slice_bytes a ≡ udp_slice_bytes b) }
+    ensures tcp { (a b : TcpHeader) → IsTrue (⟦<TcpHeader as PartialEq>⟧.eq a b) ↔ (a ≡ b) }
+    ensures tcp_slices { (a b : TcpSlice) →
+        IsTrue (⟦<TcpSlice<'static> as PartialEq>⟧.eq a b) ↔ (tcp_slice_bytes a ≡ tcp_slice_bytes b) }
+    ensures options { (a b : List ℕ) → IsTrue (⟦<TcpOptions as PartialEq>⟧.eq a b) ↔ (a ≡ b) }
+    ensures elements { (a b : TcpOptionElement) → IsTrue (⟦<TcpOptionElement as PartialEq>⟧.eq a b) ↔ (a ≡ b) }
+    ensures iterators { (a b : TcpOptionsIterator) →
+        IsTrue (⟦<TcpOptionsIterator<'static> as PartialEq>⟧.eq a b) ↔ (options_left a ≡ options_left b) }
+    ensures read_errors { (a b : TcpOptionReadError) →
+        IsTrue (⟦<TcpOptionReadError as PartialEq>⟧.eq a b) ↔ (a ≡ b) }
+    ensures write_errors { (a b : TcpOptionWriteError) →
+        IsTrue (⟦<TcpOptionWriteError as PartialEq>⟧.eq a b) ↔ (a ≡ b) }
+    ensures transport { (a b : TransportHeader) → IsTrue (⟦<TransportHeader as PartialEq>⟧.eq a b) ↔ (a ≡ b) }
+    ensures transport_slices { (a b : TransportSlice) →
+        IsTrue (⟦<TransportSlice<'static> as PartialEq>⟧.eq a b)
+        ↔ ((transport_slice_number a ≡ transport_slice_number b)
+        × (transport_slice_bytes a ≡ transport_slice_bytes b)) }
+    ensures checksum_errors { (a b : TransportChecksumError) →
+        IsTrue (⟦<TransportChecksumError as PartialEq>⟧.eq a b) ↔ (a ≡ b) }
+{
+    icmp::comparisons();
+    ep_base::laws::equalities();
+}
+
+/// A clone equals its source.
+pub fn clones()
+    ensures udp { (a b : UdpHeader) → ⟦<UdpHeader as Clone>⟧.is_clone a b → b ≡ a }
+    ensures udp_slices { (a b : UdpSlice) → ⟦<UdpSlice<'static> as Clone>⟧.is_clone a b → b ≡ a }
+    ensures tcp { (a b : TcpHeader) → ⟦<TcpHeader as Clone>⟧.is_clone a b → b ≡ a }
+    ensures tcp_slices { (a b : TcpSlice) → ⟦<TcpSlice<'static> as Clone>⟧.is_clone a b → b ≡ a }
+    ensures options { (a b : List ℕ) → ⟦<TcpOptions as Clone>⟧.is_clone a b → b ≡ a }
+    ensures elements { (a b : TcpOptionElement) → ⟦<TcpOptionElement as Clone>⟧.is_clone a b → b ≡ a }
+    ensures iterators { (a b : TcpOptionsIterator) → ⟦<TcpOptionsIterator<'static> as Clone>⟧.is_clone a b → b ≡ a }
+    ensures read_errors { (a b : TcpOptionReadError) → ⟦<TcpOptionReadError as Clone>⟧.is_clone a b → b ≡ a }
+    ensures write_errors { (a b : TcpOptionWriteError) → ⟦<TcpOptionWriteError as Clone>⟧.is_clone a b → b ≡ a }
+    ensures transport { (a b : TransportHeader) → ⟦<TransportHeader as Clone>⟧.is_clone a b → b ≡ a }
+    ensures transport_slices { (a b : TransportSlice) → ⟦<TransportSlice<'static> as Clone>⟧.is_clone a b → b ≡ a }
+    ensures checksum_errors { (a b : TransportChecksumError) →
+        ⟦<TransportChecksumError as Clone>⟧.is_clone a b → b ≡ a }
+{
+    icmp::clones();
+}
+
+/// A clone takes no memory, and so is there.
+pub fn clones_succeed()
+    ensures udp { (a : UdpHeader) → ⟦<UdpHeader as Clone>⟧.is_infallible a }
+    ensures udp_slices { (a : UdpSlice) → ⟦<UdpSlice<'static> as Clone>⟧.is_infallible a }
+    ensures tcp { (a : TcpHeader) → ⟦<TcpHeader as Clone>⟧.is_infallible a }
+    ensures tcp_slices { (a : TcpSlice) → ⟦<TcpSlice<'static> as Clone>⟧.is_infallible a }
+    ensures options { (a : List ℕ) → ⟦<TcpOptions as Clone>⟧.is_infallible a }
+    ensures elements { (a : TcpOptionElement) → ⟦<TcpOptionElement as Clone>⟧.is_infallible a }
+    ensures iterators { (a : TcpOptionsIterator) → ⟦<TcpOptionsIterator<'static> as Clone>⟧.is_infallible a }
+    ensures read_errors { (a : TcpOptionReadError) → ⟦<TcpOptionReadError as Clone>⟧.is_infallible a }
+    ensures write_errors { (a : TcpOptionWriteError) → ⟦<TcpOptionWriteError as Clone>⟧.is_infallible a }
+    ensures transport { (a : TransportHeader) → ⟦<TransportHeader as Clone>⟧.is_infallible a }
+    ensures transport_slices { (a : TransportSlice) → ⟦<TransportSlice<'static> as Clone>⟧.is_infallible a }
+    ensures checksum_errors { (a : TransportChecksumError) → ⟦<TransportChecksumError as Clone>⟧.is_infallible a }
+{
+    icmp::clones_succeed();
 }

@@ -1,14 +1,15 @@
 //! The header of TCP (RFC 9293, 3.1).
 
-ghost use Rattle.std.specs.Prelude.{◌≡◌, ◌-◌, ◌^◌, ◌<◌, ◌≤◌, ◌%◌, ◌++◌, length, min, IfOk, IfErr, OnOk, OnErr, IsOkAnd, MatchResult, List, ℕ, []};
+ghost use Rattle.std.specs.Prelude.{◌≡◌, ◌+◌, ◌-◌, ◌^◌, ◌<◌, ◌≤◌, ◌%◌, ◌++◌, length, min, IfOk, IfErr, OnOk, OnErr, IsOkAnd, MatchResult, List, ℕ, [], vec_len, vec_capacity};
 ghost use Rattle.ep_base.specs.Checksum.{ones_sum, checksum_of};
 ghost use Rattle.ep_base.specs.declared.err.value_type.ValueType.TheVariants as value_type;
 ghost use Rattle.ep_transport.specs.PseudoHeaders.{tcp_message, tcp_checksum_ipv4, tcp_checksum_ipv6};
+ghost use Rattle.std.specs.List.{All};
 ghost use Rattle.ep_base.specs.Bytes.{bit};
 ghost use Rattle.ep_base.specs.Tables.{Parts, parts_of};
 ghost use Rattle.ep_transport.specs.Tcp.{IsTcp, RefusesTcp, tcp_bytes, tcp_header_len, tcp_data_offset, tcp_flags, default_tcp_header};
 ghost use Rattle.ep_transport.specs.declared.tcp_options.TcpOptionWriteError.TheVariants.{NotEnoughSpace};
-ghost use Rattle.ep_transport.specs.TcpOptionBytes.{in_words, options_bytes};
+ghost use Rattle.ep_transport.specs.TcpOptionBytes.{FitsOption, in_words, options_bytes};
 
 use crate::pseudo_header;
 use crate::tcp_option_element::TcpOptionElement;
@@ -122,12 +123,14 @@ impl TcpHeader {
     }
 
     /// Sets the options, whose bytes are at most 40, filled up by zero bytes to words of 4. A refusal changes nothing.
+    /// Each option fits its bytes, so what is set is read back (`laws::tcp_options_read_back`).
     pub fn set_options(&mut self, options: &[TcpOptionElement]) -> Result<(), TcpOptionWriteError>
-        ensures { MatchResult result
+        ensures value { MatchResult result
             (λ _. (length (options_bytes options.now) ≤ 40)
             × (self.new ≡ record self.old { options = in_words (options_bytes options.now) }))
             (λ error. (40 < length (options_bytes options.now)) × (self.new ≡ self.old)
             × (error ≡ NotEnoughSpace (min (length (options_bytes options.now)) (2 ^ 64 - 1)))) }
+        ensures fits { All FitsOption options.now }
     {
         self.options = TcpOptions::try_from_elements(options)?;
         Ok(())
@@ -159,10 +162,13 @@ impl TcpHeader {
         bytes
     }
 
-    /// Appends the header's bytes with the checksum that it holds. A refusal leaves the buffer as it was.
+    /// Appends the header's bytes with the checksum that it holds. A refusal leaves the buffer as it was, and comes
+    /// only where the buffer would have to grow.
     pub fn write(&self, buf: &mut Vec<u8>) -> Result<(), AllocError>
         ensures ok { OnOk result (buf.new.items ≡ buf.old.items ++ tcp_bytes self.now) }
         ensures err { OnErr result (buf.new.items ≡ buf.old.items) }
+        ensures full { OnErr result (vec_capacity buf.old < vec_len buf.old + length (tcp_bytes self.now)) }
+        ensures capacity { vec_capacity buf.old ≤ vec_capacity buf.new }
     {
         let bytes = self.to_bytes();
         buf.extend_from_slice(bytes.as_slice())

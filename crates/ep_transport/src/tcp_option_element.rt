@@ -1,7 +1,7 @@
 //! One option of a TCP header (RFC 9293, 3.2; RFC 2018; RFC 7323).
 
 ghost use Rattle.std.specs.Prelude.{◌≡◌, ◌+◌, ◌*◌, ◌≤◌, ◌++◌, [], ◌∷◌, length};
-ghost use Rattle.ep_transport.specs.TcpOptionBytes.{present, block_bytes, blocks_bytes, option_bytes};
+ghost use Rattle.ep_transport.specs.TcpOptionBytes.{FitsOption, present, block_bytes, blocks_bytes, option_bytes};
 ghost use Rattle.ep_transport.specs.declared.tcp_option_element.TcpOptionElement.TheVariants.{SelectiveAcknowledgement};
 
 use arrayvec::ArrayVec;
@@ -54,7 +54,8 @@ pub enum TcpOptionReadError {
 impl TcpOptionElement {
     /// The bytes of the option: its kind, its length, and what it holds.
     pub(crate) fn to_bytes(&self) -> ArrayVec<u8, 34>
-        ensures { result.items ≡ option_bytes self.now }
+        ensures bytes { result.items ≡ option_bytes self.now }
+        ensures fits { FitsOption self.now }
     {
         match self {
             TcpOptionElement::Noop => bytes_of(&[1]),
@@ -89,7 +90,8 @@ fn bytes_of(slice: &[u8]) -> ArrayVec<u8, 34>
 
 /// The bytes of a selective acknowledgement.
 fn acknowledgement(first: (u32, u32), others: [Option<(u32, u32)>; 3]) -> ArrayVec<u8, 34>
-    ensures { result.items ≡ option_bytes (SelectiveAcknowledgement first others) }
+    ensures bytes { result.items ≡ option_bytes (SelectiveAcknowledgement first others) }
+    ensures fits { FitsOption (SelectiveAcknowledgement first others) }
 {
     let len = 10 + place_len(others[0]) + place_len(others[1]) + place_len(others[2]);
     let mut bytes = bytes_of(&[5, len]);

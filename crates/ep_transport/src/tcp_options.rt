@@ -1,7 +1,8 @@
 //! The options of a TCP header (RFC 9293, 3.1).
 
 ghost use Rattle.std.specs.Prelude.{◌≡◌, ◌-◌, ◌^◌, ◌<◌, ◌≤◌, ◌%◌, [], length, min, MatchResult};
-ghost use Rattle.ep_transport.specs.TcpOptionBytes.{in_words, options_bytes};
+ghost use Rattle.std.specs.List.{All};
+ghost use Rattle.ep_transport.specs.TcpOptionBytes.{FitsOption, in_words, options_bytes};
 ghost use Rattle.ep_transport.specs.TcpOptionSteps.{options_left};
 
 use crate::tcp_option_element::TcpOptionElement;
@@ -85,14 +86,16 @@ impl TcpOptions {
     }
 
     /// The bytes of the options, which are at most 40, filled up by zero bytes to words of 4. Their number is told up to
-    /// the greatest `usize`; no slice that lies in memory has more.
+    /// the greatest `usize`; no slice that lies in memory has more. Each option fits its bytes, so what is written is
+    /// read back (`laws::tcp_options_read_back`).
     pub fn try_from_elements(
         elements: &[TcpOptionElement],
     ) -> Result<TcpOptions, TcpOptionWriteError>
-        ensures { MatchResult result
+        ensures value { MatchResult result
             (λ options. (length (options_bytes elements.now) ≤ 40) × (options ≡ in_words (options_bytes elements.now)))
             (λ error. (40 < length (options_bytes elements.now))
             × (error ≡ NotEnoughSpace (min (length (options_bytes elements.now)) (2 ^ 64 - 1)))) }
+        ensures fits { All FitsOption elements.now }
     {
         let mut bytes: ArrayVec<u8, 40> = ArrayVec::new();
         let mut len: usize = 0;

@@ -1,6 +1,6 @@
 //! The header of a transport layer.
 
-ghost use Rattle.std.specs.Prelude.{◌≡◌, ◌≤◌, ◌++◌, IfOk, IfErr, IsOkAnd, MatchResult, OnOk, OnErr, List, ℕ, Option, length};
+ghost use Rattle.std.specs.Prelude.{◌≡◌, ◌+◌, ◌<◌, ◌≤◌, ◌++◌, IfOk, IfErr, IsOkAnd, MatchResult, OnOk, OnErr, List, ℕ, Option, length, vec_len, vec_capacity};
 ghost use Rattle.std.specs.Option.{option_map};
 ghost use Rattle.std.specs.Borrow.{LendsIf, sem};
 ghost use Rattle.ep_base.specs.Layer.{headers};
@@ -261,10 +261,13 @@ impl TransportHeader {
         Ok(())
     }
 
-    /// Appends the header's bytes with the checksum that it holds. A refusal leaves the buffer as it was.
+    /// Appends the header's bytes with the checksum that it holds. A refusal leaves the buffer as it was, and comes
+    /// only where the buffer would have to grow.
     pub fn write(&self, buf: &mut Vec<u8>) -> Result<(), AllocError>
         ensures ok { OnOk result (buf.new.items ≡ buf.old.items ++ transport_bytes self.now) }
         ensures err { OnErr result (buf.new.items ≡ buf.old.items) }
+        ensures full { OnErr result (vec_capacity buf.old < vec_len buf.old + length (transport_bytes self.now)) }
+        ensures capacity { vec_capacity buf.old ≤ vec_capacity buf.new }
     {
         match self {
             TransportHeader::Udp(header) => header.write(buf),

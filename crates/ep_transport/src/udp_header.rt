@@ -1,6 +1,6 @@
 //! The header of UDP (RFC 768).
 
-ghost use Rattle.std.specs.Prelude.{◌≡◌, ◌%◌, ◌<◌, ◌≤◌, ◌++◌, IfOk, IfErr, OnOk, OnErr, IsOkAnd, MatchResult, List, ℕ, length};
+ghost use Rattle.std.specs.Prelude.{◌≡◌, ◌+◌, ◌%◌, ◌<◌, ◌≤◌, ◌++◌, IfOk, IfErr, OnOk, OnErr, IsOkAnd, MatchResult, List, ℕ, length, vec_len, vec_capacity};
 ghost use Rattle.ep_base.specs.Checksum.{ones_sum, checksum_of, no_zero};
 ghost use Rattle.ep_base.specs.declared.err.value_type.ValueType.TheVariants as value_type;
 ghost use Rattle.ep_transport.specs.PseudoHeaders.{udp_message, udp_checksum_ipv4, udp_checksum_ipv6};
@@ -84,10 +84,13 @@ impl UdpHeader {
         ]
     }
 
-    /// Appends the header's bytes. A refusal leaves the buffer as it was.
+    /// Appends the header's bytes. A refusal leaves the buffer as it was, and comes only where the buffer would have to
+    /// grow.
     pub fn write(&self, buf: &mut Vec<u8>) -> Result<(), AllocError>
         ensures ok { OnOk result (buf.new.items ≡ buf.old.items ++ udp_bytes self.now) }
         ensures err { OnErr result (buf.new.items ≡ buf.old.items) }
+        ensures full { OnErr result (vec_capacity buf.old < vec_len buf.old + length (udp_bytes self.now)) }
+        ensures capacity { vec_capacity buf.old ≤ vec_capacity buf.new }
     {
         buf.extend_from_slice(&self.to_bytes())
     }

@@ -8,8 +8,9 @@ ghost use Rattle.ep_defrag.specs.Calls.{answers_to};
 ghost use Rattle.ep_defrag.specs.Pools.{plain_call, plain_answer};
 
 use crate::{
-    IpDefragError, IpDefragPayloadVec, IpDefragPool, IpFragOffset, IpNumber, LenSource, PoolAnswer,
-    PoolCall, RunStop, SlicedPacket, run_calls,
+    ArrayVec, Fragment, IpDefragError, IpDefragPayloadVec, IpDefragPool, IpFragId, IpFragOffset,
+    IpFragVersionSpecId, IpNumber, LenSource, PoolAnswer, PoolCall, RunStop, SlicedPacket,
+    run_calls,
 };
 use std::alloc::{AllocError, Global};
 use std::cell::Cell;
@@ -19,38 +20,62 @@ use std::test::Fail;
 
 // The first 8 bytes of a payload of 16, and the last ones, with VLAN identifier 1, and the same with 2.
 const VLAN_1_FIRST: &[u8] =
-    b"\x07\x08\x09\x0a\x0b\x0c\x01\x02\x03\x04\x05\x06\x81\x00\x00\x01\x08\x00\x45\x00\x00\x1c\x00\x01\x20\x00\x14\x11\x03\x7d\xc0\xa8\x01\x01\xc0\xa8\x01\x02\x00\x01\x02\x03\x04\x05\x06\x07";
+    b"\x07\x08\x09\x0a\x0b\x0c\x01\x02\x03\x04\x05\x06\x81\x00\x00\x01\x08\x00\
+      \x45\x00\x00\x1c\x00\x01\x20\x00\x14\x11\x03\x7d\xc0\xa8\x01\x01\xc0\xa8\x01\x02\
+      \x00\x01\x02\x03\x04\x05\x06\x07";
 
 const VLAN_1_LAST: &[u8] =
-    b"\x07\x08\x09\x0a\x0b\x0c\x01\x02\x03\x04\x05\x06\x81\x00\x00\x01\x08\x00\x45\x00\x00\x1c\x00\x01\x00\x01\x14\x11\x23\x7c\xc0\xa8\x01\x01\xc0\xa8\x01\x02\x08\x09\x0a\x0b\x0c\x0d\x0e\x0f";
+    b"\x07\x08\x09\x0a\x0b\x0c\x01\x02\x03\x04\x05\x06\x81\x00\x00\x01\x08\x00\
+      \x45\x00\x00\x1c\x00\x01\x00\x01\x14\x11\x23\x7c\xc0\xa8\x01\x01\xc0\xa8\x01\x02\
+      \x08\x09\x0a\x0b\x0c\x0d\x0e\x0f";
 
 const VLAN_2_FIRST: &[u8] =
-    b"\x07\x08\x09\x0a\x0b\x0c\x01\x02\x03\x04\x05\x06\x81\x00\x00\x02\x08\x00\x45\x00\x00\x1c\x00\x01\x20\x00\x14\x11\x03\x7d\xc0\xa8\x01\x01\xc0\xa8\x01\x02\x10\x11\x12\x13\x14\x15\x16\x17";
+    b"\x07\x08\x09\x0a\x0b\x0c\x01\x02\x03\x04\x05\x06\x81\x00\x00\x02\x08\x00\
+      \x45\x00\x00\x1c\x00\x01\x20\x00\x14\x11\x03\x7d\xc0\xa8\x01\x01\xc0\xa8\x01\x02\
+      \x10\x11\x12\x13\x14\x15\x16\x17";
 
 const VLAN_2_LAST: &[u8] =
-    b"\x07\x08\x09\x0a\x0b\x0c\x01\x02\x03\x04\x05\x06\x81\x00\x00\x02\x08\x00\x45\x00\x00\x1c\x00\x01\x00\x01\x14\x11\x23\x7c\xc0\xa8\x01\x01\xc0\xa8\x01\x02\x18\x19\x1a\x1b\x1c\x1d\x1e\x1f";
+    b"\x07\x08\x09\x0a\x0b\x0c\x01\x02\x03\x04\x05\x06\x81\x00\x00\x02\x08\x00\
+      \x45\x00\x00\x1c\x00\x01\x00\x01\x14\x11\x23\x7c\xc0\xa8\x01\x01\xc0\xa8\x01\x02\
+      \x18\x19\x1a\x1b\x1c\x1d\x1e\x1f";
 
 // 7 bytes where more fragments follow.
 const VLAN_1_UNALIGNED: &[u8] =
-    b"\x07\x08\x09\x0a\x0b\x0c\x01\x02\x03\x04\x05\x06\x81\x00\x00\x01\x08\x00\x45\x00\x00\x1b\x00\x01\x20\x01\x14\x11\x03\x7d\xc0\xa8\x01\x01\xc0\xa8\x01\x02\x08\x09\x0a\x0b\x0c\x0d\x0e";
+    b"\x07\x08\x09\x0a\x0b\x0c\x01\x02\x03\x04\x05\x06\x81\x00\x00\x01\x08\x00\
+      \x45\x00\x00\x1b\x00\x01\x20\x01\x14\x11\x03\x7d\xc0\xa8\x01\x01\xc0\xa8\x01\x02\
+      \x08\x09\x0a\x0b\x0c\x0d\x0e";
 
 // Two halves of a payload of 16 bytes, in packets of IPv6.
-const IPV6_FIRST: &[u8] =
-    b"\x60\x00\x00\x00\x00\x10\x2c\x40\x00\x00\x00\x00\x00\x00\x00\x00\x00\x00\x00\x00\x00\x00\x00\x00\x00\x00\x00\x00\x00\x00\x00\x00\x00\x00\x00\x00\x00\x00\x00\x00\x11\x00\x00\x01\x00\x00\x00\x07\x00\x01\x02\x03\x04\x05\x06\x07";
+const IPV6_FIRST: &[u8] = b"\x60\x00\x00\x00\x00\x10\x2c\x40\
+      \x00\x00\x00\x00\x00\x00\x00\x00\x00\x00\x00\x00\x00\x00\x00\x00\
+      \x00\x00\x00\x00\x00\x00\x00\x00\x00\x00\x00\x00\x00\x00\x00\x00\
+      \x11\x00\x00\x01\x00\x00\x00\x07\
+      \x00\x01\x02\x03\x04\x05\x06\x07";
 
-const IPV6_LAST: &[u8] =
-    b"\x60\x00\x00\x00\x00\x10\x2c\x40\x00\x00\x00\x00\x00\x00\x00\x00\x00\x00\x00\x00\x00\x00\x00\x00\x00\x00\x00\x00\x00\x00\x00\x00\x00\x00\x00\x00\x00\x00\x00\x00\x11\x00\x00\x08\x00\x00\x00\x07\x08\x09\x0a\x0b\x0c\x0d\x0e\x0f";
+const IPV6_LAST: &[u8] = b"\x60\x00\x00\x00\x00\x10\x2c\x40\
+      \x00\x00\x00\x00\x00\x00\x00\x00\x00\x00\x00\x00\x00\x00\x00\x00\
+      \x00\x00\x00\x00\x00\x00\x00\x00\x00\x00\x00\x00\x00\x00\x00\x00\
+      \x11\x00\x00\x08\x00\x00\x00\x07\
+      \x08\x09\x0a\x0b\x0c\x0d\x0e\x0f";
 
-// No fragments: a whole packet, one behind more VLAN tags than are read, and one whose first fragment header says that it
-// is none, though the second says otherwise.
-const WHOLE: &[u8] =
-    b"\x07\x08\x09\x0a\x0b\x0c\x01\x02\x03\x04\x05\x06\x08\x00\x45\x00\x00\x24\x00\x00\x40\x00\x14\x11\xe3\x75\xc0\xa8\x01\x01\xc0\xa8\x01\x02\x00\x15\x04\xd2\x00\x10\x67\x7f\x01\x02\x03\x04\x05\x06\x07\x08";
+// The payload that these are halves of, and those with VLAN identifier 1.
+const WHOLE_PAYLOAD: &[u8] = b"\x00\x01\x02\x03\x04\x05\x06\x07\x08\x09\x0a\x0b\x0c\x0d\x0e\x0f";
 
-const FOUR_TAGS: &[u8] =
-    b"\x07\x08\x09\x0a\x0b\x0c\x01\x02\x03\x04\x05\x06\x81\x00\x00\x01\x81\x00\x00\x02\x81\x00\x00\x03\x81\x00\x00\x04\x08\x00";
+// No fragments: a whole packet, one behind more VLAN tags than are read, and one whose first fragment header says that
+// it is none, though the second says otherwise.
+const WHOLE: &[u8] = b"\x07\x08\x09\x0a\x0b\x0c\x01\x02\x03\x04\x05\x06\x08\x00\
+      \x45\x00\x00\x24\x00\x00\x40\x00\x14\x11\xe3\x75\xc0\xa8\x01\x01\xc0\xa8\x01\x02\
+      \x00\x15\x04\xd2\x00\x10\x67\x7f\x01\x02\x03\x04\x05\x06\x07\x08";
 
-const FIRST_HEADER_WHOLE: &[u8] =
-    b"\x60\x00\x00\x00\x00\x18\x2c\x40\x00\x00\x00\x00\x00\x00\x00\x00\x00\x00\x00\x00\x00\x00\x00\x00\x00\x00\x00\x00\x00\x00\x00\x00\x00\x00\x00\x00\x00\x00\x00\x00\x2c\x00\x00\x00\x00\x00\x00\x01\x11\x00\x00\x01\x00\x00\x00\x02\x00\x01\x02\x03\x04\x05\x06\x07";
+const FOUR_TAGS: &[u8] = b"\x07\x08\x09\x0a\x0b\x0c\x01\x02\x03\x04\x05\x06\
+      \x81\x00\x00\x01\x81\x00\x00\x02\x81\x00\x00\x03\x81\x00\x00\x04\x08\x00";
+
+const FIRST_HEADER_WHOLE: &[u8] = b"\x60\x00\x00\x00\x00\x18\x2c\x40\
+      \x00\x00\x00\x00\x00\x00\x00\x00\x00\x00\x00\x00\x00\x00\x00\x00\
+      \x00\x00\x00\x00\x00\x00\x00\x00\x00\x00\x00\x00\x00\x00\x00\x00\
+      \x2c\x00\x00\x00\x00\x00\x00\x01\
+      \x11\x00\x00\x01\x00\x00\x00\x02\
+      \x00\x01\x02\x03\x04\x05\x06\x07";
 
 // An answer without an error: the payload that is these bytes, or nothing where they are none.
 fn check_answer(
@@ -75,10 +100,7 @@ fn streams_by_vlan(rt: HostRuntime) -> Result<(), Fail> {
     let rows: [(&[u8], &[u8]); 5] = [
         (VLAN_1_FIRST, b""),
         (VLAN_2_FIRST, b""),
-        (
-            VLAN_1_LAST,
-            b"\x00\x01\x02\x03\x04\x05\x06\x07\x08\x09\x0a\x0b\x0c\x0d\x0e\x0f",
-        ),
+        (VLAN_1_LAST, WHOLE_PAYLOAD),
         (VLAN_1_LAST, b""),
         (
             VLAN_2_LAST,
@@ -128,12 +150,7 @@ fn channels(rt: HostRuntime) -> Result<(), Fail> {
     let last = SlicedPacket::from_ip(IPV6_LAST)?;
     assert_eq!(rt; pool.process_sliced_packet(&last, 2u64, 1u8), Ok(None));
     let answer = pool.process_sliced_packet(&last, 3u64, 0u8);
-    check_answer(
-        &rt,
-        &answer,
-        LenSource::Ipv6HeaderPayloadLen,
-        b"\x00\x01\x02\x03\x04\x05\x06\x07\x08\x09\x0a\x0b\x0c\x0d\x0e\x0f",
-    );
+    check_answer(&rt, &answer, LenSource::Ipv6HeaderPayloadLen, WHOLE_PAYLOAD);
     if let Ok(Some(payload)) = answer {
         pool.return_buf(payload);
     }
@@ -158,6 +175,63 @@ fn skipped(rt: HostRuntime) -> Result<(), Fail> {
         true
     });
     assert!(rt; !asked.get());
+    Ok(())
+}
+
+// Many streams at once, of which a drop takes the older half. Each is asked for once.
+#[test]
+fn many_streams(rt: HostRuntime) -> Result<(), Fail> {
+    let mut pool = IpDefragPool::new(rt.alloc());
+    let first = SlicedPacket::from_ip(IPV6_FIRST)?;
+    for channel in 0..1000u64 {
+        assert_eq!(rt;
+            pool.process_sliced_packet(&first, channel, channel),
+            Ok(None)
+        );
+    }
+    let asked = Cell::new(0u32);
+    pool.retain(|timestamp| {
+        asked.set(asked.get().wrapping_add(1));
+        *timestamp >= 500
+    });
+    assert_eq!(rt; asked.get(), 1000);
+    let last = SlicedPacket::from_ip(IPV6_LAST)?;
+    for channel in 0..1000u64 {
+        let answer = pool.process_sliced_packet(&last, 1000, channel);
+        let payload: &[u8] = if channel < 500 { b"" } else { WHOLE_PAYLOAD };
+        check_answer(&rt, &answer, LenSource::Ipv6HeaderPayloadLen, payload);
+    }
+    Ok(())
+}
+
+// Fragments by the name of their stream, without a packet. One that is a whole payload is handed out at once.
+#[test]
+fn named_fragments(rt: HostRuntime) -> Result<(), Fail> {
+    let mut pool = IpDefragPool::new(rt.alloc());
+    let rows: [(u16, bool, &[u8], &[u8]); 3] = [
+        (0, false, b"abc", b"abc"),
+        (1, false, b"ijk", b""),
+        (0, true, b"abcdefgh", b"abcdefghijk"),
+    ];
+    for (units, more_fragments, payload, handed_out) in rows {
+        let id = IpFragId {
+            vlan_ids: ArrayVec::new(),
+            ip: IpFragVersionSpecId::Ipv4 {
+                source: [192, 168, 1, 1],
+                destination: [192, 168, 1, 2],
+                identification: 1,
+            },
+            payload_ip_number: IpNumber::UDP,
+            channel_id: 0u8,
+        };
+        let fragment = Fragment {
+            offset: IpFragOffset::try_new(units)?,
+            more_fragments,
+            payload,
+        };
+        let answer = pool.process_fragment(id, &fragment, 1u64);
+        check_answer(&rt, &answer, LenSource::Ipv4HeaderTotalLen, handed_out);
+    }
     Ok(())
 }
 
@@ -395,7 +469,7 @@ impl Numbers {
             1 => Kind::Return,
             _ => Kind::Frame,
         };
-        let units = match self.below(32) {
+        let units = match self.below(128) {
             0 => 8191,
             number => u16::from(number % 3),
         };
@@ -490,7 +564,7 @@ fn check_list(rt: &(impl AllocGlobal + Abort), steps: &[Step], bytes: &[u8]) -> 
     Ok(())
 }
 
-// Lists of calls on few streams, so that payloads are often completed.
+// Lists of calls on few streams, so that payloads are often completed. The first is a long one.
 #[test]
 fn random_lists(rt: HostRuntime) -> Result<(), Fail> {
     let mut bytes = Vec::new(rt.alloc());
@@ -498,9 +572,10 @@ fn random_lists(rt: HostRuntime) -> Result<(), Fail> {
         bytes.push(byte)?;
     }
     let mut numbers = Numbers { state: 1 };
-    for _ in 0..300 {
+    for list in 0..10_000u32 {
+        let end = if list == 0 { 500 } else { 28 };
         let mut steps = Vec::new(rt.alloc());
-        for time in 4..28 {
+        for time in 4..end {
             steps.push(numbers.step(time))?;
         }
         check_list(&rt, &steps, &bytes)?;

@@ -50,7 +50,7 @@ impl Clone for ArpPacket {
 }
 
 impl ArpPacket {
-    ghost use Rattle.std.specs.Prelude.{◌≡◌, ◌≤◌, ◌++◌, List, ℕ, length, IfOk, IfErr, OnOk, OnErr, IsOkAnd};
+    ghost use Rattle.std.specs.Prelude.{◌≡◌, ◌≤◌, ◌++◌, ◌+◌, ◌<◌, List, ℕ, length, IfOk, IfErr, OnOk, OnErr, IsOkAnd, vec_len, vec_capacity};
     ghost use Rattle.ep_link.specs.Arp.{Arp, FitsArp, IsArp, RefusesArp, RefusesArpAddresses, arp_bytes, arp_len};
     ghost use Rattle.ep_link.specs.ArpSlices.{arp_of};
 
@@ -225,10 +225,13 @@ impl ArpPacket {
         bytes
     }
 
-    /// Appends the packet's bytes. A refusal leaves the buffer as it was.
+    /// Appends the packet's bytes. A refusal leaves the buffer as it was, and comes only where the buffer would have to
+    /// grow.
     pub fn write(&self, buf: &mut Vec<u8>) -> Result<(), AllocError>
         ensures ok { OnOk result (buf.new.items ≡ buf.old.items ++ arp_bytes (arp_of self.now)) }
         ensures err { OnErr result (buf.new.items ≡ buf.old.items) }
+        ensures full { OnErr result (vec_capacity buf.old < vec_len buf.old + length (arp_bytes (arp_of self.now))) }
+        ensures capacity { vec_capacity buf.old ≤ vec_capacity buf.new }
         ensures fits { FitsArp (arp_of self.now) }
     {
         buf.extend_from_slice(self.to_bytes().as_slice())

@@ -1,6 +1,6 @@
 //! The header of a Linux cooked capture (SLL v1).
 
-ghost use Rattle.std.specs.Prelude.{◌≡◌, length, ◌++◌, [], IfOk, IfErr, OnOk, OnErr, IsOkAnd, List, ℕ};
+ghost use Rattle.std.specs.Prelude.{◌≡◌, ◌++◌, ◌+◌, ◌<◌, ◌≤◌, length, [], IfOk, IfErr, OnOk, OnErr, IsOkAnd, List, ℕ, vec_len, vec_capacity};
 ghost use Rattle.ep_base.specs.Tables.{Parts, parts_of};
 ghost use Rattle.ep_link.specs.LinuxSll.{linux_sll_bytes, IsLinuxSll, RefusesLinuxSll};
 
@@ -67,10 +67,13 @@ impl LinuxSllHeader {
         ]
     }
 
-    /// Appends the header's bytes. A refusal leaves the buffer as it was.
+    /// Appends the header's bytes. A refusal leaves the buffer as it was, and comes only where the buffer would have to
+    /// grow.
     pub fn write(&self, buf: &mut Vec<u8>) -> Result<(), AllocError>
         ensures ok { OnOk result (buf.new.items ≡ buf.old.items ++ linux_sll_bytes self.now) }
         ensures err { OnErr result (buf.new.items ≡ buf.old.items) }
+        ensures full { OnErr result (vec_capacity buf.old < vec_len buf.old + length (linux_sll_bytes self.now)) }
+        ensures capacity { vec_capacity buf.old ≤ vec_capacity buf.new }
     {
         buf.extend_from_slice(&self.to_bytes())
     }

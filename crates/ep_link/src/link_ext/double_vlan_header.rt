@@ -1,6 +1,6 @@
 //! Two VLAN tags, one behind the other (IEEE 802.1Q, 9.6).
 
-ghost use Rattle.std.specs.Prelude.{◌≡◌, ◌++◌, [], IfOk, IfErr, OnOk, OnErr, IsOkAnd, List, ℕ};
+ghost use Rattle.std.specs.Prelude.{◌≡◌, ◌++◌, ◌+◌, ◌<◌, ◌≤◌, [], IfOk, IfErr, OnOk, OnErr, IsOkAnd, List, ℕ, length, vec_len, vec_capacity};
 ghost use Rattle.ep_base.specs.Tables.{Parts, parts_of};
 ghost use Rattle.ep_link.specs.Vlan.{double_vlan_bytes, IsDoubleVlan, RefusesDoubleVlan};
 
@@ -60,10 +60,13 @@ impl DoubleVlanHeader {
         [o0, o1, o2, o3, i0, i1, i2, i3]
     }
 
-    /// Appends the bytes of the tags. A refusal leaves the buffer as it was.
+    /// Appends the bytes of the tags. A refusal leaves the buffer as it was, and comes only where the buffer would have
+    /// to grow.
     pub fn write(&self, buf: &mut Vec<u8>) -> Result<(), AllocError>
         ensures ok { OnOk result (buf.new.items ≡ buf.old.items ++ double_vlan_bytes self.now) }
         ensures err { OnErr result (buf.new.items ≡ buf.old.items) }
+        ensures full { OnErr result (vec_capacity buf.old < vec_len buf.old + length (double_vlan_bytes self.now)) }
+        ensures capacity { vec_capacity buf.old ≤ vec_capacity buf.new }
     {
         buf.extend_from_slice(&self.to_bytes())
     }

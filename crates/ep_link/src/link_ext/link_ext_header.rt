@@ -1,6 +1,6 @@
 //! The tag of a link extension.
 
-ghost use Rattle.std.specs.Prelude.{◌≡◌, ◌≤◌, ◌++◌, length, OnOk, OnErr};
+ghost use Rattle.std.specs.Prelude.{◌≡◌, ◌≤◌, ◌++◌, ◌+◌, ◌<◌, length, OnOk, OnErr, vec_len, vec_capacity};
 ghost use Rattle.ep_link.specs.LinkExtensions.{link_ext_bytes, link_ext_header_len, link_ext_next_type};
 
 use crate::link_ext::{MacsecHeader, SingleVlanHeader};
@@ -74,10 +74,13 @@ impl LinkExtHeader {
         }
     }
 
-    /// Appends the tag's bytes. A refusal leaves the buffer as it was.
+    /// Appends the tag's bytes. A refusal leaves the buffer as it was, and comes only where the buffer would have to
+    /// grow.
     pub fn write(&self, buf: &mut Vec<u8>) -> Result<(), AllocError>
         ensures ok { OnOk result (buf.new.items ≡ buf.old.items ++ link_ext_bytes self.now) }
         ensures err { OnErr result (buf.new.items ≡ buf.old.items) }
+        ensures full { OnErr result (vec_capacity buf.old < vec_len buf.old + length (link_ext_bytes self.now)) }
+        ensures capacity { vec_capacity buf.old ≤ vec_capacity buf.new }
     {
         match self {
             LinkExtHeader::Vlan(header) => header.write(buf),

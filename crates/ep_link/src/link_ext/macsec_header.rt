@@ -1,6 +1,6 @@
 //! A MACsec tag (IEEE 802.1AE, 9).
 
-ghost use Rattle.std.specs.Prelude.{◌≡◌, ◌≤◌, ◌++◌, IfOk, IfErr, OnOk, OnErr, IsOkAnd, List, ℕ, length};
+ghost use Rattle.std.specs.Prelude.{◌≡◌, ◌≤◌, ◌++◌, ◌+◌, ◌<◌, IfOk, IfErr, OnOk, OnErr, IsOkAnd, List, ℕ, length, vec_len, vec_capacity};
 ghost use Rattle.ep_link.specs.Macsec.{IsMacsecHeader, RefusesMacsecHeader, macsec_bytes};
 ghost use Rattle.ep_link.specs.Macsec.{macsec_header_len, ptype_type, sci_bytes, ptype_bytes};
 
@@ -93,10 +93,13 @@ impl MacsecHeader {
         bytes
     }
 
-    /// Appends the tag's bytes. A refusal leaves the buffer as it was.
+    /// Appends the tag's bytes. A refusal leaves the buffer as it was, and comes only where the buffer would have to
+    /// grow.
     pub fn write(&self, buf: &mut Vec<u8>) -> Result<(), AllocError>
         ensures ok { OnOk result (buf.new.items ≡ buf.old.items ++ macsec_bytes self.now) }
         ensures err { OnErr result (buf.new.items ≡ buf.old.items) }
+        ensures full { OnErr result (vec_capacity buf.old < vec_len buf.old + length (macsec_bytes self.now)) }
+        ensures capacity { vec_capacity buf.old ≤ vec_capacity buf.new }
     {
         buf.extend_from_slice(self.to_bytes().as_slice())
     }

@@ -1,6 +1,6 @@
 //! One VLAN tag or two (IEEE 802.1Q, 9.6).
 
-ghost use Rattle.std.specs.Prelude.{◌≡◌, ◌++◌, OnOk, OnErr, length};
+ghost use Rattle.std.specs.Prelude.{◌≡◌, ◌++◌, ◌+◌, ◌<◌, ◌≤◌, OnOk, OnErr, length, vec_len, vec_capacity};
 ghost use Rattle.ep_link.specs.Vlan.{vlan_tags_bytes};
 
 use crate::link_ext::{DoubleVlanHeader, SingleVlanHeader};
@@ -41,10 +41,13 @@ impl VlanHeader {
         bytes
     }
 
-    /// Appends the bytes of the tags. A refusal leaves the buffer as it was.
+    /// Appends the bytes of the tags. A refusal leaves the buffer as it was, and comes only where the buffer would have
+    /// to grow.
     pub fn write(&self, buf: &mut Vec<u8>) -> Result<(), AllocError>
         ensures ok { OnOk result (buf.new.items ≡ buf.old.items ++ vlan_tags_bytes self.now) }
         ensures err { OnErr result (buf.new.items ≡ buf.old.items) }
+        ensures full { OnErr result (vec_capacity buf.old < vec_len buf.old + length (vlan_tags_bytes self.now)) }
+        ensures capacity { vec_capacity buf.old ≤ vec_capacity buf.new }
     {
         match self {
             VlanHeader::Single(tag) => tag.write(buf),

@@ -4,7 +4,7 @@ use crate::err::{HeadersWriteError, NetSetNextHeaderError, ip, ipv4_exts, ipv6_e
 use crate::*;
 use ep_base::err::{ValueTooBigError, ValueType};
 use ep_base::{IpFragOffset, Ipv4Dscp, Ipv4Ecn};
-use ep_ext::{IpAuthHeader, Ipv6FragmentHeader, Ipv6RawExtHeader};
+use ep_ext::{IpAuthHeader, Ipv6FragmentHeader, Ipv6RawExtHeader, Ipv6RoutingExtensions};
 use ep_link::{ArpHardwareId, ArpOperation};
 use std::test::Fail;
 
@@ -125,6 +125,38 @@ fn read_back(rt: HostRuntime) -> Result<(), Fail> {
         again.extend_from_slice(payload)?;
         assert_eq!(rt; again.as_slice(), expected);
     }
+    Ok(())
+}
+
+#[test]
+fn longest(rt: HostRuntime) -> Result<(), Fail> {
+    let options = Ipv6RawExtHeader::new_raw(IpNumber(255), &[7; 2046]).ok();
+    let routing = Ipv6RawExtHeader::new_raw(IpNumber(255), &[5; 2046])?;
+    let fragment = Ipv6FragmentHeader {
+        next_header: IpNumber(255),
+        fragment_offset: IpFragOffset::ZERO,
+        more_fragments: false,
+        identification: 7,
+    };
+    let extensions = Ipv6Extensions {
+        hop_by_hop_options: options.clone()?,
+        destination_options: options.clone()?,
+        routing: Some(Ipv6RoutingExtensions {
+            routing,
+            final_destination_options: options,
+        }),
+        fragment: Some(fragment),
+        auth: IpAuthHeader::new(IpNumber(255), 2, 3, &[9; 1016]).ok(),
+    };
+    let mut headers = IpHeaders::Ipv6(Ipv6Header::default(), extensions);
+    headers.set_next_headers(IpNumber::UDP);
+    headers.set_payload_len(0)?;
+    assert_eq!(rt; headers.header_len(), IpHeaders::MAX_LEN);
+    let mut bytes = Vec::new(rt.alloc());
+    headers.write(&mut bytes)?;
+    assert_eq!(rt; bytes.len(), IpHeaders::MAX_LEN);
+    let (read, _, payload) = IpHeaders::read_from_slice(&bytes)?;
+    assert!(rt; read == headers && payload.is_empty());
     Ok(())
 }
 

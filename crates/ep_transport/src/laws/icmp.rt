@@ -1,6 +1,6 @@
 //! What holds of every list of bytes that may be a message of ICMP or ICMPv6.
 
-ghost use Rattle.std.specs.Prelude.{◌≡◌, ◌%◌, ◌++◌, ℕ, [], ◌∷◌, List, length};
+ghost use Rattle.std.specs.Prelude.{◌≡◌, ◌%◌, ◌++◌, ◌↔◌, ℕ, IsTrue, [], ◌∷◌, List, length};
 ghost use Rattle.ep_base.specs.Bytes.{AreBytes};
 ghost use Rattle.ep_base.specs.Checksum.{ones_sum, checksum_of};
 ghost use Rattle.ep_base.specs.Tables.{IsDecided, parts_of};
@@ -10,8 +10,20 @@ ghost use Rattle.ep_transport.specs.declared.icmpv6.TheConstants as v6;
 ghost use Rattle.ep_transport.specs.declared.icmpv6_header.Icmpv6Header.{Icmpv6Header};
 ghost use Rattle.ep_transport.specs.Icmpv4.{EndsIcmpv4, FitsIcmpv4, IsIcmpv4, RefusesIcmpv4, icmpv4_bytes, icmpv4_message};
 ghost use Rattle.ep_transport.specs.Icmpv6.{FitsIcmpv6, IsIcmpv6, RefusesIcmpv6, icmpv6_bytes, icmpv6_message};
+ghost use Rattle.ep_transport.specs.Icmpv4Slices.{icmpv4_slice_bytes};
+ghost use Rattle.ep_transport.specs.Icmpv6Slices.{icmpv6_slice_bytes};
+ghost use Rattle.ep_transport.specs.declared.icmp_echo_header.IcmpEchoHeader.{IcmpEchoHeader};
+ghost use Rattle.ep_transport.specs.declared.icmpv4.timestamp_message.TimestampMessage.{TimestampMessage};
+ghost use Rattle.ep_transport.specs.declared.icmpv4.time_exceeded_code.TimeExceededCode.{TimeExceededCode as Exceeded4};
+ghost use Rattle.ep_transport.specs.declared.icmpv6.time_exceeded_code.TimeExceededCode.{TimeExceededCode as Exceeded6};
+ghost use Rattle.ep_transport.specs.declared.icmpv4_type.Icmpv4Type.{Icmpv4Type};
+ghost use Rattle.ep_transport.specs.declared.icmpv6_type.Icmpv6Type.{Icmpv6Type};
 
-use crate::{Icmpv4Header, Icmpv6Header};
+use crate::icmpv4::TimestampMessage;
+use crate::{
+    IcmpEchoHeader, Icmpv4Header, Icmpv4Slice, Icmpv4Type, Icmpv6Header, Icmpv6Slice, Icmpv6Type,
+    icmpv4, icmpv6,
+};
 
 /// Bytes are a message of ICMP, of one header and payload, or are refused with one error, and never both.
 pub fn icmpv4_messages()
@@ -56,4 +68,50 @@ pub fn constants()
     ensures icmpv6 { (v6.TYPE_DEST_UNREACH ≡ 1) × (v6.TYPE_PACKET_TOO_BIG ≡ 2)
         × (v6.TYPE_TIME_EXCEEDED ≡ 3) × (v6.TYPE_PARAMETER_PROBLEM ≡ 4)
         × (v6.TYPE_ECHO_REQUEST ≡ 128) × (v6.TYPE_ECHO_REPLY ≡ 129) }
+{}
+
+/// Values and headers are equal where each field is, and slices where they show the same bytes.
+pub fn comparisons()
+    ensures echoes { (a b : IcmpEchoHeader) → IsTrue (⟦<IcmpEchoHeader as PartialEq>⟧.eq a b) ↔ (a ≡ b) }
+    ensures timestamps { (a b : TimestampMessage) → IsTrue (⟦<TimestampMessage as PartialEq>⟧.eq a b) ↔ (a ≡ b) }
+    ensures icmpv4_exceeded { (a b : Exceeded4) →
+        IsTrue (⟦<icmpv4::TimeExceededCode as PartialEq>⟧.eq a b) ↔ (a ≡ b) }
+    ensures icmpv4_types { (a b : Icmpv4Type) → IsTrue (⟦<Icmpv4Type as PartialEq>⟧.eq a b) ↔ (a ≡ b) }
+    ensures icmpv4 { (a b : Icmpv4Header) → IsTrue (⟦<Icmpv4Header as PartialEq>⟧.eq a b) ↔ (a ≡ b) }
+    ensures icmpv4_slices { (a b : Icmpv4Slice) →
+        IsTrue (⟦<Icmpv4Slice<'static> as PartialEq>⟧.eq a b) ↔ (icmpv4_slice_bytes a ≡ icmpv4_slice_bytes b) }
+    ensures icmpv6_exceeded { (a b : Exceeded6) →
+        IsTrue (⟦<icmpv6::TimeExceededCode as PartialEq>⟧.eq a b) ↔ (a ≡ b) }
+    ensures icmpv6_types { (a b : Icmpv6Type) → IsTrue (⟦<Icmpv6Type as PartialEq>⟧.eq a b) ↔ (a ≡ b) }
+    ensures icmpv6 { (a b : Icmpv6Header) → IsTrue (⟦<Icmpv6Header as PartialEq>⟧.eq a b) ↔ (a ≡ b) }
+    ensures icmpv6_slices { (a b : Icmpv6Slice) →
+        IsTrue (⟦<Icmpv6Slice<'static> as PartialEq>⟧.eq a b) ↔ (icmpv6_slice_bytes a ≡ icmpv6_slice_bytes b) }
+{}
+
+/// A clone equals its source.
+pub fn clones()
+    ensures echoes { (a b : IcmpEchoHeader) → ⟦<IcmpEchoHeader as Clone>⟧.is_clone a b → b ≡ a }
+    ensures timestamps { (a b : TimestampMessage) → ⟦<TimestampMessage as Clone>⟧.is_clone a b → b ≡ a }
+    ensures icmpv4_exceeded { (a b : Exceeded4) → ⟦<icmpv4::TimeExceededCode as Clone>⟧.is_clone a b → b ≡ a }
+    ensures icmpv4_types { (a b : Icmpv4Type) → ⟦<Icmpv4Type as Clone>⟧.is_clone a b → b ≡ a }
+    ensures icmpv4 { (a b : Icmpv4Header) → ⟦<Icmpv4Header as Clone>⟧.is_clone a b → b ≡ a }
+    ensures icmpv4_slices { (a b : Icmpv4Slice) → ⟦<Icmpv4Slice<'static> as Clone>⟧.is_clone a b → b ≡ a }
+    ensures icmpv6_exceeded { (a b : Exceeded6) → ⟦<icmpv6::TimeExceededCode as Clone>⟧.is_clone a b → b ≡ a }
+    ensures icmpv6_types { (a b : Icmpv6Type) → ⟦<Icmpv6Type as Clone>⟧.is_clone a b → b ≡ a }
+    ensures icmpv6 { (a b : Icmpv6Header) → ⟦<Icmpv6Header as Clone>⟧.is_clone a b → b ≡ a }
+    ensures icmpv6_slices { (a b : Icmpv6Slice) → ⟦<Icmpv6Slice<'static> as Clone>⟧.is_clone a b → b ≡ a }
+{}
+
+/// A clone takes no memory, and so is there.
+pub fn clones_succeed()
+    ensures echoes { (a : IcmpEchoHeader) → ⟦<IcmpEchoHeader as Clone>⟧.is_infallible a }
+    ensures timestamps { (a : TimestampMessage) → ⟦<TimestampMessage as Clone>⟧.is_infallible a }
+    ensures icmpv4_exceeded { (a : Exceeded4) → ⟦<icmpv4::TimeExceededCode as Clone>⟧.is_infallible a }
+    ensures icmpv4_types { (a : Icmpv4Type) → ⟦<Icmpv4Type as Clone>⟧.is_infallible a }
+    ensures icmpv4 { (a : Icmpv4Header) → ⟦<Icmpv4Header as Clone>⟧.is_infallible a }
+    ensures icmpv4_slices { (a : Icmpv4Slice) → ⟦<Icmpv4Slice<'static> as Clone>⟧.is_infallible a }
+    ensures icmpv6_exceeded { (a : Exceeded6) → ⟦<icmpv6::TimeExceededCode as Clone>⟧.is_infallible a }
+    ensures icmpv6_types { (a : Icmpv6Type) → ⟦<Icmpv6Type as Clone>⟧.is_infallible a }
+    ensures icmpv6 { (a : Icmpv6Header) → ⟦<Icmpv6Header as Clone>⟧.is_infallible a }
+    ensures icmpv6_slices { (a : Icmpv6Slice) → ⟦<Icmpv6Slice<'static> as Clone>⟧.is_infallible a }
 {}

@@ -4,8 +4,8 @@ use Rattle.ep_base.specs.declared.err.len_error.LenError.{LenError}
 use Rattle.ep_transport.proofs.TransportPlaces.{at_start, transport_start}
 use Rattle.ep_packet.proofs.sliced_packet.slice_transport.Goals as goal
 
-pub transport_error-requires : goal.transport_error-requires
-transport_error-requires c =
+pub refusal_in-requires : goal.refusal_in-requires
+refusal_in-requires c =
     let error = c.in-Err-Len in
     let payload = c.args.payload.now in
     omega (

@@ -1,5 +1,6 @@
-use Rattle.std.proofs.Common.{◌++◌, take, drop, refl}
+use Rattle.std.proofs.Common.{◌++◌, take, drop, refl, arith}
 use Rattle.std.specs.Int.{w16, to_be_bytes}
+use Rattle.std.proofs.lemmas.List.{length-take}
 use Rattle.ep_transport.specs.Tcp.{tcp_bytes}
 use Rattle.ep_transport.proofs.SumLemmas.{filled, filled_no_zero}
 use Rattle.ep_transport.proofs.laws.checksums.Goals as goal
@@ -12,3 +13,7 @@ returns-clause-udp c = λ front header payload even.
 pub returns-clause-tcp : goal.returns-clause-tcp
 returns-clause-tcp c = λ front header payload even.
     filled front (take 16 (tcp_bytes header)) (drop 18 (tcp_bytes header ++ payload)) even refl
+
+pub returns-clause-segment_bytes : goal.returns-clause-segment_bytes
+returns-clause-segment_bytes c = λ front bytes even long.
+    filled front (take 16 bytes) (drop 18 bytes) even (omega (arith, length-take 16 bytes, long))

@@ -1,11 +1,13 @@
-use Rattle.std.proofs.Common.{◌≡◌, List, [], ◌∷◌, ◌++◌, None, Err, sym, ap, subst, ◌∙◌}
+use Rattle.std.proofs.Common.{◌≡◌, ◌+◌, ◌<◌, suc, List, [], ◌∷◌, ◌++◌, length, length-append, vec_len, vec_capacity, None, Err, refl, sym, ap, subst, ◌∙◌, arith}
 use Rattle.std.proofs.lemmas.List.{append-nil}
 use Rattle.std.specs.Option.{option_map}
 use Rattle.ep_base.specs.declared.err.ipv6_exts.HeaderWriteError.TheVariants as write_error
-use Rattle.ep_ext.specs.ExtensionParts.{ExtensionPart}
+use Rattle.ep_ext.specs.ExtensionParts.{ExtensionPart, part_next}
+use Rattle.ep_ext.specs.Chains.{parts_bytes}
 use Rattle.ep_ext.specs.Ipv6Chains.{RefusesWalk, missing_number, extensions_of}
-use Rattle.ep_ext.specs.Walks.{no_marks, header_ref_part, header_at}
-use Rattle.ep_ext.proofs.WalkLemmas.{WalkedBy, walk_start, walk_more, walk_fewer, walk_end, written_more, fit_more, one_walk, one_walk_refusal, walks_not_refused, on_ok}
+use Rattle.ep_ext.specs.Walks.{no_marks, marked, marks_left, header_ref_part, header_at}
+use Rattle.ep_ext.proofs.WalkLemmas.{WalkedBy, walk_start, walk_more, walk_fewer, walk_end, written_more, fit_more, one_walk, one_walk_refusal, walks_not_refused, no_room, on_ok, on_err}
+use Rattle.ep_ext.proofs.WalkLaws.{walk_there}
 use Rattle.ep_ext.proofs.ipv6_exts.Ipv6Extensions.write.Goals as goal
 
 pub returns-in-Err-clause-walk : goal.returns-in-Err-clause-walk
@@ -34,6 +36,7 @@ loop-header-init c =
           (walk_start c.args.self.now c.args.first.0);
       fit = tt;
       written = sym (append-nil c.args.buf.now.items);
+      capacity = omega arith;
     }
 
 pub returns-then-is_err-clause-walk : goal.returns-then-is_err-clause-walk
@@ -43,6 +46,40 @@ returns-then-is_err-clause-walk c =
       (λ refused. absurd (walks_not_refused c.args.self.now c.args.first.0 walks.0 c.in_default.field-0.0
           error walks.1 refused)),
       (λ same. absurd (cc)),
+    )
+
+-- a header of the walk had no room, and so there is none for all of them
+pub returns-then-is_err-clause-full : goal.returns-then-is_err-clause-full
+returns-then-is_err-clause-full c =
+    let e = c.args.self.now in
+    let first = c.args.first.0 in
+    let inv = c.loop-header.invariant in
+    let part = header_ref_part c.in-Some.header in
+    let new = marked c.loop-header.marks part in
+    let more = walk_more e first inv.parts c.loop-header.number.0 c.loop-header.marks part (part_next part) new
+    inv.by c.in-Some.ensures refl refl in
+    let front = inv.parts ++ part ∷ [] in
+    let behind = walk_there (suc (marks_left new)) e more.taken (extensions_of front) new (part_next part)
+    (omega arith) more.is_marked in
+    let walks = c.in_default.ensures.ok in
+    let same = one_walk e [] first walks.0 (front ++ behind.0) c.in_default.field-0.0 behind.1 walks.1.0
+    (more.walk behind.0 behind.1 behind.2) in
+    let start = c.args.buf.now in
+    let full = on_err c.write.result _ (sym c.is_err.ensures.value ∙ c.if-is_err.true) c.write.ensures.full in
+    let size : vec_len c.loop-header.buf ≡ vec_len start + length (parts_bytes inv.parts) = omega (
+      arith,
+      c.loop-header.buf.ok.0,
+      start.ok.0,
+      ap length inv.written,
+      length-append start.items (parts_bytes inv.parts),
+    ) in
+    λ wanting. (
+      walks.0,
+      c.in_default.field-0.0,
+      walks.1,
+      subst (λ (p : List ExtensionPart). vec_capacity start < vec_len start + length (parts_bytes p)) (sym same.0)
+          (no_room (vec_capacity start) (vec_len start) (vec_capacity c.loop-header.buf) (vec_len c.loop-header.buf)
+          inv.parts part behind.0 inv.capacity size full),
     )
 
 pub loop-header-smaller : goal.loop-header-smaller
@@ -63,6 +100,7 @@ loop-header-preserved c =
       written = written_more c.args.buf.now.items c.loop-header.buf.items c.write.new.buf.items inv.parts part
           inv.written
           (on_ok c.write.result _ (sym c.is_err.ensures.value ∙ c.if-is_err.false) c.write.ensures.ok);
+      capacity = omega (arith, inv.capacity, c.write.ensures.capacity);
     }
 
 pub returns-clause-ok : goal.returns-clause-ok

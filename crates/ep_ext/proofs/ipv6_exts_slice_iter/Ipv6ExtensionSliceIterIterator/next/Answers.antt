@@ -12,7 +12,7 @@ returns-then-not-is_extension-clause-steps c =
     let bytes = c.args.self.now.rest.now in
     let none : is_ipv6_extension number ≡ false = sym c.is_extension.ensures ∙ c.if-not-is_extension.true in
     let empty = shown_none number bytes (no_kind_shown number bytes none) in
-    (empty, empty, refl)
+    (empty, empty, refl, refl)
 
 pub returns-in-Ok-clause-steps : goal.returns-in-Ok-clause-steps
 returns-in-Ok-clause-steps c =
@@ -25,6 +25,7 @@ returns-in-Ok-clause-steps c =
     let rest = rest_of bytes (extension_slice_bytes c.in-Ok.part) ok.0 n ok.1 (ap length c.slice.ensures) in (
       shown_next number bytes part ok.0 ok.2 ∙ (λ i. part ∷ shown_parts (next i) (sym rest i)),
       ok.1 ∙ (λ i. extension_slice_bytes c.in-Ok.part ++ sym rest i),
+      c.next_header-self.ensures,
     )
 
 pub returns-in-Ok-clause-goes : goal.returns-in-Ok-clause-goes
@@ -47,4 +48,4 @@ returns-in-Err-clause-steps c =
     let bytes = c.args.self.now.rest.now in
     let kind : is_ipv6_extension number ≡ true = sym c.is_extension.ensures ∙ c.if-not-is_extension.false in
     let empty = shown_none number bytes (refused_shown number bytes _ kind c.in-Err.ensures.err) in
-    (empty, empty, refl)
+    (empty, empty, refl, refl)

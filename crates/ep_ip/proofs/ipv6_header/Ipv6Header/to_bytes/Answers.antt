@@ -4,9 +4,9 @@ use Rattle.ep_base.proofs.BytesLemmas.{elements}
 use Rattle.ep_ip.proofs.Ipv6Lemmas.{two_addresses}
 use Rattle.ep_ip.proofs.ipv6_header.Ipv6Header.to_bytes.Goals as goal
 
-pub returns : goal.returns
+pub returns-clause-bytes : goal.returns-clause-bytes
 unfolding elements
-returns c =
+returns-clause-bytes c =
     let h = c.args.self.now in
     let first = 2 ^ 28 * 6 + 2 ^ 20 * h.traffic_class + h.flow_label in
     let word : 0x60000000 + 0x100000 * h.traffic_class + c.value.result ≡ first =

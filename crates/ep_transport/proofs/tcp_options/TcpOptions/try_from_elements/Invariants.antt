@@ -1,10 +1,12 @@
 use Rattle.std.proofs.Common.{◌≡◌, ◌-◌, ◌^◌, ◌≤◌, length, min, take}
-use Rattle.ep_transport.specs.TcpOptionBytes.{options_bytes}
+use Rattle.std.specs.List.{All}
+use Rattle.ep_transport.specs.TcpOptionBytes.{FitsOption, options_bytes}
 use Rattle.ep_transport.proofs.tcp_options.TcpOptions.try_from_elements.Given as goal
 
--- the options so far are counted, and are copied as long as there is room
+-- the options so far are counted and fit, and are copied as long as there is room
 abbrev pub invariant-loop-element : goal.invariant-loop-element
 invariant-loop-element l = record {
   counted : l.len ≡ min (length (options_bytes (take l.element-index l.elements))) (2 ^ 64 - 1);
   copied : l.len ≤ 40 → l.bytes.items ≡ options_bytes (take l.element-index l.elements);
+  fits : All FitsOption (take l.element-index l.elements);
 }

@@ -1,0 +1,53 @@
+//! What the comparisons and clones of headers and slices look at, each law the contract of a function that does nothing.
+
+ghost use Rattle.std.specs.Prelude.{◌≡◌, ◌↔◌, IsTrue};
+ghost use Rattle.ep_base.specs.Comparisons.{TellsSame, ClonesExactly};
+ghost use Rattle.ep_ip.specs.declared.ip_slice.IpSlice.{IpSlice};
+ghost use Rattle.ep_ip.specs.declared.ipv4_header_slice.Ipv4HeaderSlice.{Ipv4HeaderSlice};
+ghost use Rattle.ep_ip.specs.declared.ipv4_slice.Ipv4Slice.{Ipv4Slice};
+ghost use Rattle.ep_ip.specs.declared.ipv6_header_slice.Ipv6HeaderSlice.{Ipv6HeaderSlice};
+ghost use Rattle.ep_ip.specs.declared.ipv6_slice.Ipv6Slice.{Ipv6Slice};
+ghost use Rattle.ep_ip.specs.IpSlices.{ShowSameIp};
+ghost use Rattle.ep_ip.specs.Ipv4Slices.{ShowSameIpv4, ipv4_header_slice_bytes};
+ghost use Rattle.ep_ip.specs.Ipv6Slices.{ShowSameIpv6, ipv6_header_slice_bytes};
+
+use crate::{
+    BadOptionsLen, IpSlice, Ipv4Header, Ipv4HeaderSlice, Ipv4Options, Ipv4Slice, Ipv6Header,
+    Ipv6HeaderSlice, Ipv6Slice,
+};
+
+/// Headers are equal where each field is, options by their bytes. Slices are equal where they show the same.
+pub fn equalities()
+    ensures ipv4_options { TellsSame ⟦<Ipv4Options as PartialEq>⟧.eq }
+    ensures options_error { TellsSame ⟦<BadOptionsLen as PartialEq>⟧.eq }
+    ensures ipv4_header { TellsSame ⟦<Ipv4Header as PartialEq>⟧.eq }
+    ensures ipv4_header_slice { (a b : Ipv4HeaderSlice) → IsTrue (⟦<Ipv4HeaderSlice<'static> as PartialEq>⟧.eq a b)
+        ↔ (ipv4_header_slice_bytes a ≡ ipv4_header_slice_bytes b) }
+    ensures ipv4_slice { (a b : Ipv4Slice) → IsTrue (⟦<Ipv4Slice<'static> as PartialEq>⟧.eq a b) ↔ ShowSameIpv4 a b }
+    ensures ipv6_header { TellsSame ⟦<Ipv6Header as PartialEq>⟧.eq }
+    ensures ipv6_header_slice { (a b : Ipv6HeaderSlice) → IsTrue (⟦<Ipv6HeaderSlice<'static> as PartialEq>⟧.eq a b)
+        ↔ (ipv6_header_slice_bytes a ≡ ipv6_header_slice_bytes b) }
+    ensures ipv6_slice { (a b : Ipv6Slice) → IsTrue (⟦<Ipv6Slice<'static> as PartialEq>⟧.eq a b) ↔ ShowSameIpv6 a b }
+    ensures ip_slice { (a b : IpSlice) → IsTrue (⟦<IpSlice<'static> as PartialEq>⟧.eq a b) ↔ ShowSameIp a b }
+{
+    ep_base::laws::equalities();
+    ep_ext::laws::comparisons();
+}
+
+/// A clone is there whatever memory there is, and is the same as its source.
+pub fn clones()
+    ensures ipv4_options { ClonesExactly ⟦<Ipv4Options as Clone>⟧.is_infallible ⟦<Ipv4Options as Clone>⟧.is_clone }
+    ensures options_error { ClonesExactly ⟦<BadOptionsLen as Clone>⟧.is_infallible ⟦<BadOptionsLen as Clone>⟧.is_clone }
+    ensures ipv4_header { ClonesExactly ⟦<Ipv4Header as Clone>⟧.is_infallible ⟦<Ipv4Header as Clone>⟧.is_clone }
+    ensures ipv4_header_slice { ClonesExactly
+        ⟦<Ipv4HeaderSlice<'static> as Clone>⟧.is_infallible ⟦<Ipv4HeaderSlice<'static> as Clone>⟧.is_clone }
+    ensures ipv4_slice { ClonesExactly
+        ⟦<Ipv4Slice<'static> as Clone>⟧.is_infallible ⟦<Ipv4Slice<'static> as Clone>⟧.is_clone }
+    ensures ipv6_header { ClonesExactly ⟦<Ipv6Header as Clone>⟧.is_infallible ⟦<Ipv6Header as Clone>⟧.is_clone }
+    ensures ipv6_header_slice { ClonesExactly
+        ⟦<Ipv6HeaderSlice<'static> as Clone>⟧.is_infallible ⟦<Ipv6HeaderSlice<'static> as Clone>⟧.is_clone }
+    ensures ipv6_slice { ClonesExactly
+        ⟦<Ipv6Slice<'static> as Clone>⟧.is_infallible ⟦<Ipv6Slice<'static> as Clone>⟧.is_clone }
+    ensures ip_slice { ClonesExactly
+        ⟦<IpSlice<'static> as Clone>⟧.is_infallible ⟦<IpSlice<'static> as Clone>⟧.is_clone }
+{}
