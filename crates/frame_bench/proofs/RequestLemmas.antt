@@ -1,15 +1,16 @@
--- The words at the front of a line.
+-- What a line asks whose first words are known.
 use Rattle.std.proofs.Common.{◌≡◌, ◌≢◌, ℕ, List, [], ◌∷◌, ◌++◌, Option, Some}
-use Rattle.std.proofs.Common.{None, get_or, refl, ap, ◌∙◌, sym, arith, Bor}
+use Rattle.std.proofs.Common.{None, get_or, refl, ap, ◌∙◌, sym, subst, arith, Bor}
 use Rattle.std.specs.Prelude.{IfSome, IfNone, MatchOption}
 use Rattle.std.proofs.lemmas.List.{append_cancel_left}
 use Rattle.std.specs.Prelude.{codes}
-use Rattle.frame_bench.specs.Lines.{space}
-use Rattle.frame_bench.specs.Requests.{Asks, IsHex, entry_word}
+use Rattle.frame_bench.specs.Lines.{space, words}
+use Rattle.frame_bench.specs.Requests.{Asks, IsHex, IsNumber, entry_word}
 use Rattle.frame_bench.specs.declared.requests.Entry.{Entry}
 use Rattle.frame_bench.specs.declared.requests.Entry.TheVariants.{Ethernet, LinuxSll, Ip}
 use Rattle.frame_bench.specs.declared.requests.Request.{Request}
-use Rattle.frame_bench.specs.declared.requests.Request.TheVariants.{Slice}
+use Rattle.frame_bench.specs.declared.requests.Request.TheVariants.{Slice, Fragment, Drop}
+use Rattle.frame_bench.proofs.TextLemmas.{NumberAt, number_at_one}
 
 -- behind the word comes a space or does not
 pub behind_word : (text word rest : List ℕ) (o : Option (Bor (List ℕ))) → text ≡ word ++ rest
@@ -20,11 +21,11 @@ behind_word text word rest None parts refused =
     (tt, λ r e. refused r (append_cancel_left word rest (space ∷ r) (sym parts ∙ e)))
 
 -- texts with other first bytes are not the same
-other_word : {A : Type 0} (x y : ℕ) (text rest : List ℕ) → x ∷ text ≡ y ∷ rest → x ≢ y → A
+pub other_word : {A : Type 0} (x y : ℕ) (text rest : List ℕ) → x ∷ text ≡ y ∷ rest → x ≢ y → A
 other_word x y text rest same other = absurd (other (ap (λ t. get_or t 0 0) same))
 
 -- a text begins with the word of one entry
-same_entry : (entry other : Entry) (text rest : List ℕ)
+pub same_entry : (entry other : Entry) (text rest : List ℕ)
     → entry_word entry ++ space ∷ text ≡ entry_word other ++ space ∷ rest
     → (entry ≡ other) × (text ≡ rest)
 same_entry Ethernet Ethernet text rest same = (refl, append_cancel_left (codes "eth" ++ space ∷ []) text rest same)
@@ -37,13 +38,118 @@ same_entry LinuxSll Ip text rest same = other_word 115 105 _ _ same (omega arith
 same_entry Ip Ethernet text rest same = other_word 105 101 _ _ same (omega arith)
 same_entry Ip LinuxSll text rest same = other_word 105 115 _ _ same (omega arith)
 
--- a line that begins with these words asks nothing else
-pub asked_again : (line rest text : List ℕ) (entry : Entry) → line ≡ codes "slice" ++ space ∷ rest
-    → rest ≡ entry_word entry ++ space ∷ text
-    → (request : Request) (said : List ℕ) → Asks line request said → (Slice entry ≡ request) × IsHex text said
-asked_again line rest text entry slice word (Slice other) said (again, parts, is) =
-    let same = same_entry entry other text again
-    (append_cancel_left (codes "slice" ++ space ∷ []) (entry_word entry ++ space ∷ text)
-    (entry_word other ++ space ∷ again)
-    (ap (λ t. codes "slice" ++ space ∷ t) (sym word) ∙ sym slice ∙ parts)) in
-    (ap (λ (e : Entry). Slice e) same.0, rw (same.1) is)
+-- ---- the words of a line, one by one
+
+-- it is this request that is asked, of the bytes that the last word says
+abbrev pub AsksOf : Request → List ℕ → Request → List ℕ → Type 0
+AsksOf is text request said = (is ≡ request) × IsHex text said
+
+-- the words from the channel on
+abbrev pub AsksFromChannel : Entry → ℕ → List ℕ → Request → List ℕ → Type 0
+AsksFromChannel entry timestamp text request said =
+    (number rest : List ℕ) × (channel : ℕ) × NumberAt text number rest channel
+    × AsksOf (Fragment entry timestamp channel) rest request said
+
+-- the words from the timestamp on
+abbrev pub AsksFromTimestamp : Entry → List ℕ → Request → List ℕ → Type 0
+AsksFromTimestamp entry text request said =
+    (time rest : List ℕ) × (timestamp : ℕ) × NumberAt text time rest timestamp
+    × AsksFromChannel entry timestamp rest request said
+
+-- what the lines with these first words ask
+pub asked_slice : (rest : List ℕ) (request : Request) (said : List ℕ)
+    → Asks (codes "slice" ++ space ∷ rest) request said
+    → (entry : Entry) × (text : List ℕ) × (rest ≡ entry_word entry ++ space ∷ text)
+    × AsksOf (Slice entry) text request said
+asked_slice rest (Slice entry) said (text, parts, is) = (
+  entry,
+  text,
+  append_cancel_left (codes "slice" ++ space ∷ []) rest (entry_word entry ++ space ∷ text) parts,
+  (refl, is),
+)
+asked_slice rest (Fragment entry timestamp channel) said asks = other_word 115 102 _ _ asks.3 (omega arith)
+asked_slice rest (Drop timestamp) said asks = other_word 115 100 _ _ asks.1 (omega arith)
+
+pub asked_fragment : (rest : List ℕ) (request : Request) (said : List ℕ)
+    → Asks (codes "frag" ++ space ∷ rest) request said
+    → (entry : Entry) × (text : List ℕ) × (rest ≡ entry_word entry ++ space ∷ text)
+    × AsksFromTimestamp entry text request said
+asked_fragment rest (Slice entry) said asks = other_word 102 115 _ _ asks.1 (omega arith)
+asked_fragment rest (Fragment entry timestamp channel) said (time, number, text, parts, is_time, is_number, is) = (
+  entry,
+  words (time ∷ number ∷ text ∷ []),
+  append_cancel_left (codes "frag" ++ space ∷ []) rest
+      (entry_word entry ++ space ∷ words (time ∷ number ∷ text ∷ [])) parts,
+  (
+    time,
+    words (number ∷ text ∷ []),
+    timestamp,
+    (refl, is_time),
+    (number, text, channel, (refl, is_number), (refl, is)),
+  ),
+)
+asked_fragment rest (Drop timestamp) said asks = other_word 102 100 _ _ asks.1 (omega arith)
+
+pub asked_drop : (rest : List ℕ) (request : Request) (said : List ℕ)
+    → Asks (codes "drop" ++ space ∷ rest) request said
+    → (timestamp : ℕ) × (request ≡ Drop timestamp) × IsNumber rest timestamp × (said ≡ [])
+asked_drop rest (Slice entry) said asks = other_word 100 115 _ _ asks.1 (omega arith)
+asked_drop rest (Fragment entry timestamp channel) said asks = other_word 100 102 _ _ asks.3 (omega arith)
+asked_drop rest (Drop timestamp) said (time, parts, is, none) = (
+  timestamp,
+  refl,
+  subst (λ t. IsNumber t timestamp) (sym (append_cancel_left (codes "drop" ++ space ∷ []) rest time parts)) is,
+  none,
+)
+
+-- the same where further words are known
+pub asked_slice_of : (rest text : List ℕ) (entry : Entry) → rest ≡ entry_word entry ++ space ∷ text
+    → (request : Request) (said : List ℕ) → Asks (codes "slice" ++ space ∷ rest) request said
+    → AsksOf (Slice entry) text request said
+asked_slice_of rest text entry parts request said asks =
+    let asked = asked_slice rest request said asks in
+    let same = same_entry entry asked.0 text asked.1 (sym parts ∙ asked.2) in
+    (ap (λ (e : Entry). Slice e) same.0 ∙ asked.3.0, subst (λ t. IsHex t said) (sym same.1) asked.3.1)
+
+pub asked_fragment_of : (rest text : List ℕ) (entry : Entry) → rest ≡ entry_word entry ++ space ∷ text
+    → (request : Request) (said : List ℕ) → Asks (codes "frag" ++ space ∷ rest) request said
+    → AsksFromTimestamp entry text request said
+asked_fragment_of rest text entry parts request said asks =
+    let asked = asked_fragment rest request said asks in
+    let same = same_entry entry asked.0 text asked.1 (sym parts ∙ asked.2) in
+    subst (λ (e : Entry). AsksFromTimestamp e text request said) (sym same.0)
+    (subst (λ t. AsksFromTimestamp asked.0 t request said) (sym same.1) asked.3)
+
+pub asked_from_timestamp : (text time rest : List ℕ) (timestamp : ℕ) (entry : Entry)
+    → NumberAt text time rest timestamp → (request : Request) (said : List ℕ)
+    → AsksFromTimestamp entry text request said → AsksFromChannel entry timestamp rest request said
+asked_from_timestamp text time rest timestamp entry at request said asks =
+    let same = number_at_one text time asks.0 rest asks.1 timestamp asks.2 at asks.3 in
+    subst (λ n. AsksFromChannel entry n rest request said) (sym same.2)
+    (subst (λ t. AsksFromChannel entry asks.2 t request said) (sym same.1) asks.4)
+
+pub asked_from_channel : (text number rest : List ℕ) (timestamp channel : ℕ) (entry : Entry)
+    → NumberAt text number rest channel → (request : Request) (said : List ℕ)
+    → AsksFromChannel entry timestamp text request said
+    → AsksOf (Fragment entry timestamp channel) rest request said
+asked_from_channel text number rest timestamp channel entry at request said asks =
+    let same = number_at_one text number asks.0 rest asks.1 channel asks.2 at asks.3 in
+    subst (λ n. AsksOf (Fragment entry timestamp n) rest request said) (sym same.2)
+    (subst (λ t. AsksOf (Fragment entry timestamp asks.2) t request said) (sym same.1) asks.4)
+
+-- a line with all these words asks this
+pub asks_fragment : (rest text time timed number numbered said : List ℕ) (entry : Entry) (timestamp channel : ℕ)
+    → rest ≡ entry_word entry ++ space ∷ text → NumberAt text time timed timestamp
+    → NumberAt timed number numbered channel → IsHex numbered said
+    → Asks (codes "frag" ++ space ∷ rest) (Fragment entry timestamp channel) said
+asks_fragment rest text time timed number numbered said entry timestamp channel parts at_time at_number is = (
+  time,
+  number,
+  numbered,
+  ap (λ t. codes "frag" ++ space ∷ t) parts
+      ∙ ap (λ t. codes "frag" ++ space ∷ (entry_word entry ++ space ∷ t)) at_time.0
+      ∙ ap (λ t. codes "frag" ++ space ∷ (entry_word entry ++ space ∷ (time ++ space ∷ t))) at_number.0,
+  at_time.1,
+  at_number.1,
+  is,
+)

@@ -5,10 +5,12 @@ use Rattle.std.proofs.KnownBytes.{Appends-nil, Appends-trans, Consumes-kept, Con
 use Rattle.std.specs.Prelude.{Result, Ok, Err, OnErr}
 use Rattle.std.specs.Io.KnownBytes.{Appends, Consumes, Keeps}
 use Rattle.std.proofs.lemmas.List.Elements.{All-append, All-nil}
+use Rattle.ep_defrag.specs.declared.ip_defrag_pool.IpDefragPool.{IpDefragPool}
 use Rattle.frame_bench.specs.Answers.{AreAnswers, AnswersAfter, AnswersTo, BeginsAnswersAfter, BeginsAnswersTo}
 use Rattle.frame_bench.specs.Answers.{IsAnswer, IsAnswered}
 use Rattle.frame_bench.specs.Lines.{IsWithinLine, line_feed, lines_of}
-use Rattle.frame_bench.specs.Streams.{Advances, BeginsAnswers, Moves}
+use Rattle.frame_bench.specs.PoolCalls.{HoldsLines}
+use Rattle.frame_bench.specs.Streams.{Advances, AdvancesTo, BeginsAnswers, Moves}
 use Rattle.frame_bench.specs.WatchedWords.{AppendsFront}
 use Rattle.frame_bench.proofs.LineLemmas.{lines_of-ended, lines_of-within}
 
@@ -84,6 +86,37 @@ Advances-rest before begun taken answers line rest first within = record {
       ∙ ap (λ t. first.ended ++ lines_of t) (sym (append_assoc line rest more));
   within = All-append (λ byte. byte ≢ line_feed) line rest first.within within;
 }
+
+-- the same with the pool: a line ends, none does, and nothing came
+pub AdvancesTo-line : (before : List (List ℕ)) (begun taken answers line end answer : List ℕ)
+    (pool : IpDefragPool ℕ ℕ) → (first : Advances before begun taken answers line) → IsWithinLine end
+    → IsAnswer (before ++ first.ended) (line ++ end) answer
+    → HoldsLines ((before ++ first.ended) ++ (line ++ end) ∷ []) pool
+    → AdvancesTo before begun (taken ++ (end ++ line_feed ∷ [])) (answers ++ (answer ++ line_feed ∷ [])) [] pool
+unfolding Advances-line Advances-then Advances-ended
+AdvancesTo-line before begun taken answers line end answer pool first within is held = (
+  Advances-line before begun taken answers line end answer first within is,
+  subst (λ lines. HoldsLines lines pool) (append_assoc before first.ended ((line ++ end) ∷ [])) held,
+)
+
+pub AdvancesTo-rest : (before : List (List ℕ)) (begun taken answers line rest : List ℕ) (pool : IpDefragPool ℕ ℕ)
+    → AdvancesTo before begun taken answers line pool → IsWithinLine rest
+    → AdvancesTo before begun (taken ++ rest) answers (line ++ rest) pool
+unfolding Advances-rest
+AdvancesTo-rest before begun taken answers line rest pool first within =
+    (Advances-rest before begun taken answers line rest first.0 within, first.1)
+
+pub AdvancesTo-none : (before : List (List ℕ)) (line : List ℕ) (pool : IpDefragPool ℕ ℕ) → IsWithinLine line
+    → HoldsLines before pool → AdvancesTo before line [] [] line pool
+AdvancesTo-none before line pool within held = (
+  record {
+    ended = [];
+    answered = refl;
+    parted = λ more. ap (λ t. lines_of (t ++ more)) (append-nil line);
+    within = within;
+  },
+  subst (λ lines. HoldsLines lines pool) (sym (append-nil before)) held,
+)
 
 -- the answer to a last line that no line feed ends
 pub AnswersAfter-line : (before : List (List ℕ)) (line answer : List ℕ) → 0 < length line → IsWithinLine line
@@ -181,53 +214,61 @@ module _ (answered : (before : List (List ℕ)) (input : List ℕ) → IsAnswere
 
   -- what moved begins the answers
   pub Moves-part : (line : List ℕ) (had has held holds : Option (List ℕ))
-      → Moves (λ read written. Advances [] [] read written line) had has held holds
+      (pool : IpDefragPool ℕ ℕ) → Moves (λ read written. AdvancesTo [] [] read written line pool) had has held holds
       → Moves BeginsAnswersTo had has held holds
-  Moves-part line had has held holds (read, written, consumed, appended, advances) =
-      (read, written, consumed, appended, BeginsAnswersTo-part read written line advances)
+  Moves-part line had has held holds pool (read, written, consumed, appended, advances) =
+      (read, written, consumed, appended, BeginsAnswersTo-part read written line advances.0)
 
 -- more was answered in full
-pub Moves-advanced : (line next : List ℕ) (had has left held holds then_holds : Option (List ℕ))
-    → Moves (λ read written. Advances [] [] read written line) had has held holds
-    → ((before : List (List ℕ)) → Moves (λ read written. Advances before line read written next) has left
-    holds then_holds)
-    → Moves (λ read written. Advances [] [] read written next) had left held then_holds
-Moves-advanced line next had has left held holds then_holds first more =
-    Moves-then (λ read written. Advances [] [] read written line) (λ read written. Advances [] [] read written next)
-    (λ r w p s v. Advances p.ended line s v next) (λ r s w v p q. Advances-then [] [] line next r s w v p q)
-    had has left held holds then_holds first (more first.4.ended)
+pub Moves-advanced : (line next : List ℕ) (pool next_pool : IpDefragPool ℕ ℕ)
+    (had has left held holds then_holds : Option (List ℕ))
+    → Moves (λ read written. AdvancesTo [] [] read written line pool) had has held holds
+    → ((before : List (List ℕ)) → HoldsLines before pool
+    → Moves (λ read written. AdvancesTo before line read written next next_pool) has left holds then_holds)
+    → Moves (λ read written. AdvancesTo [] [] read written next next_pool) had left held then_holds
+unfolding Advances-then
+Moves-advanced line next pool next_pool had has left held holds then_holds first more =
+    Moves-then (λ read written. AdvancesTo [] [] read written line pool)
+    (λ read written. AdvancesTo [] [] read written next next_pool)
+    (λ r w p s v. AdvancesTo p.0.ended line s v next next_pool)
+    (λ r s w v p q. (Advances-then [] [] line next r s w v p.0 q.0, q.1))
+    had has left held holds then_holds first (more first.4.0.ended first.4.1)
 
 -- more was answered in part
-pub Moves-begun : (line : List ℕ) (had has left held holds then_holds : Option (List ℕ))
-    → Moves (λ read written. Advances [] [] read written line) had has held holds
-    → ((before : List (List ℕ)) → Moves (BeginsAnswers before line) has left holds then_holds)
+pub Moves-begun : (line : List ℕ) (pool : IpDefragPool ℕ ℕ) (had has left held holds then_holds : Option (List ℕ))
+    → Moves (λ read written. AdvancesTo [] [] read written line pool) had has held holds
+    → ((before : List (List ℕ)) → HoldsLines before pool
+    → Moves (BeginsAnswers before line) has left holds then_holds)
     → Moves BeginsAnswersTo had left held then_holds
-Moves-begun line had has left held holds then_holds first more =
-    Moves-then (λ read written. Advances [] [] read written line) BeginsAnswersTo
-    (λ r w p. BeginsAnswers p.ended line) (λ r s w v p q. BeginsAnswersAfter-then [] [] line r s w v p q)
-    had has left held holds then_holds first (more first.4.ended)
+Moves-begun line pool had has left held holds then_holds first more =
+    Moves-then (λ read written. AdvancesTo [] [] read written line pool) BeginsAnswersTo
+    (λ r w p. BeginsAnswers p.0.ended line)
+    (λ r s w v p q. BeginsAnswersAfter-then [] [] line r s w v p.0 q)
+    had has left held holds then_holds first (more first.4.0.ended first.4.1)
 
 -- the last line was answered
-pub Moves-ended : (line last : List ℕ) (had has held holds then_holds : Option (List ℕ))
-    → Moves (λ read written. Advances [] [] read written line) had has held holds
-    → ((before : List (List ℕ)) → AnswersAfter before line last) → Appends holds then_holds last
-    → Moves AnswersTo had has held then_holds
-Moves-ended line last had has held holds then_holds (read, written, consumed, appended, advances) answers more = (
+pub Moves-ended : (line last : List ℕ) (pool : IpDefragPool ℕ ℕ) (had has held holds then_holds : Option (List ℕ))
+    → Moves (λ read written. AdvancesTo [] [] read written line pool) had has held holds
+    → ((before : List (List ℕ)) → HoldsLines before pool → AnswersAfter before line last)
+    → Appends holds then_holds last → Moves AnswersTo had has held then_holds
+Moves-ended line last pool had has held holds then_holds (read, written, consumed, appended, advances) answers more = (
   read,
   written ++ last,
   consumed,
   Appends-trans held holds then_holds written last appended more,
-  AnswersAfter-all [] [] read written line last advances (answers advances.ended),
+  AnswersAfter-all [] [] read written line last advances.0 (answers advances.0.ended advances.1),
 )
 
 -- the last line was answered in part
-pub Moves-ended_front : (line last : List ℕ) (had has held holds then_holds : Option (List ℕ))
-    → Moves (λ read written. Advances [] [] read written line) had has held holds
-    → ((before : List (List ℕ)) → AnswersAfter before line last) → AppendsFront holds then_holds last
-    → Moves BeginsAnswersTo had has held then_holds
-Moves-ended_front line last had has held holds then_holds (read, written, consumed, appended, advances) answers
+pub Moves-ended_front : (line last : List ℕ) (pool : IpDefragPool ℕ ℕ)
+    (had has held holds then_holds : Option (List ℕ))
+    → Moves (λ read written. AdvancesTo [] [] read written line pool) had has held holds
+    → ((before : List (List ℕ)) → HoldsLines before pool → AnswersAfter before line last)
+    → AppendsFront holds then_holds last → Moves BeginsAnswersTo had has held then_holds
+Moves-ended_front line last pool had has held holds then_holds (read, written, consumed, appended, advances) answers
     (front, rest, more, parts) =
-    let whole = AnswersAfter-all [] [] read written line last advances (answers advances.ended) in
+    let whole =
+    AnswersAfter-all [] [] read written line last advances.0 (answers advances.0.ended advances.1) in
     let regrouped : written ++ last ≡ (written ++ front) ++ rest =
     ap (λ t. written ++ t) parts ∙ sym (append_assoc written front rest) in (
       read,

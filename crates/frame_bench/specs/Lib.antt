@@ -1,5 +1,8 @@
 pub mod Lines
 pub mod Requests
+pub mod SliceReplies
+pub mod PoolCalls
+pub mod PoolReplies
 pub mod Replies
 pub mod Answers
 pub mod Streams

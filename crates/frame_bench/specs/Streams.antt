@@ -1,8 +1,10 @@
 -- What is read, what is written, and that the one answers the other.
 use Rattle.std.specs.Prelude.{◌≡◌, ℕ, List, ◌++◌, Option}
 use Rattle.std.specs.Io.KnownBytes.{Consumes, Appends}
+use Rattle.ep_defrag.specs.declared.ip_defrag_pool.IpDefragPool.{IpDefragPool}
 use Rattle.frame_bench.specs.Lines.{lines_of, IsWithinLine}
 use Rattle.frame_bench.specs.Answers.{AreAnswers, BeginsAnswersAfter}
+use Rattle.frame_bench.specs.PoolCalls.{HoldsLines}
 use Rattle.frame_bench.specs.WatchedWords.{inner_of}
 use Rattle.frame_bench.specs.declared.watched.Watched.{Watched}
 
@@ -26,6 +28,11 @@ pub record Advances (before : List (List ℕ)) (begun piece answers next : List 
   pub answered : AreAnswers before ended answers
   pub parted : (more : List ℕ) → lines_of ((begun ++ piece) ++ more) ≡ ended ++ lines_of (next ++ more)
   pub within : IsWithinLine next
+
+-- the same, and the pool then holds what is kept after all lines that ended
+abbrev pub AdvancesTo : List (List ℕ) → (begun piece answers next : List ℕ) → IpDefragPool ℕ ℕ → Type 0
+AdvancesTo before begun piece answers next pool =
+    (advances : Advances before begun piece answers next) × HoldsLines (before ++ advances.ended) pool
 
 -- as before, and the text begins the answers to the piece
 abbrev pub BeginsAnswers : List (List ℕ) → List ℕ → List ℕ → List ℕ → Type 0

@@ -4,14 +4,17 @@ ghost use Rattle.std.specs.Prelude.{ℕ, List, ◌≡◌, ◌⊎◌, ◌<◌, �
 ghost use Rattle.std.specs.Prelude.{true, length, IfNone, IfOk, IfSome, OnErr, OnOk};
 ghost use Rattle.std.specs.Io.KnownBytes.{IsAtEnd};
 ghost use Rattle.frame_bench.specs.Answers.{AnswersAfter, AnswersTo, BeginsAnswersTo};
-ghost use Rattle.frame_bench.specs.Lines.{IsWithinLine, line_feed};
-ghost use Rattle.frame_bench.specs.Streams.{Advances, BeginsAnswers, Transfers};
+ghost use Rattle.frame_bench.specs.Lines.{IsWithinLine};
+ghost use Rattle.frame_bench.specs.PoolCalls.{HoldsLines};
+ghost use Rattle.frame_bench.specs.Streams.{AdvancesTo, BeginsAnswers, Transfers};
 ghost use Rattle.frame_bench.specs.WatchedWords.{KeepsReads, has_ended, has_failed, inner_of, is_at_end, reads_left};
 
 use crate::laws;
 use crate::replies::push_line;
 use crate::run_error::RunError;
+use crate::texts::split_at_first;
 use crate::watched::Watched;
+use ep_defrag::IpDefragPool;
 use std::alloc::{AllocError, Global};
 use std::io::{Read, Write};
 
@@ -68,9 +71,11 @@ fn zeros(alloc: Global, len: usize) -> Result<Vec<u8>, AllocError>
     Ok(vec![in alloc; 0; len]?)
 }
 
-/// The line that has begun, and room for what its answer needs.
+/// The pool after the lines that have ended, the line that has begun, and room for what its answer needs.
 #[derive(Drop)]
 struct Session {
+    /// The pool. Timestamps and channels are numbers.
+    pool: IpDefragPool<u64, u64>,
     /// What came of the line so far.
     line: Vec<u8>,
     /// The bytes that a line says.
@@ -82,9 +87,11 @@ struct Session {
 impl Session {
     /// No line has begun.
     fn new(alloc: Global) -> Session
-        ensures { result.line.items ≡ [] }
+        ensures line { result.line.items ≡ [] }
+        ensures holds { HoldsLines [] result.pool }
     {
         Session {
+            pool: IpDefragPool::new(alloc),
             line: Vec::new(alloc),
             bytes: Vec::new(alloc),
             output: Vec::new(alloc),
@@ -94,14 +101,19 @@ impl Session {
     /// Takes the next piece of input, and puts together the answers to the lines that end in it.
     fn take(&mut self, piece: &[u8]) -> Result<(), AllocError>
         requires { IsWithinLine self.old.line.items }
-        ensures { OnOk result ((before : List (List ℕ)) →
-            Advances before self.old.line.items piece.now self.new.output.items self.new.line.items) }
+        ensures { OnOk result ((before : List (List ℕ)) → HoldsLines before self.old.pool →
+            AdvancesTo before self.old.line.items piece.now self.new.output.items self.new.line.items self.new.pool) }
     {
         self.output.clear();
         let mut rest = piece;
-        'lines: while let Some((end, behind)) = split_line(rest) {
+        'lines: while let Some((end, behind)) = split_at_first(rest, b'\n') {
             self.line.extend_from_slice(end)?;
-            push_line(&mut self.output, self.line.as_slice(), &mut self.bytes)?;
+            push_line(
+                &mut self.output,
+                &mut self.pool,
+                self.line.as_slice(),
+                &mut self.bytes,
+            )?;
             self.line.clear();
             rest = behind;
         }
@@ -112,25 +124,20 @@ impl Session {
     /// Puts together the answer to a last line that no line feed ended.
     fn finish(&mut self) -> Result<(), AllocError>
         requires { IsWithinLine self.old.line.items }
-        ensures { OnOk result ((before : List (List ℕ)) →
+        ensures { OnOk result ((before : List (List ℕ)) → HoldsLines before self.old.pool →
             AnswersAfter before self.old.line.items self.new.output.items) }
     {
         self.output.clear();
         if !self.line.is_empty() {
-            push_line(&mut self.output, self.line.as_slice(), &mut self.bytes)?;
+            push_line(
+                &mut self.output,
+                &mut self.pool,
+                self.line.as_slice(),
+                &mut self.bytes,
+            )?;
         }
         Ok(())
     }
-}
-
-/// What stands in front of the first line feed, and behind it.
-fn split_line(text: &[u8]) -> Option<(&[u8], &[u8])>
-    ensures some { IfSome result (λ parts. IsWithinLine parts.0.now
-        × (text.now ≡ parts.0.now ++ line_feed ∷ parts.1.now)) }
-    ensures none { IfNone result (IsWithinLine text.now) }
-{
-    let end = text.iter().position(|byte| *byte == b'\n')?;
-    Some((&text[..end], &text[end + 1..]))
 }
 
 /// Reads once, and writes the answers to the lines that end in what was read.
@@ -145,10 +152,11 @@ fn step<R: Read, W: Write>(
     requires reader_open { has_ended reader.old ≡ false }
     requires writer_sound { has_failed writer.old ≡ false }
     requires room { 0 < length piece.old }
-    ensures ok { OnOk result ((before : List (List ℕ)) → Transfers
-        (λ read written. Advances before session.old.line.items read written session.new.line.items)
+    ensures ok { OnOk result ((before : List (List ℕ)) → HoldsLines before session.old.pool → Transfers
+        (λ read written. AdvancesTo before session.old.line.items read written session.new.line.items session.new.pool)
         R.remaining reader.old reader.new W.contents writer.old writer.new) }
-    ensures err { OnErr result ((before : List (List ℕ)) → Transfers (BeginsAnswers before session.old.line.items)
+    ensures err { OnErr result ((before : List (List ℕ)) → HoldsLines before session.old.pool →
+        Transfers (BeginsAnswers before session.old.line.items)
         R.remaining reader.old reader.new W.contents writer.old writer.new) }
     ensures writer_reads { KeepsReads writer.old writer.new }
     ensures counted { reads_left reader.old ≡ reads_left reader.new + 1 }

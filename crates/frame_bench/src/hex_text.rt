@@ -2,7 +2,7 @@
 
 ghost use Rattle.std.specs.Prelude.{◌≡◌, ◌++◌, ℕ, List, IfOk, OnOk, IsTrue, ◌↔◌};
 ghost use Rattle.frame_bench.specs.Requests.{IsHex};
-ghost use Rattle.frame_bench.specs.Replies.{hex_text};
+ghost use Rattle.frame_bench.specs.SliceReplies.{hex_text};
 
 use std::alloc::AllocError;
 

@@ -1,21 +1,32 @@
 //! Answers each line of standard input with one line of standard output.
 //!
 //! A line `slice eth HEX` asks for the layers of a frame that begins with an Ethernet II header, `slice sll HEX` for
-//! those of a Linux cooked capture, where HEX is two hexadecimal digits for each byte, or `-` for none. The answer is
-//! `ok LINK EXTS NET TRANSPORT PAYLOAD`, with `-` for a layer that is not there and commas between link extensions, or
-//! says why the bytes are no frame. Any other line is answered `err line`.
+//! those of a Linux cooked capture, and `slice ip HEX` for those of an IP packet, where HEX is two hexadecimal digits
+//! for each byte, or `-` for none. The answer is `ok LINK EXTS NET TRANSPORT PAYLOAD`, with `-` for a layer that is not
+//! there and commas between link extensions, or says why the bytes are no frame.
+//!
+//! A line `frag eth TS CHANNEL HEX`, or `sll` or `ip`, hands such a frame to a pool that puts fragmented payloads
+//! together. TS is the frame's timestamp, CHANNEL tells streams apart, and each is 1 to 20 decimal digits of a value
+//! that fits in 64 bits. The answer is `none`, `payload NUMBER HEX` with the payload that is complete with this frame,
+//! or says why the fragment is refused or why the bytes are no frame. A line `drop TS` is answered `ok`, and the pool
+//! keeps the streams whose last accepted fragment has no timestamp below TS.
+//!
+//! Any other line is answered `err line`.
 #![tactic(auto)]
 
 pub mod ending;
 pub mod engine;
+mod fragments;
 mod hex_text;
 pub mod laws;
+mod pooling;
 mod replies;
 mod requests;
 pub mod run_error;
 mod slicing;
 #[cfg(test)]
 mod tests;
+mod texts;
 pub mod watched;
 
 use crate::ending::Ending;

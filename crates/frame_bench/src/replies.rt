@@ -2,40 +2,74 @@
 
 ghost use Rattle.std.specs.Prelude.{◌≡◌, ◌∷◌, ◌++◌, [], ℕ, List, OnOk};
 ghost use Rattle.frame_bench.specs.Answers.{IsAnswer};
-ghost use Rattle.frame_bench.specs.Replies.{IsReply};
 ghost use Rattle.frame_bench.specs.Lines.{line_feed};
+ghost use Rattle.frame_bench.specs.PoolCalls.{NumberCall, AreRequestCalls, HoldsCalls, HoldsLines};
+ghost use Rattle.frame_bench.specs.Replies.{IsReply};
 
+use crate::pooling::{drop_below, push_fragment};
 use crate::requests::{Request, parse};
 use crate::slicing::push_slice;
+use ep_defrag::IpDefragPool;
 use std::alloc::AllocError;
 
-/// Appends the answer to a line behind any others, and a line feed. What `bytes` holds is overwritten.
-pub fn push_line(output: &mut Vec<u8>, line: &[u8], bytes: &mut Vec<u8>) -> Result<(), AllocError>
-    ensures { OnOk result ((before : List (List ℕ)) → (answer : List ℕ) × IsAnswer before line.now answer
-        × (output.new.items ≡ output.old.items ++ (answer ++ line_feed ∷ []))) }
+/// Appends the answer to a line behind any others, after which the pool stands, and a line feed. What `bytes` holds is
+/// overwritten.
+pub fn push_line(
+    output: &mut Vec<u8>,
+    pool: &mut IpDefragPool<u64, u64>,
+    line: &[u8],
+    bytes: &mut Vec<u8>,
+) -> Result<(), AllocError>
+    ensures answer { OnOk result ((before : List (List ℕ)) → HoldsLines before pool.old → (answer : List ℕ)
+        × IsAnswer before line.now answer × (output.new.items ≡ output.old.items ++ (answer ++ line_feed ∷ []))) }
+    ensures holds { OnOk result ((before : List (List ℕ)) → HoldsLines before pool.old →
+        HoldsLines (before ++ line.now ∷ []) pool.new) }
 {
-    push_answer(output, line, bytes)?;
+    push_answer(output, pool, line, bytes)?;
     output.push(b'\n')?;
     Ok(())
 }
 
 /// Appends the answer to a line.
-fn push_answer(output: &mut Vec<u8>, line: &[u8], bytes: &mut Vec<u8>) -> Result<(), AllocError>
-    ensures { OnOk result ((before : List (List ℕ)) → (answer : List ℕ) × IsAnswer before line.now answer
-        × (output.new.items ≡ output.old.items ++ answer)) }
+fn push_answer(
+    output: &mut Vec<u8>,
+    pool: &mut IpDefragPool<u64, u64>,
+    line: &[u8],
+    bytes: &mut Vec<u8>,
+) -> Result<(), AllocError>
+    ensures answer { OnOk result ((before : List (List ℕ)) → HoldsLines before pool.old → (answer : List ℕ)
+        × IsAnswer before line.now answer × (output.new.items ≡ output.old.items ++ answer)) }
+    ensures holds { OnOk result ((before : List (List ℕ)) → HoldsLines before pool.old →
+        HoldsLines (before ++ line.now ∷ []) pool.new) }
 {
     match parse(line, bytes)? {
-        Some(request) => push_reply(output, request, bytes.as_slice()),
+        Some(request) => push_reply(output, pool, request, bytes.as_slice()),
         None => output.extend_from_slice(b"err line"),
     }
 }
 
 /// Appends the reply to a request.
-fn push_reply(output: &mut Vec<u8>, request: Request, bytes: &[u8]) -> Result<(), AllocError>
-    ensures { OnOk result ((before : List (List ℕ)) → (reply : List ℕ) × IsReply before request bytes.now reply
-        × (output.new.items ≡ output.old.items ++ reply)) }
+fn push_reply(
+    output: &mut Vec<u8>,
+    pool: &mut IpDefragPool<u64, u64>,
+    request: Request,
+    bytes: &[u8],
+) -> Result<(), AllocError>
+    ensures reply { OnOk result ((calls : List NumberCall) → HoldsCalls calls pool.old → (reply : List ℕ)
+        × IsReply calls request bytes.now reply × (output.new.items ≡ output.old.items ++ reply)) }
+    ensures holds { OnOk result ((calls : List NumberCall) → HoldsCalls calls pool.old → (made : List NumberCall)
+        × AreRequestCalls request bytes.now made × HoldsCalls (calls ++ made) pool.new) }
 {
     match request {
         Request::Slice(entry) => push_slice(output, entry, bytes),
+        Request::Fragment {
+            entry,
+            timestamp,
+            channel,
+        } => push_fragment(output, pool, entry, timestamp, channel, bytes),
+        Request::Drop { timestamp } => {
+            drop_below(pool, timestamp);
+            output.extend_from_slice(b"ok")
+        }
     }
 }

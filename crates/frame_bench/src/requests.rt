@@ -1,12 +1,14 @@
 //! What a line asks.
 
-ghost use Rattle.std.specs.Prelude.{◌≡◌, ◌∷◌, ◌++◌, ℕ, List, IfNone, IfOk, IfSome};
+ghost use Rattle.std.specs.Prelude.{◌≡◌, ◌∷◌, ◌++◌, ℕ, List, IfNone, IfOk, IfSome, codes};
 ghost use Rattle.frame_bench.specs.Lines.{space};
 ghost use Rattle.frame_bench.specs.Requests.{Asks, entry_word};
 ghost use Rattle.frame_bench.specs.declared.requests.Entry.{Entry};
 ghost use Rattle.frame_bench.specs.declared.requests.Request.{Request};
 
+use crate::fragments::{parse_drop, parse_fragment};
 use crate::hex_text::decode;
+use crate::texts::behind;
 use std::alloc::AllocError;
 
 /// What stands at the front of the bytes of a line.
@@ -25,6 +27,20 @@ pub enum Entry {
 pub enum Request {
     /// The layers of a frame.
     Slice(Entry),
+    /// What the pool answers a frame, which may carry a fragment.
+    Fragment {
+        /// What the frame begins with.
+        entry: Entry,
+        /// When it came.
+        timestamp: u64,
+        /// What tells its streams apart.
+        channel: u64,
+    },
+    /// That the pool drops the streams whose timestamp is below this one.
+    Drop {
+        /// The least timestamp that is kept.
+        timestamp: u64,
+    },
 }
 
 /// What a line asks, where it does. The bytes that it says are then left in `bytes`.
@@ -33,13 +49,30 @@ pub fn parse(line: &[u8], bytes: &mut Vec<u8>) -> Result<Option<Request>, AllocE
     ensures none { IfOk result (λ found. IfNone found
         ((request : Request) (said : List ℕ) → Asks line.now request said → ⊥)) }
 {
-    let Some(rest) = behind(line, b"slice") else {
+    if let Some(rest) = behind(line, b"slice") {
+        return parse_slice(rest, bytes);
+    }
+    if let Some(rest) = behind(line, b"frag") {
+        return parse_fragment(rest, bytes);
+    }
+    match behind(line, b"drop") {
+        Some(rest) => Ok(parse_drop(rest, bytes)),
+        None => Ok(None),
+    }
+}
+
+/// What a line asks that has this text behind `slice` and a space, where it does. The bytes that it says are then left
+/// in `bytes`.
+fn parse_slice(text: &[u8], bytes: &mut Vec<u8>) -> Result<Option<Request>, AllocError>
+    ensures some { IfOk result (λ found. IfSome found (λ request.
+        Asks (codes "slice" ++ space ∷ text.now) request bytes.new.items)) }
+    ensures none { IfOk result (λ found. IfNone found ((request : Request) (said : List ℕ) →
+        Asks (codes "slice" ++ space ∷ text.now) request said → ⊥)) }
+{
+    let Some((entry, digits)) = entry_at(text) else {
         return Ok(None);
     };
-    let Some((entry, text)) = entry_at(rest) else {
-        return Ok(None);
-    };
-    if decode(text, bytes)? {
+    if decode(digits, bytes)? {
         Ok(Some(Request::Slice(entry)))
     } else {
         Ok(None)
@@ -47,7 +80,7 @@ pub fn parse(line: &[u8], bytes: &mut Vec<u8>) -> Result<Option<Request>, AllocE
 }
 
 /// The entry whose word stands at the front of a text, and what stands behind that word and a space.
-fn entry_at(text: &[u8]) -> Option<(Entry, &[u8])>
+pub fn entry_at(text: &[u8]) -> Option<(Entry, &[u8])>
     ensures some { IfSome result (λ found. text.now ≡ entry_word found.0 ++ space ∷ found.1.now) }
     ensures none { IfNone result ((entry : Entry) (rest : List ℕ) → text.now ≡ entry_word entry ++ space ∷ rest → ⊥) }
 {
@@ -59,12 +92,4 @@ fn entry_at(text: &[u8]) -> Option<(Entry, &[u8])>
     }
     let rest = behind(text, b"ip")?;
     Some((Entry::Ip, rest))
-}
-
-/// What stands behind a word and a space at the front of a text.
-fn behind<'a>(text: &'a [u8], word: &[u8]) -> Option<&'a [u8]>
-    ensures some { IfSome result (λ rest. text.now ≡ word.now ++ space ∷ rest.now) }
-    ensures none { IfNone result ((rest : List ℕ) → text.now ≡ word.now ++ space ∷ rest → ⊥) }
-{
-    text.strip_prefix(word)?.strip_prefix(b" ")
 }

@@ -8,8 +8,9 @@ ghost use Rattle.ep_packet.specs.Frame.{IsFrame};
 ghost use Rattle.ep_packet.specs.Layers.{layers_of, net_layer_of};
 ghost use Rattle.ep_packet.specs.Refusals.{RefusesFrame};
 ghost use Rattle.ep_transport.specs.TransportParts.{transport_layer_of};
-ghost use Rattle.frame_bench.specs.Replies.{IsSliceReply, frame_entry, extension_text, extensions_word};
-ghost use Rattle.frame_bench.specs.Replies.{layers_text, link_word, net_word, refusal_text, transport_word};
+ghost use Rattle.frame_bench.specs.Requests.{frame_entry};
+ghost use Rattle.frame_bench.specs.SliceReplies.{IsSliceReply, extension_text, extensions_word};
+ghost use Rattle.frame_bench.specs.SliceReplies.{layers_text, link_word, net_word, refusal_text, transport_word};
 
 use crate::hex_text;
 use crate::requests::Entry;
@@ -33,7 +34,7 @@ pub fn push_slice(output: &mut Vec<u8>, entry: Entry, bytes: &[u8]) -> Result<()
 }
 
 /// The packet that begins with the entry's header.
-fn slice_at(entry: Entry, bytes: &[u8]) -> Result<SlicedPacket<'_>, SliceError>
+pub fn slice_at(entry: Entry, bytes: &[u8]) -> Result<SlicedPacket<'_>, SliceError>
     ensures ok { IfOk result (λ packet. IsFrame (frame_entry entry) bytes.now (layers_of packet)) }
     ensures err { IfErr result (RefusesFrame (frame_entry entry) bytes.now) }
 {
@@ -123,7 +124,7 @@ fn transport_word(transport: &Option<TransportSlice<'_>>) -> &'static str
 }
 
 /// Appends the text of a refusal.
-fn push_refusal(output: &mut Vec<u8>, error: &SliceError) -> Result<(), AllocError>
+pub fn push_refusal(output: &mut Vec<u8>, error: &SliceError) -> Result<(), AllocError>
     ensures { OnOk result (output.new.items ≡ output.old.items ++ refusal_text error.now) }
 {
     match error {

@@ -1,13 +1,13 @@
 use Rattle.std.proofs.Common.{◌≡◌, ◌<◌, [], false, true, length}
 use Rattle.std.specs.Io.KnownBytes.{IsAtEnd}
 use Rattle.frame_bench.specs.Lines.{IsWithinLine}
-use Rattle.frame_bench.specs.Streams.{Advances, Moves}
+use Rattle.frame_bench.specs.Streams.{AdvancesTo, Moves}
 use Rattle.frame_bench.specs.WatchedWords.{KeepsReads, has_failed, inner_of, is_at_end, reads_left}
 use Rattle.frame_bench.proofs.engine.run.Given as goal
 
 abbrev pub invariant-pieces : goal.invariant-pieces
 invariant-pieces g l =
-    Moves (λ read written. Advances [] [] read written l.session.line.items)
+    Moves (λ read written. AdvancesTo [] [] read written l.session.line.items l.session.pool)
     (g.R.Read.remaining (inner_of l.initial.reader)) (g.R.Read.remaining (inner_of l.reader))
     (g.W.Write.contents (inner_of l.initial.writer)) (g.W.Write.contents (inner_of l.writer))
     × IsWithinLine l.session.line.items

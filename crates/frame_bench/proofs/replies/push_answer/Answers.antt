@@ -1,23 +1,60 @@
-use Rattle.std.proofs.Common.{◌≡◌, ◌++◌, ℕ, List, inl}
+use Rattle.std.proofs.Common.{◌≡◌, ◌∷◌, ◌++◌, ℕ, List, [], inl, inr, refl, sym, subst, append-nil}
 use Rattle.std.proofs.lemmas.Result.{on_ok_weaker}
+use Rattle.ep_defrag.specs.declared.ip_defrag_pool.IpDefragPool.{IpDefragPool}
 use Rattle.frame_bench.specs.Answers.{IsAnswer}
+use Rattle.frame_bench.specs.PoolCalls.{NumberCall, AreRequestCalls, HoldsCalls, HoldsLines}
 use Rattle.frame_bench.specs.Replies.{IsReply}
 use Rattle.frame_bench.specs.Requests.{Asks}
 use Rattle.frame_bench.specs.declared.requests.Request.{Request}
+use Rattle.frame_bench.proofs.PoolLemmas.{HoldsLines-push, at_ok}
 use Rattle.frame_bench.proofs.replies.push_answer.Goals as goal
 
 -- the reply to what a line asks is the answer to the line
-reply_answers : (line : List ℕ) (request : Request) (bytes old new : List ℕ) → Asks line request bytes
-    → ((before : List (List ℕ)) → (reply : List ℕ) × IsReply before request bytes reply × (new ≡ old ++ reply))
-    → (before : List (List ℕ)) → (answer : List ℕ) × IsAnswer before line answer × (new ≡ old ++ answer)
-reply_answers line request bytes old new asks replied before =
-    let reply = replied before in
-    (reply.0, inl (request, bytes, asks, reply.1), reply.2)
+reply_answers : (line : List ℕ) (request : Request) (bytes old new : List ℕ) (pool : IpDefragPool ℕ ℕ)
+    → Asks line request bytes
+    → ((calls : List NumberCall) → HoldsCalls calls pool → (reply : List ℕ) × IsReply calls request bytes reply
+    × (new ≡ old ++ reply))
+    → (before : List (List ℕ)) → HoldsLines before pool → (answer : List ℕ) × IsAnswer before line answer
+    × (new ≡ old ++ answer)
+reply_answers line request bytes old new pool asks replied before (calls, are, held) =
+    let reply = replied calls held in
+    (reply.0, inl (request, bytes, asks, (calls, are, reply.1)), reply.2)
 
-pub returns-in-Some : goal.returns-in-Some
-returns-in-Some c =
+-- the calls of what a line asks are those of the line
+reply_holds : (line : List ℕ) (request : Request) (bytes : List ℕ) (pool next : IpDefragPool ℕ ℕ)
+    → Asks line request bytes
+    → ((calls : List NumberCall) → HoldsCalls calls pool → (made : List NumberCall)
+    × AreRequestCalls request bytes made × HoldsCalls (calls ++ made) next)
+    → (before : List (List ℕ)) → HoldsLines before pool → HoldsLines (before ++ line ∷ []) next
+reply_holds line request bytes pool next asks made before (calls, are, held) =
+    let more = made calls held in
+    HoldsLines-push before line calls more.0 next are (inl (request, bytes, asks, more.1)) more.2
+
+-- a line that asks nothing makes no call
+nothing_holds : (line : List ℕ) (pool : IpDefragPool ℕ ℕ)
+    → ((request : Request) (bytes : List ℕ) → Asks line request bytes → ⊥)
+    → (before : List (List ℕ)) → HoldsLines before pool → HoldsLines (before ++ line ∷ []) pool
+nothing_holds line pool none before (calls, are, held) =
+    HoldsLines-push before line calls [] pool are (inr (none, refl))
+    (subst (λ t. HoldsCalls t pool) (sym (append-nil calls)) held)
+
+pub returns-in-Some-clause-answer : goal.returns-in-Some-clause-answer
+returns-in-Some-clause-answer c =
     let asks = rw c.in-Some.is at c.in_ok-request.ensures.some in
     let bytes = c.as_slice.result.now in
     on_ok_weaker c.push_reply.result
     (reply_answers c.args.line.now c.in-Some.request bytes c.args.output.now.items c.push_reply.new.output.items
-    (rw c.as_slice.ensures.value asks)) c.push_reply.ensures
+    c.args.pool.now (rw c.as_slice.ensures.value asks)) c.push_reply.ensures.reply
+
+pub returns-in-Some-clause-holds : goal.returns-in-Some-clause-holds
+returns-in-Some-clause-holds c =
+    let asks = rw c.in-Some.is at c.in_ok-request.ensures.some in
+    let bytes = c.as_slice.result.now in
+    on_ok_weaker c.push_reply.result
+    (reply_holds c.args.line.now c.in-Some.request bytes c.args.pool.now c.push_reply.new.pool
+    (rw c.as_slice.ensures.value asks)) c.push_reply.ensures.holds
+
+pub returns-in-None-clause-holds : goal.returns-in-None-clause-holds
+returns-in-None-clause-holds c =
+    at_ok c.extend_from_slice.result
+    (nothing_holds c.args.line.now c.args.pool.now (rw c.in-None.is at c.in_ok-request.ensures.none))

@@ -1,10 +1,10 @@
-use Rattle.std.proofs.Common.{◌≡◌, ◌∷◌, ◌++◌, ◌∙◌, [], ap, append_assoc}
+use Rattle.std.proofs.Common.{◌∷◌, ◌++◌, ◌∙◌, [], ap, append_assoc}
 use Rattle.frame_bench.specs.Lines.{line_feed}
 use Rattle.frame_bench.proofs.replies.push_line.Goals as goal
 
-pub returns : goal.returns
-returns c = λ before.
-    let answer = c.in_ok-push_answer.ensures before in
+pub returns-clause-answer : goal.returns-clause-answer
+returns-clause-answer c = λ before held.
+    let answer = c.in_ok-push_answer.ensures.answer before held in
     let old = c.args.output.now.items in (
       answer.0,
       answer.1,

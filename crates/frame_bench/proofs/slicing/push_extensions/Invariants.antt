@@ -1,6 +1,6 @@
 use Rattle.std.proofs.Common.{◌≡◌, ◌++◌, map, drop}
 use Rattle.ep_link.specs.LinkExtensions.{link_extension_of}
-use Rattle.frame_bench.specs.Replies.{further_extensions}
+use Rattle.frame_bench.specs.SliceReplies.{further_extensions}
 use Rattle.frame_bench.proofs.slicing.push_extensions.Given as goal
 
 -- what is appended and what is still to be appended are what is to be appended from here on

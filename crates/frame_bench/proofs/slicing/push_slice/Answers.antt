@@ -2,7 +2,8 @@ use Rattle.std.proofs.Common.{◌≡◌, ◌++◌, ℕ, List, inl, refl}
 use Rattle.std.proofs.lemmas.Result.{on_ok_weaker}
 use Rattle.ep_packet.specs.Frame.{IsFrame}
 use Rattle.ep_packet.specs.Layers.{Layers, layers_of}
-use Rattle.frame_bench.specs.Replies.{IsSliceReply, frame_entry, layers_text}
+use Rattle.frame_bench.specs.Requests.{frame_entry}
+use Rattle.frame_bench.specs.SliceReplies.{IsSliceReply, layers_text}
 use Rattle.frame_bench.specs.declared.requests.Entry.{Entry}
 use Rattle.frame_bench.proofs.slicing.push_slice.Goals as goal
 

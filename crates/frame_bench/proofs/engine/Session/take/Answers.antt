@@ -1,9 +1,18 @@
-use Rattle.std.proofs.Common.{◌≡◌, ◌∷◌, ◌++◌, ◌∙◌, [], ℕ, List, ap, sym, subst, append_assoc}
+use Rattle.std.proofs.Common.{◌≡◌, ◌∷◌, ◌++◌, ◌∙◌, [], ℕ, List, ap, refl, sym, subst, append_assoc}
 use Rattle.frame_bench.specs.Answers.{IsAnswer}
 use Rattle.frame_bench.specs.Lines.{line_feed}
-use Rattle.frame_bench.specs.Streams.{Advances}
-use Rattle.frame_bench.proofs.StreamLemmas.{Advances-line, Advances-rest}
+use Rattle.frame_bench.specs.PoolCalls.{HoldsLines}
+use Rattle.frame_bench.proofs.StreamLemmas.{AdvancesTo-line, AdvancesTo-none, AdvancesTo-rest}
 use Rattle.frame_bench.proofs.engine.Session.take.Goals as goal
+
+pub lines-init : goal.lines-init
+lines-init c = (
+  [],
+  refl,
+  λ before held.
+      rw c.clear.ensures.items
+      (AdvancesTo-none before c.args.self.now.line.items c.args.self.now.pool c.requires held),
+)
 
 pub lines-preserved : goal.lines-preserved
 lines-preserved c =
@@ -16,18 +25,23 @@ lines-preserved c =
     ∙ sym (append_assoc known.0 (end ++ line_feed ∷ []) behind) in (
       known.0 ++ (end ++ line_feed ∷ []),
       parts,
-      λ before.
-          let first = known.2 before in
-          let answer = c.in_ok-push_line.ensures (before ++ first.ended) in
-          let is = subst (λ (t : List ℕ). IsAnswer (before ++ first.ended) t answer.0) line answer.1 in
+      λ before held.
+          let first = known.2 before held in
+          let lines = before ++ first.0.ended in
+          let answer = c.in_ok-push_line.ensures.answer lines first.1 in
+          let is = subst (λ (t : List ℕ). IsAnswer lines t answer.0) line answer.1 in
+          let holds =
+          subst (λ (t : List ℕ). HoldsLines (lines ++ t ∷ []) c.push_line.new.pool) line
+          (c.in_ok-push_line.ensures.holds lines first.1) in
           rw (answer.2, c.clear-in-Some.ensures.items)
-          (Advances-line before c.args.self.now.line.items known.0 c.lines.self.output.items c.lines.self.line.items
-          end answer.0 first c.in-Some.ensures.some.0 is),
+          (AdvancesTo-line before c.args.self.now.line.items known.0 c.lines.self.output.items
+          c.lines.self.line.items end answer.0 c.push_line.new.pool first.0 c.in-Some.ensures.some.0 is holds),
     )
 
 pub returns : goal.returns
-returns c = λ before.
+returns c = λ before held.
     let known = c.lines.invariant in
+    let first = known.2 before held in
     rw (c.in_ok-extend_from_slice-2.ensures.items, known.1)
-    (Advances-rest before c.args.self.now.line.items known.0 c.lines.self.output.items c.lines.self.line.items
-    c.lines.rest.now (known.2 before) c.in_default.ensures.none)
+    (AdvancesTo-rest before c.args.self.now.line.items known.0 c.lines.self.output.items c.lines.self.line.items
+    c.lines.rest.now c.lines.self.pool first c.in_default.ensures.none)

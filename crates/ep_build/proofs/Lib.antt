@@ -1,0 +1,7 @@
+pub mod LengthLemmas
+pub mod SizeLemmas
+pub mod WritingLemmas
+pub mod LinkReadBack
+pub mod NetReadBack
+pub mod TransportReadBack
+pub mod ReadBackLemmas

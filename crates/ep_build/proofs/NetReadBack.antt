@@ -1,0 +1,257 @@
+-- IP headers that are linked for their content are read back from it, in both readings.
+use Rattle.std.proofs.Common.{◌≡◌, ℕ, ◌||◌, Bool, true, false, not, if◌then◌else◌, List, [], ◌∷◌, ◌++◌}
+use Rattle.std.proofs.Common.{length, Option, Some, None, refl, sym, ap, ◌∙◌}
+use Rattle.std.specs.Option.{option_map}
+use Rattle.ep_base.specs.IpPayload.{IpPayload}
+use Rattle.ep_base.specs.Layer.{Reading, slices, headers as by_value}
+use Rattle.ep_base.specs.declared.ip_number.IpNumber.{IpNumber}
+use Rattle.ep_ext.specs.declared.ip_auth_header.IpAuthHeader.{IpAuthHeader}
+use Rattle.ep_ext.specs.declared.ipv4_exts.Ipv4Extensions.{Ipv4Extensions}
+use Rattle.ep_ext.specs.declared.ipv6_exts.Ipv6Extensions.{Ipv6Extensions}
+use Rattle.ep_ext.specs.declared.ipv6_fragment_header.Ipv6FragmentHeader.{Ipv6FragmentHeader}
+use Rattle.ep_ext.specs.declared.ipv6_raw_ext_header.Ipv6RawExtHeader.{Ipv6RawExtHeader}
+use Rattle.ep_ext.specs.declared.ipv6_routing_exts.Ipv6RoutingExtensions.{Ipv6RoutingExtensions}
+use Rattle.ep_ext.specs.Chains.{Demand, IsChainBehind, chain_fragments, demand_of, ends, ipv4, ipv6, is_ipv6_extension}
+use Rattle.ep_ext.specs.Chains.{misplaced, takes}
+use Rattle.ep_ext.specs.ExtensionParts.{ExtensionPart, authentication, destination_options, fragment, hop_by_hop}
+use Rattle.ep_ext.specs.ExtensionParts.{part_fragments, part_next, parts_there, routing}
+use Rattle.ep_ext.specs.Ipv4Chains.{ip_auth_leading_to}
+use Rattle.ep_ext.specs.Ipv6Chains.{after_auth, after_destination, after_fragment, after_hop_by_hop, after_routing}
+use Rattle.ep_ext.specs.Ipv6Chains.{final_by, fragment_leading_to, ipv6_linked, ipv6_parts, raw_leading_to}
+use Rattle.ep_ext.specs.Ipv6Chains.{routing_header, routing_leading_to}
+use Rattle.ep_ip.specs.IpPackets.{IpPacket, IpPart, IsIp, IsIpv4, IsIpv6, ipv4_part, ipv6_part}
+use Rattle.ep_ip.specs.declared.ipv4_header.Ipv4Header.{Ipv4Header}
+use Rattle.ep_ip.specs.declared.ipv6_header.Ipv6Header.{Ipv6Header}
+use Rattle.ep_packet.specs.Frame.{IsNetLayer, NetKind, any_ip, only_ipv4, only_ipv6}
+use Rattle.ep_packet.specs.IpHeaders.{EndsExtensions, FitIpHeaders, headers_for, headers_fragment}
+use Rattle.ep_packet.specs.IpHeaders.{ip_headers_of, ip_part_payload, payload_of_headers}
+use Rattle.ep_packet.specs.Layers.{NetLayer, ipv4_layer, ipv6_layer, net_payload}
+use Rattle.ep_packet.specs.declared.ip_headers.IpHeaders.{IpHeaders}
+use Rattle.ep_packet.specs.declared.ip_headers.IpHeaders.TheVariants as version
+use Rattle.ep_packet.proofs.IpHeadersLemmas.{read}
+use Rattle.ep_build.specs.BuiltFrames.{ip_frame}
+
+-- the kind of a net layer of these headers, by their ether type
+abbrev pub kind_of : IpHeaders → NetKind
+kind_of (version.Ipv4 header extensions) = only_ipv4
+kind_of (version.Ipv6 header extensions) = only_ipv6
+
+-- the bytes are a net layer of the version of the headers, with this payload
+pub record NetOf (reading : Reading) (headers : IpHeaders) (bytes : List ℕ) (payload : IpPayload) : Type 0 where
+  pub layer : NetLayer
+  pub typed : IsNetLayer reading (kind_of headers) bytes layer
+  pub any : IsNetLayer reading any_ip bytes layer
+  pub has_payload : net_payload layer ≡ Some payload
+
+-- ---- chains that end in no extension header are the same in both readings
+
+chain_4 : (reading : Reading) (taken : List ℕ) (number : ℕ) (bytes : List ℕ) (parts : List ExtensionPart) (last : ℕ)
+    (rest : List ℕ) → IsChainBehind ipv4 by_value taken number bytes parts last rest
+    → IsChainBehind ipv4 reading taken number bytes parts last rest
+chain_4 reading taken number bytes [] last rest is = is
+chain_4 reading taken number bytes (part ∷ parts) last rest is = (
+  is.0,
+  (is.1.0, is.1.1, chain_4 reading (number ∷ taken) (part_next part) is.1.0 parts last rest is.1.2),
+)
+
+-- what a number demands, by what is known of it: hop by hop options, whether they are first, an extension header, one of
+-- a kind that was taken
+abbrev demand_by : Bool → Bool → Bool → Bool → Demand
+demand_by hop first extension second =
+    if hop then (if first then takes else misplaced)
+    else if not extension then ends
+    else if second then ends
+    else takes
+
+ends_behind : (first extension second : Bool) → extension ≡ false → demand_by false first extension second ≡ ends
+ends_behind first true second none = absurd (cc)
+ends_behind first false second none = refl
+
+ends_by : (hop a b c d first second : Bool) → (hop || a || b || c || d) ≡ false
+    → demand_by hop first (hop || a || b || c || d) second ≡ ends
+ends_by true true b c d first second none = absurd (cc)
+ends_by true false true c d first second none = absurd (cc)
+ends_by true false false true d first second none = absurd (cc)
+ends_by true false false false true first second none = absurd (cc)
+ends_by true false false false false first second none = absurd (cc)
+ends_by false a b c d first second none = ends_behind first (false || a || b || c || d) second none
+
+takes_by : (hop first extension second : Bool) → demand_by hop first extension second ≡ takes
+    → demand_by hop first extension false ≡ takes
+takes_by true first extension second is = is
+takes_by false first true second is = refl
+takes_by false first false second is = absurd (cc)
+
+ends_too : (reading : Reading) (taken : List ℕ) (number : ℕ) → is_ipv6_extension number ≡ false
+    → demand_of ipv6 reading taken number ≡ ends
+ends_too reading taken number none = ends_by _ _ _ _ _ _ _ none
+
+takes_too : (reading : Reading) (taken : List ℕ) (number : ℕ) → demand_of ipv6 by_value taken number ≡ takes
+    → demand_of ipv6 reading taken number ≡ takes
+takes_too slices taken number is = takes_by _ _ _ _ is
+takes_too by_value taken number is = is
+
+chain_6 : (reading : Reading) (taken : List ℕ) (number : ℕ) (bytes : List ℕ) (parts : List ExtensionPart) (last : ℕ)
+    (rest : List ℕ) → is_ipv6_extension last ≡ false → IsChainBehind ipv6 by_value taken number bytes parts last rest
+    → IsChainBehind ipv6 reading taken number bytes parts last rest
+chain_6 reading taken number bytes [] last rest none is = (
+  ends_too reading taken number (ap is_ipv6_extension (sym is.1) ∙ none),
+  is.1,
+  is.2,
+)
+chain_6 reading taken number bytes (part ∷ parts) last rest none is = (
+  takes_too reading taken number is.0,
+  (is.1.0, is.1.1, chain_6 reading (number ∷ taken) (part_next part) is.1.0 parts last rest none is.1.2),
+)
+
+in_reading_4 : (reading : Reading) (bytes : List ℕ) (packet : IpPacket Ipv4Header) → IsIpv4 by_value bytes packet
+    → IsIpv4 reading bytes packet
+in_reading_4 reading bytes packet is = record {
+  content = is.content;
+  cut = is.cut;
+  chain = chain_4 reading [] packet.header.protocol.0 is.content packet.extensions packet.payload.number
+      packet.payload.bytes is.chain;
+  fragmented = is.fragmented;
+  source = is.source;
+}
+
+in_reading_6 : (reading : Reading) (bytes : List ℕ) (packet : IpPacket Ipv6Header)
+    → is_ipv6_extension packet.payload.number ≡ false → IsIpv6 by_value bytes packet → IsIpv6 reading bytes packet
+in_reading_6 reading bytes packet none is = record {
+  content = is.content;
+  cut = is.cut;
+  chain = chain_6 reading [] packet.header.next_header.0 is.content packet.extensions packet.payload.number
+      packet.payload.bytes none is.chain;
+  fragmented = is.fragmented;
+  source = is.source;
+}
+
+-- ---- the net layer
+
+net_4 : (reading : Reading) (header there : Ipv4Header) (extensions these : Ipv4Extensions) (bytes : List ℕ)
+    (payload : IpPayload) (part : IpPart) → IsIp by_value bytes part
+    → ip_headers_of part ≡ version.Ipv4 there these → ip_part_payload part ≡ payload
+    → NetOf reading (version.Ipv4 header extensions) bytes payload
+net_4 reading header there extensions these bytes payload (ipv4_part packet) is same_headers same_payload =
+    let here = in_reading_4 reading bytes packet is in record {
+      layer = ipv4_layer packet;
+      typed = (packet, here, refl);
+      any = (ipv4_part packet, here, refl);
+      has_payload = ap (λ (p : IpPayload). Some p) same_payload;
+    }
+net_4 reading header there extensions these bytes payload (ipv6_part packet) is same_headers same_payload = absurd (cc)
+
+net_6 : (reading : Reading) (header there : Ipv6Header) (extensions these : Ipv6Extensions) (bytes : List ℕ)
+    (payload : IpPayload) (part : IpPart) → is_ipv6_extension payload.number ≡ false → IsIp by_value bytes part
+    → ip_headers_of part ≡ version.Ipv6 there these → ip_part_payload part ≡ payload
+    → NetOf reading (version.Ipv6 header extensions) bytes payload
+net_6 reading header there extensions these bytes payload (ipv4_part packet) none is same_headers same_payload =
+    absurd (cc)
+net_6 reading header there extensions these bytes payload (ipv6_part packet) none is same_headers same_payload =
+    let ends_so = ap (λ (p : IpPayload). is_ipv6_extension p.number) same_payload ∙ none in
+    let here = in_reading_6 reading bytes packet ends_so is in record {
+      layer = ipv6_layer packet;
+      typed = (packet, here, refl);
+      any = (ipv6_part packet, here, refl);
+      has_payload = ap (λ (p : IpPayload). Some p) same_payload;
+    }
+
+-- headers that lead to a number of no extension header, and count their content
+pub net_of : (reading : Reading) (headers : IpHeaders) (last : IpNumber) (content : List ℕ)
+    → FitIpHeaders (headers_for headers last (length content)) → EndsExtensions headers last.0
+    → NetOf reading headers (ip_frame headers last content)
+    (payload_of_headers (headers_for headers last (length content)) last content)
+net_of reading (version.Ipv4 header extensions) last content fit other =
+    let back = read (version.Ipv4 header extensions) last content fit other in
+    net_4 reading header _ extensions _ _ _ back.part back.is back.same_headers back.same_payload
+net_of reading (version.Ipv6 header extensions) last content fit other =
+    let back = read (version.Ipv6 header extensions) last content fit other in
+    net_6 reading header _ extensions _ _ _ back.part other back.is back.same_headers back.same_payload
+
+-- ---- linked headers fragment where they did before
+
+or_step : (x y z w : Bool) → y ≡ (z || w) → (x || y) ≡ ((x || z) || w)
+or_step true y z w same = refl
+or_step false y z w same = same
+
+fragments-append : (parts more : List ExtensionPart)
+    → chain_fragments (parts ++ more) ≡ (chain_fragments parts || chain_fragments more)
+fragments-append [] more = refl
+fragments-append (part ∷ parts) more =
+    or_step (part_fragments part) _ (chain_fragments parts) (chain_fragments more) (fragments-append parts more)
+
+fragments_both : (a b c d : List ExtensionPart) → chain_fragments a ≡ chain_fragments b
+    → chain_fragments c ≡ chain_fragments d → chain_fragments (a ++ c) ≡ chain_fragments (b ++ d)
+fragments_both a b c d first second =
+    fragments-append a c ∙ ap (λ (x : Bool). x || chain_fragments c) first
+    ∙ ap (λ (x : Bool). chain_fragments b || x) second ∙ sym (fragments-append b d)
+
+hop_by_hop_same : (next : IpNumber) (header : Option Ipv6RawExtHeader)
+    → chain_fragments (parts_there hop_by_hop (option_map (raw_leading_to next) header))
+    ≡ chain_fragments (parts_there hop_by_hop header)
+hop_by_hop_same next None = refl
+hop_by_hop_same next (Some header) = refl
+
+destination_same : (next : IpNumber) (header : Option Ipv6RawExtHeader)
+    → chain_fragments (parts_there destination_options (option_map (raw_leading_to next) header))
+    ≡ chain_fragments (parts_there destination_options header)
+destination_same next None = refl
+destination_same next (Some header) = refl
+
+routing_same : (next last : IpNumber) (behind : Option Ipv6RoutingExtensions)
+    → chain_fragments
+    (parts_there routing (option_map routing_header (option_map (routing_leading_to next last) behind)))
+    ≡ chain_fragments (parts_there routing (option_map routing_header behind))
+routing_same next last None = refl
+routing_same next last (Some behind) = refl
+
+final_same : (next last : IpNumber) (behind : Option Ipv6RoutingExtensions)
+    → chain_fragments (parts_there destination_options (final_by (option_map (routing_leading_to next last) behind)))
+    ≡ chain_fragments (parts_there destination_options (final_by behind))
+final_same next last None = refl
+final_same next last (Some behind) = destination_same last behind.final_destination_options
+
+fragment_same : (next : IpNumber) (header : Option Ipv6FragmentHeader)
+    → chain_fragments (parts_there fragment (option_map (fragment_leading_to next) header))
+    ≡ chain_fragments (parts_there fragment header)
+fragment_same next None = refl
+fragment_same next (Some header) = refl
+
+auth_same : (next : IpNumber) (header : Option IpAuthHeader)
+    → chain_fragments (parts_there authentication (option_map (ip_auth_leading_to next) header))
+    ≡ chain_fragments (parts_there authentication header)
+auth_same next None = refl
+auth_same next (Some header) = refl
+
+ipv6_same : (extensions : Ipv6Extensions) (last : IpNumber)
+    → chain_fragments (ipv6_parts (ipv6_linked extensions last)) ≡ chain_fragments (ipv6_parts extensions)
+ipv6_same extensions last =
+    let new = ipv6_linked extensions last in
+    let a = parts_there hop_by_hop new.hop_by_hop_options in
+    let b = parts_there destination_options new.destination_options in
+    let c = parts_there routing (option_map routing_header new.routing) in
+    let d = parts_there fragment new.fragment in
+    let e = parts_there authentication new.auth in
+    let f = parts_there destination_options (final_by new.routing) in
+    let a' = parts_there hop_by_hop extensions.hop_by_hop_options in
+    let b' = parts_there destination_options extensions.destination_options in
+    let c' = parts_there routing (option_map routing_header extensions.routing) in
+    let d' = parts_there fragment extensions.fragment in
+    let e' = parts_there authentication extensions.auth in
+    let f' = parts_there destination_options (final_by extensions.routing) in
+    let ab = fragments_both a a' b b'
+    (hop_by_hop_same (after_hop_by_hop extensions last) extensions.hop_by_hop_options)
+    (destination_same (after_destination extensions last) extensions.destination_options) in
+    let abc = fragments_both (a ++ b) (a' ++ b') c c' ab
+    (routing_same (after_routing extensions last) last extensions.routing) in
+    let abcd = fragments_both (a ++ b ++ c) (a' ++ b' ++ c') d d' abc
+    (fragment_same (after_fragment extensions last) extensions.fragment) in
+    let abcde = fragments_both (a ++ b ++ c ++ d) (a' ++ b' ++ c' ++ d') e e' abcd
+    (auth_same (after_auth extensions last) extensions.auth) in
+    fragments_both (a ++ b ++ c ++ d ++ e) (a' ++ b' ++ c' ++ d' ++ e') f f' abcde
+    (final_same (after_routing extensions last) last extensions.routing)
+
+pub fragments_linked : (headers : IpHeaders) (last : IpNumber) (len : ℕ)
+    → headers_fragment (headers_for headers last len) ≡ headers_fragment headers
+fragments_linked (version.Ipv4 header extensions) last len = refl
+fragments_linked (version.Ipv6 header extensions) last len = ipv6_same extensions last

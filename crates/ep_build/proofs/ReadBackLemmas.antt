@@ -1,0 +1,130 @@
+-- A built frame is read back, from its parts.
+use Rattle.std.proofs.Common.{◌≡◌, ℕ, List, [], ◌++◌, length, Option, Some, None, refl, sym, ap}
+use Rattle.std.proofs.Common.{subst, ◌∙◌, arith}
+use Rattle.std.specs.Option.{option_and_then}
+use Rattle.ep_base.specs.Bytes.{AreBytes}
+use Rattle.ep_base.specs.EtherTypes.{arp_type}
+use Rattle.ep_base.specs.IpPayload.{IpPayload}
+use Rattle.ep_base.specs.Layer.{Reading}
+use Rattle.ep_base.specs.declared.ip_number.IpNumber.{IpNumber}
+use Rattle.ep_link.specs.Arp.{Arp, FitsArp, IsArp, arp_bytes}
+use Rattle.ep_packet.specs.Frame.{IsNetPart, IsTransportBehind, any_ip}
+use Rattle.ep_packet.specs.IpHeaders.{EndsExtensions, FitIpHeaders, headers_for, ip_headers_type}
+use Rattle.ep_packet.specs.IpHeaders.{payload_of_headers}
+use Rattle.ep_packet.specs.Layers.{Entry, arp, ether_type, ip, net_payload}
+use Rattle.ep_packet.specs.declared.ip_headers.IpHeaders.{IpHeaders}
+use Rattle.ep_packet.specs.declared.ip_headers.IpHeaders.TheVariants as version
+use Rattle.ep_transport.specs.TransportParts.{IsTransportPart, TransportLayer}
+use Rattle.ep_transport.specs.declared.transport_header.TransportHeader.{TransportHeader}
+use Rattle.ep_transport.specs.declared.transport_header.TransportHeader.TheVariants as transport
+use Rattle.ep_build.specs.BuiltFrames.{arp_packet, as_ether_type, ip_frame, transport_between, transport_number}
+use Rattle.ep_build.specs.BuiltFrames.{transport_packet}
+use Rattle.ep_build.specs.Fits.{FitsLink, FitsTransport}
+use Rattle.ep_build.specs.ReadBack.{IsArpReadBack, IsEntryOf, IsReadBack, message_of}
+use Rattle.ep_build.specs.declared.link_part.LinkPart.{LinkPart}
+use Rattle.ep_build.specs.declared.link_part.LinkPart.TheVariants as link
+use Rattle.ep_build.proofs.LinkReadBack.{IsNet, frame_is}
+use Rattle.ep_build.proofs.NetReadBack.{NetOf, fragments_linked, net_of}
+use Rattle.ep_build.proofs.TransportReadBack.{transport_of}
+
+-- ---- IP
+
+-- the number of a transport header is none of an extension header
+ends_there : (headers : IpHeaders) (behind : TransportHeader) → EndsExtensions headers (transport_number behind)
+ends_there (version.Ipv4 header extensions) (transport.Udp datagram) = λ same. absurd (omega arith)
+ends_there (version.Ipv4 header extensions) (transport.Tcp segment) = λ same. absurd (omega arith)
+ends_there (version.Ipv4 header extensions) (transport.Icmpv4 message) = λ same. absurd (omega arith)
+ends_there (version.Ipv4 header extensions) (transport.Icmpv6 message) = λ same. absurd (omega arith)
+ends_there (version.Ipv6 header extensions) (transport.Udp datagram) = refl
+ends_there (version.Ipv6 header extensions) (transport.Tcp segment) = refl
+ends_there (version.Ipv6 header extensions) (transport.Icmpv4 message) = refl
+ends_there (version.Ipv6 header extensions) (transport.Icmpv6 message) = refl
+
+-- the ether type of IP headers is that of a net layer of their kind
+ip_is_net : (reading : Reading) (headers : IpHeaders) (bytes : List ℕ) (payload : IpPayload)
+    (transport : Option TransportLayer) → (net : NetOf reading headers bytes payload)
+    → IsTransportBehind reading (Some payload) transport
+    → IsNet reading (as_ether_type (ip_headers_type headers)) bytes net.layer transport
+ip_is_net reading (version.Ipv4 header extensions) bytes payload transport net behind = record {
+  small = omega arith;
+  ether_type = omega arith;
+  begins_none = λ begins. absurd (omega arith);
+  part = (
+    net.layer,
+    net.typed,
+    refl,
+    subst (λ (p : Option IpPayload). IsTransportBehind reading p transport) (sym net.has_payload) behind,
+  );
+}
+ip_is_net reading (version.Ipv6 header extensions) bytes payload transport net behind = record {
+  small = omega arith;
+  ether_type = omega arith;
+  begins_none = λ begins. absurd (omega arith);
+  part = (
+    net.layer,
+    net.typed,
+    refl,
+    subst (λ (p : Option IpPayload). IsTransportBehind reading p transport) (sym net.has_payload) behind,
+  );
+}
+
+-- the frame of a transport header is read back
+pub read_back : (part : LinkPart) (headers : IpHeaders) (behind : TransportHeader) (payload : List ℕ) → FitsLink part
+    → FitIpHeaders (headers_for headers (record { 0 = transport_number behind })
+    (length (message_of headers behind payload)))
+    → FitsTransport (transport_between headers payload behind) → AreBytes (message_of headers behind payload)
+    → IsReadBack part headers behind payload
+read_back part headers behind payload fits_link fit fits bytes = λ whole its_length reading entry of.
+    let last : IpNumber = record { 0 = transport_number behind } in
+    let message = message_of headers behind payload in
+    let written = headers_for headers last (length message) in
+    let net = net_of reading headers last message fit (ends_there headers behind) in
+    let found = transport_of reading headers behind payload fits bytes its_length in
+    let not_fragment = fragments_linked headers last (length message) ∙ whole in
+    let there : IsTransportBehind reading (Some (payload_of_headers written last message)) (Some found.layer) =
+    subst (λ f. IsTransportPart reading (transport_number behind) f message (Some found.layer)) (sym not_fragment)
+    found.part in
+    let any : IsNetPart reading (Some any_ip) (ip_frame headers last message) (Some net.layer) (Some found.layer) = (
+      net.layer,
+      net.any,
+      refl,
+      subst (λ (p : Option IpPayload). IsTransportBehind reading p (Some found.layer)) (sym net.has_payload) there,
+    ) in
+    let frame = frame_is reading part (transport_packet headers behind) entry (ip_frame headers last message) net.layer
+    (Some found.layer) fits_link of (ip_is_net reading headers _ _ (Some found.layer) net there) (λ is_ip. any) in
+    record {
+      layers = frame.layers;
+      is = frame.is;
+      payload = payload_of_headers written last message;
+      has_payload = ap (option_and_then net_payload) frame.has_net ∙ net.has_payload;
+      lies = refl;
+      transport = found.layer;
+      has_transport = frame.has_transport;
+      header = found.header;
+      encodes = found.encodes;
+      parts = found.parts;
+      sums = found.sums;
+    }
+
+-- ---- ARP
+
+-- an ARP packet is behind no IP entry
+not_ip : (part : LinkPart) (packet : Arp) (entry : Entry) → IsEntryOf part (arp_packet packet) entry → entry ≡ ip → ⊥
+not_ip link.Absent packet entry of is_ip = let same : ether_type (as_ether_type arp_type) ≡ ip = sym of ∙ is_ip in absurd (cc)
+not_ip (link.Ethernet2 header) packet entry of is_ip = let same = sym of ∙ is_ip in absurd (cc)
+not_ip (link.Tagged header both) packet entry of is_ip = let same = sym of ∙ is_ip in absurd (cc)
+not_ip (link.LinuxSll header) packet entry of is_ip = let same = sym of.1 ∙ is_ip in absurd (cc)
+
+-- the frame of an ARP packet is read back
+pub arp_read_back : (part : LinkPart) (packet : Arp) → FitsLink part → FitsArp packet → IsArpReadBack part packet
+arp_read_back part packet fits_link fits = λ reading entry of.
+    let is_arp : IsArp (arp_bytes packet ++ []) (packet, []) = record { fits = fits; parts = refl } in
+    let frame = frame_is reading part (arp_packet packet) entry (arp_bytes packet ++ []) (arp packet) None fits_link of
+    (record {
+      small = omega arith;
+      ether_type = omega arith;
+      begins_none = λ begins. absurd (omega arith);
+      part = (arp packet, ((packet, []), is_arp, refl), refl, refl);
+    })
+    (λ is_ip. absurd (not_ip part packet entry of is_ip)) in
+    record { layers = frame.layers; is = frame.is; net = frame.has_net }

@@ -1,0 +1,352 @@
+-- What the calls that write a frame answer, from what the calls answer that they make.
+use Rattle.std.proofs.Common.{◌≡◌, ℕ, ◌+◌, ◌-◌, ◌^◌, ◌<◌, ◌≤◌, Bool, true, false, List, [], ◌∷◌, ◌++◌, length}
+use Rattle.std.proofs.Common.{Some, None, Result, Ok, Err, refl, sym, ap, subst, ◌∙◌, inl, inr, arith}
+use Rattle.std.specs.Prelude.{OnOk, is_ok, nat_lt, slice_index}
+use Rattle.std.proofs.lemmas.Grind.{common_steps}
+use Rattle.std.proofs.lemmas.Bool.{cases_lt}
+use Rattle.std.proofs.lemmas.List.{get_or_past, length-append}
+use Rattle.ep_base.specs.Bytes.{AreBytes}
+use Rattle.ep_base.proofs.BytesLemmas.{AreBytes-back}
+use Rattle.ep_ext.specs.Chains.{FitParts}
+use Rattle.ep_base.specs.Tables.{Refuses, first_row, rows_as}
+use Rattle.ep_base.specs.declared.err.value_too_big.ValueTooBigError.{ValueTooBigError}
+use Rattle.ep_base.specs.declared.ether_type.EtherType.{EtherType}
+use Rattle.ep_base.specs.declared.ip_number.IpNumber.{IpNumber}
+use Rattle.ep_base.proofs.TableLemmas.{first_row-append_none, first_row-append_some, first_row-as_none, first_row-as_some}
+use Rattle.ep_ext.specs.declared.ipv4_exts.Ipv4Extensions.{Ipv4Extensions}
+use Rattle.ep_ip.specs.declared.ipv4_header.Ipv4Header.{Ipv4Header}
+use Rattle.ep_packet.specs.IpHeaders.{FitIpHeaders}
+use Rattle.ep_packet.specs.IpHeaders.{headers_for, ip_extensions_len, ip_headers_parts, ip_headers_type, linked_headers}
+use Rattle.ep_packet.specs.IpHeaders.{most_behind_header, payload_len_rows, too_long, written_headers}
+use Rattle.ep_packet.specs.declared.ip_headers.IpHeaders.{IpHeaders}
+use Rattle.ep_packet.specs.declared.ip_headers.IpHeaders.TheVariants as version
+use Rattle.ep_transport.specs.TransportHeaders.{checksum_rows_ipv4, checksum_rows_ipv6, transport_bytes}
+use Rattle.ep_transport.specs.TransportHeaders.{transport_header_len}
+use Rattle.ep_transport.specs.declared.transport_checksum_error.TransportChecksumError.TheVariants as checksum_error
+use Rattle.ep_transport.specs.declared.transport_header.TransportHeader.{TransportHeader}
+use Rattle.ep_transport.specs.declared.transport_header.TransportHeader.TheVariants as transport
+use Rattle.ep_build.specs.BuildErrors.{IsBuildable, IsBuildError, is_icmpv6_in_ipv4}
+use Rattle.ep_build.specs.BuiltFrames.{as_ether_type, built_frame, held_ip, held_transport}
+use Rattle.ep_build.specs.BuiltFrames.{link_before, link_part_bytes, transport_between, transport_number}
+use Rattle.ep_build.specs.BuiltFrames.{with_checksum_behind, with_length}
+use Rattle.ep_build.specs.declared.err.build_write_error.BuildWriteError.{BuildWriteError}
+use Rattle.ep_build.specs.declared.err.build_write_error.BuildWriteError.TheVariants as error
+use Rattle.ep_build.specs.declared.link_part.LinkPart.{LinkPart}
+use Rattle.ep_build.specs.Fits.{FitsIpHeader, FitsLink, FitsTransport}
+use Rattle.ep_build.specs.ReadBack.{IsReadBack, message_of}
+use Rattle.ep_build.proofs.LengthLemmas.{between_len, linked_len}
+use Rattle.ep_build.proofs.ReadBackLemmas.{read_back}
+
+-- what an answer ensures, where it is no error
+pub on_ok : {A E : Type 0} (answer : Result A E) (P : Type 0) → is_ok answer ≡ true → OnOk answer P → P
+on_ok (Ok a) P there ok = ok
+on_ok (Err e) P there ok = absurd (cc)
+
+-- what was appended to a buffer in which room was made
+pub appended : (new middle old bytes frame : List ℕ) → new ≡ middle ++ bytes → middle ≡ old → bytes ≡ frame
+    → new ≡ old ++ frame
+appended new middle old bytes frame is same whole =
+    is ∙ ap (λ (b : List ℕ). b ++ bytes) same ∙ ap (λ (b : List ℕ). old ++ b) whole
+
+-- each item is a byte, and so is the number that stands for what is past the end
+pub are_bytes : (bytes : List ℕ) → ((i : ℕ) → i < length bytes → slice_index bytes i < 256) → AreBytes bytes
+are_bytes bytes fits = λ i. elim (cases_lt i (length bytes)) [
+  | inl there ↦ fits i there
+  | inr past ↦ omega (arith, get_or_past bytes i 0 past)
+]
+
+-- ---- the table of lengths
+
+-- it is the same of headers that are linked
+pub rows_linked : (headers : IpHeaders) (last : IpNumber) (len : ℕ)
+    → payload_len_rows (linked_headers headers last) len ≡ payload_len_rows headers len
+rows_linked (version.Ipv4 header extensions) last len =
+    ap (λ (n : ℕ). (
+      nat_lt (2 ^ 64 - 1) (len + n),
+      too_long (version.Ipv4 header extensions) len (most_behind_header (version.Ipv4 header extensions) - n),
+    )
+    ∷ (
+      nat_lt (most_behind_header (version.Ipv4 header extensions)) (len + n),
+      too_long (version.Ipv4 header extensions) (len + n) (most_behind_header (version.Ipv4 header extensions)),
+    )
+    ∷ []) (linked_len (version.Ipv4 header extensions) last)
+rows_linked (version.Ipv6 header extensions) last len =
+    ap (λ (n : ℕ). (
+      nat_lt (2 ^ 64 - 1) (len + n),
+      too_long (version.Ipv6 header extensions) len (65535 - n),
+    )
+    ∷ (nat_lt 65535 (len + n), too_long (version.Ipv6 header extensions) (len + n) 65535)
+    ∷ []) (linked_len (version.Ipv6 header extensions) last)
+
+passes : {E : Type 0} (total most : ℕ) (first second : E) → most ≤ 65535 → total ≤ most
+    → first_row ((nat_lt (2 ^ 64 - 1) total, first) ∷ (nat_lt most total, second) ∷ []) ≡ None
+passes total most first second small fits = grind (arith, common_steps)
+
+most_is_small : (headers : IpHeaders) → most_behind_header headers ≤ 65535
+most_is_small (version.Ipv4 header extensions) = omega arith
+most_is_small (version.Ipv6 header extensions) = omega arith
+
+-- it refuses no length that the field can count
+pub counted : (headers : IpHeaders) (len : ℕ) → len + ip_extensions_len headers ≤ most_behind_header headers
+    → first_row (payload_len_rows headers len) ≡ None
+counted headers len fits = passes
+    (len + ip_extensions_len headers)
+    (most_behind_header headers)
+    _
+    _
+    (most_is_small headers)
+    fits
+
+within : {E : Type 0} (total most : ℕ) (first second : E) → most ≤ 65535
+    → first_row ((nat_lt (2 ^ 64 - 1) total, first) ∷ (nat_lt most total, second) ∷ []) ≡ None → total ≤ 65535
+within total most first second small none = grind (arith, common_steps)
+
+-- and what it does not refuse has a length of 16 bits
+pub unrefused_len : (headers : IpHeaders) (len : ℕ) → first_row (payload_len_rows headers len) ≡ None
+    → len + ip_extensions_len headers ≤ 65535
+unrefused_len headers len none = within
+    (len + ip_extensions_len headers)
+    (most_behind_header headers)
+    _
+    _
+    (most_is_small headers)
+    none
+
+-- ---- the table of the builder
+
+pub ip_passes : (link : LinkPart) (headers : IpHeaders) (last : IpNumber) (len : ℕ)
+    → first_row (payload_len_rows headers len) ≡ None
+    → IsBuildable (held_ip link headers last) len
+ip_passes link headers last len none = first_row-as_none error.PayloadLen (payload_len_rows headers len) none
+
+pub ip_refuses : (link : LinkPart) (headers : IpHeaders) (last : IpNumber) (len : ℕ) (refusal : ValueTooBigError ℕ)
+    → Refuses (payload_len_rows headers len) refusal
+    → IsBuildError (held_ip link headers last) len (error.PayloadLen refusal)
+ip_refuses link headers last len refusal refused =
+    inl (first_row-as_some error.PayloadLen (payload_len_rows headers len) refusal refused)
+
+abbrev icmpv6_rows : Bool → List (Bool × BuildWriteError)
+icmpv6_rows b = (b, error.Icmpv6InIpv4) ∷ []
+
+icmpv6_row_none : (b : Bool) → b ≡ false → first_row (icmpv6_rows b) ≡ None
+icmpv6_row_none true is = absurd (cc)
+icmpv6_row_none false is = refl
+
+icmpv6_row_some : (b : Bool) → b ≡ true → first_row (icmpv6_rows b) ≡ Some error.Icmpv6InIpv4
+icmpv6_row_some true is = refl
+icmpv6_row_some false is = absurd (cc)
+
+pub transport_passes : (link : LinkPart) (headers : IpHeaders) (behind : TransportHeader) (len : ℕ)
+    → first_row (payload_len_rows headers (transport_header_len behind + len)) ≡ None
+    → is_icmpv6_in_ipv4 headers behind ≡ false
+    → IsBuildable (held_transport link headers behind) len
+transport_passes link headers behind len none carried =
+    let rows = payload_len_rows headers (transport_header_len behind + len) in
+    first_row-append_none (rows_as error.PayloadLen rows) (icmpv6_rows (is_icmpv6_in_ipv4 headers behind)) (first_row-as_none error.PayloadLen rows none)
+    ∙ icmpv6_row_none (is_icmpv6_in_ipv4 headers behind) carried
+
+pub transport_too_long : (link : LinkPart) (headers : IpHeaders) (behind : TransportHeader) (len : ℕ)
+    (refusal : ValueTooBigError ℕ) → Refuses (payload_len_rows headers (transport_header_len behind + len)) refusal
+    → IsBuildError (held_transport link headers behind) len (error.PayloadLen refusal)
+transport_too_long link headers behind len refusal refused =
+    let rows = payload_len_rows headers (transport_header_len behind + len) in
+    inl (first_row-append_some (rows_as error.PayloadLen rows) (icmpv6_rows (is_icmpv6_in_ipv4 headers behind)) _
+    (first_row-as_some error.PayloadLen rows refusal refused))
+
+pub transport_not_carried : (link : LinkPart) (headers : IpHeaders) (behind : TransportHeader) (len : ℕ)
+    (answer : BuildWriteError) → first_row (payload_len_rows headers (transport_header_len behind + len)) ≡ None
+    → is_icmpv6_in_ipv4 headers behind ≡ true → answer ≡ error.Icmpv6InIpv4
+    → IsBuildError (held_transport link headers behind) len answer
+transport_not_carried link headers behind len answer none carried same =
+    let rows = payload_len_rows headers (transport_header_len behind + len) in
+    inl (first_row-append_none (rows_as error.PayloadLen rows) (icmpv6_rows (is_icmpv6_in_ipv4 headers behind)) (first_row-as_none error.PayloadLen rows none)
+    ∙ icmpv6_row_some (is_icmpv6_in_ipv4 headers behind) carried ∙ ap (λ (e : BuildWriteError). Some e) (sym same))
+
+-- ---- checksums
+
+-- behind IPv4 a length of 16 bits is never refused
+pub summed_ipv4 : (behind : TransportHeader) (payload : List ℕ) (refusal : ValueTooBigError ℕ)
+    → transport_header_len behind + length payload ≤ 65535
+    → Refuses (checksum_rows_ipv4 behind payload) (checksum_error.PayloadLen refusal) → ⊥
+summed_ipv4 (transport.Udp header) payload refusal fits refused = grind (arith, common_steps)
+summed_ipv4 (transport.Tcp header) payload refusal fits refused = grind (arith, common_steps)
+summed_ipv4 (transport.Icmpv4 header) payload refusal fits refused = absurd (cc)
+summed_ipv4 (transport.Icmpv6 header) payload refusal fits refused = absurd (cc)
+
+-- nor behind IPv6
+pub summed_ipv6 : (behind : TransportHeader) (payload : List ℕ) (refusal : ValueTooBigError ℕ)
+    → transport_header_len behind + length payload ≤ 65535
+    → Refuses (checksum_rows_ipv6 behind payload) refusal → ⊥
+summed_ipv6 (transport.Udp header) payload refusal fits refused = grind (arith, common_steps)
+summed_ipv6 (transport.Tcp header) payload refusal fits refused = grind (arith, common_steps)
+summed_ipv6 (transport.Icmpv4 header) payload refusal fits refused = absurd (cc)
+summed_ipv6 (transport.Icmpv6 header) payload refusal fits refused = grind (arith, common_steps)
+
+-- what is summed behind IPv4 is none of ICMPv6
+pub carried_ipv4 : (headers : IpHeaders) (behind : TransportHeader) (payload : List ℕ)
+    → first_row (checksum_rows_ipv4 behind payload) ≡ None → is_icmpv6_in_ipv4 headers behind ≡ false
+carried_ipv4 (version.Ipv4 ip extensions) (transport.Udp header) payload none = refl
+carried_ipv4 (version.Ipv4 ip extensions) (transport.Tcp header) payload none = refl
+carried_ipv4 (version.Ipv4 ip extensions) (transport.Icmpv4 header) payload none = refl
+carried_ipv4 (version.Ipv4 ip extensions) (transport.Icmpv6 header) payload none = absurd (cc)
+carried_ipv4 (version.Ipv6 ip extensions) behind payload none = refl
+
+-- what is refused so is ICMPv6 in IPv4
+pub not_carried : (ip : Ipv4Header) (extensions : Ipv4Extensions) (behind : TransportHeader) (payload : List ℕ)
+    → Refuses (checksum_rows_ipv4 behind payload) checksum_error.Icmpv6InIpv4
+    → is_icmpv6_in_ipv4 (version.Ipv4 ip extensions) behind ≡ true
+not_carried ip extensions (transport.Udp header) payload refused = grind (arith, common_steps)
+not_carried ip extensions (transport.Tcp header) payload refused = grind (arith, common_steps)
+not_carried ip extensions (transport.Icmpv4 header) payload refused = absurd (cc)
+not_carried ip extensions (transport.Icmpv6 header) payload refused = refl
+
+-- filling in the length makes no other header of it
+pub carried_with_length : (headers : IpHeaders) (len : ℕ) (behind : TransportHeader)
+    → is_icmpv6_in_ipv4 headers (with_length len behind) ≡ is_icmpv6_in_ipv4 headers behind
+carried_with_length (version.Ipv4 ip extensions) len (transport.Udp header) = refl
+carried_with_length (version.Ipv4 ip extensions) len (transport.Tcp header) = refl
+carried_with_length (version.Ipv4 ip extensions) len (transport.Icmpv4 header) = refl
+carried_with_length (version.Ipv4 ip extensions) len (transport.Icmpv6 header) = refl
+carried_with_length (version.Ipv6 ip extensions) len behind = refl
+
+-- nor does linking the headers before it
+pub carried_linked : (headers : IpHeaders) (last : IpNumber) (len : ℕ) (behind : TransportHeader)
+    → is_icmpv6_in_ipv4 (headers_for headers last len) behind ≡ is_icmpv6_in_ipv4 headers behind
+carried_linked (version.Ipv4 ip extensions) last len (transport.Udp header) = refl
+carried_linked (version.Ipv4 ip extensions) last len (transport.Tcp header) = refl
+carried_linked (version.Ipv4 ip extensions) last len (transport.Icmpv4 header) = refl
+carried_linked (version.Ipv4 ip extensions) last len (transport.Icmpv6 header) = refl
+carried_linked (version.Ipv6 ip extensions) last len behind = refl
+
+-- linked headers have the same addresses
+pub summed_linked : (headers : IpHeaders) (last : IpNumber) (len : ℕ) (payload : List ℕ) (behind : TransportHeader)
+    → with_checksum_behind (headers_for headers last len) payload behind
+    ≡ with_checksum_behind headers payload behind
+summed_linked (version.Ipv4 ip extensions) last len payload (transport.Udp header) = refl
+summed_linked (version.Ipv4 ip extensions) last len payload (transport.Tcp header) = refl
+summed_linked (version.Ipv4 ip extensions) last len payload (transport.Icmpv4 header) = refl
+summed_linked (version.Ipv4 ip extensions) last len payload (transport.Icmpv6 header) = refl
+summed_linked (version.Ipv6 ip extensions) last len payload (transport.Udp header) = refl
+summed_linked (version.Ipv6 ip extensions) last len payload (transport.Tcp header) = refl
+summed_linked (version.Ipv6 ip extensions) last len payload (transport.Icmpv4 header) = refl
+summed_linked (version.Ipv6 ip extensions) last len payload (transport.Icmpv6 header) = refl
+
+-- ---- the frame
+
+-- linked headers and what they were linked for
+pub is_ip_frame : (link : LinkPart) (headers linked : IpHeaders) (last : IpNumber) (type : EtherType) (payload : List ℕ)
+    → linked ≡ headers_for headers last (length payload) → type.0 ≡ ip_headers_type headers
+    → link_part_bytes (link_before link type) ++ (written_headers linked (ip_headers_parts linked) ++ payload)
+    ≡ built_frame (held_ip link headers last) payload
+is_ip_frame link headers linked last type payload is typed =
+    ap (λ (n : ℕ). link_part_bytes (link_before link (as_ether_type n))
+    ++ (written_headers linked (ip_headers_parts linked) ++ payload)) typed
+    ∙ ap (λ (h : IpHeaders). link_part_bytes (link_before link (as_ether_type (ip_headers_type headers)))
+    ++ (written_headers h (ip_headers_parts h) ++ payload)) is
+
+-- the frame of content behind headers that lead to a transport header
+abbrev built_content : LinkPart → IpHeaders → TransportHeader → List ℕ → List ℕ
+built_content link headers behind content =
+    let written = headers_for headers (record { 0 = transport_number behind }) (length content) in
+    link_part_bytes (link_before link (as_ether_type (ip_headers_type headers)))
+    ++ (written_headers written (ip_headers_parts written) ++ content)
+
+-- the same with a transport header between them
+pub is_transport_frame : (link : LinkPart) (headers linked : IpHeaders) (behind filled : TransportHeader) (last : IpNumber)
+    (len : ℕ) (type : EtherType) (payload : List ℕ) → linked ≡ headers_for headers last len
+    → last.0 ≡ transport_number behind → filled ≡ transport_between headers payload behind
+    → len ≡ length (transport_bytes filled ++ payload) → type.0 ≡ ip_headers_type headers
+    → link_part_bytes (link_before link type)
+    ++ (written_headers linked (ip_headers_parts linked) ++ (transport_bytes filled ++ payload))
+    ≡ built_frame (held_transport link headers behind) payload
+is_transport_frame link headers linked behind filled last len type payload is number between counts typed =
+    let content = transport_bytes filled ++ payload in
+    let whole : linked ≡ headers_for headers (record { 0 = transport_number behind }) (length content) =
+    is ∙ ap (λ (n : ℕ). headers_for headers last n) counts
+    ∙ ap (λ (n : ℕ). headers_for headers (record { 0 = n }) (length content)) number in
+    ap (λ (n : ℕ). link_part_bytes (link_before link (as_ether_type n))
+    ++ (written_headers linked (ip_headers_parts linked) ++ content)) typed
+    ∙ ap (λ (h : IpHeaders). link_part_bytes (link_before link (as_ether_type (ip_headers_type headers)))
+    ++ (written_headers h (ip_headers_parts h) ++ content)) whole
+    ∙ ap (λ (t : TransportHeader). built_content link headers behind (transport_bytes t ++ payload)) between
+
+-- a header has as many bytes as it says
+pub transport_len : (header : TransportHeader) → FitsTransport header
+    → length (transport_bytes header) ≡ transport_header_len header
+transport_len (transport.Udp header) fits = refl
+transport_len (transport.Tcp header) fits = grind (arith, common_steps)
+transport_len (transport.Icmpv4 header) fits = fits
+transport_len (transport.Icmpv6 header) fits = fits
+
+-- a transport header that was filled in behind linked headers is the one that is written between headers and payload
+between_is : (headers linked : IpHeaders) (behind set filled : TransportHeader) (last : IpNumber) (len : ℕ)
+    (payload : List ℕ) → linked ≡ headers_for headers last len → set ≡ with_length (length payload) behind
+    → filled ≡ with_checksum_behind linked payload set → filled ≡ transport_between headers payload behind
+between_is headers linked behind set filled last len payload is sets sums =
+    let with_len = with_length (length payload) behind in
+    sums ∙ ap (with_checksum_behind linked payload) sets
+    ∙ ap (λ (h : IpHeaders). with_checksum_behind h payload with_len) is
+    ∙ summed_linked headers last len payload with_len
+
+-- what the headers were linked for is the length of the content
+content_is : (headers : IpHeaders) (behind filled : TransportHeader) (len : ℕ) (payload : List ℕ)
+    → filled ≡ transport_between headers payload behind → len ≡ transport_header_len behind + length payload
+    → FitsTransport filled → len ≡ length (transport_bytes filled ++ payload)
+content_is headers behind filled len payload between counts fits =
+    let same : transport_header_len filled ≡ transport_header_len behind =
+    ap transport_header_len between ∙ between_len headers payload behind in
+    omega (arith, counts, same, transport_len filled fits, length-append (transport_bytes filled) payload)
+
+-- what is written of a transport header that was filled in behind linked headers
+pub transport_ok : (link : LinkPart) (headers linked : IpHeaders) (behind set filled : TransportHeader)
+    (last : IpNumber) (len : ℕ) (type : EtherType) (payload : List ℕ) → linked ≡ headers_for headers last len
+    → last.0 ≡ transport_number behind → set ≡ with_length (length payload) behind
+    → is_icmpv6_in_ipv4 linked set ≡ false → filled ≡ with_checksum_behind linked payload set
+    → len ≡ transport_header_len behind + length payload → FitsTransport filled → type.0 ≡ ip_headers_type headers
+    → first_row (payload_len_rows headers len) ≡ None
+    → IsBuildable (held_transport link headers behind) (length payload)
+    × (link_part_bytes (link_before link type)
+    ++ (written_headers linked (ip_headers_parts linked) ++ (transport_bytes filled ++ payload))
+    ≡ built_frame (held_transport link headers behind) payload)
+transport_ok link headers linked behind set filled last len type payload is number sets carried sums counts fits typed none =
+    let with_len = with_length (length payload) behind in
+    let between = between_is headers linked behind set filled last len payload is sets sums in
+    let not_icmpv6 : is_icmpv6_in_ipv4 headers behind ≡ false =
+    sym (carried_with_length headers (length payload) behind) ∙ sym (carried_linked headers last len with_len)
+    ∙ ap (λ (h : IpHeaders). is_icmpv6_in_ipv4 h with_len) (sym is) ∙ ap (is_icmpv6_in_ipv4 linked) (sym sets)
+    ∙ carried in (
+      transport_passes link headers behind (length payload)
+          (subst (λ (n : ℕ). first_row (payload_len_rows headers n) ≡ None) counts none) not_icmpv6,
+      is_transport_frame link headers linked behind filled last len type payload is number between
+          (content_is headers behind filled len payload between counts fits) typed,
+    )
+
+-- ---- reading back
+
+fit_both : (headers : IpHeaders) → FitsIpHeader headers → FitParts (ip_headers_parts headers) → FitIpHeaders headers
+fit_both (version.Ipv4 header extensions) header_fits parts_fit = (header_fits, parts_fit)
+fit_both (version.Ipv6 header extensions) header_fits parts_fit = (header_fits, parts_fit)
+
+-- the frame that was appended to some bytes is read back
+pub transport_back : (link : LinkPart) (headers linked : IpHeaders) (behind set filled : TransportHeader)
+    (last : IpNumber) (len : ℕ) (payload before front : List ℕ) → linked ≡ headers_for headers last len
+    → last.0 ≡ transport_number behind → set ≡ with_length (length payload) behind
+    → filled ≡ with_checksum_behind linked payload set → len ≡ transport_header_len behind + length payload
+    → FitsTransport filled → FitsLink link → FitsIpHeader linked → FitParts (ip_headers_parts linked)
+    → AreBytes (before ++ (front ++ (written_headers linked (ip_headers_parts linked)
+    ++ (transport_bytes filled ++ payload)))) → IsReadBack link headers behind payload
+transport_back link headers linked behind set filled last len payload before front is number sets sums counts fits fits_link
+    header_fits parts_fit bytes =
+    let between = between_is headers linked behind set filled last len payload is sets sums in
+    let message_is : transport_bytes filled ++ payload ≡ message_of headers behind payload =
+    ap (λ (t : TransportHeader). transport_bytes t ++ payload) between in
+    let linked_is : linked ≡ headers_for headers (record { 0 = transport_number behind })
+    (length (message_of headers behind payload)) =
+    is ∙ ap (λ (n : ℕ). headers_for headers last n)
+    (content_is headers behind filled len payload between counts fits ∙ ap length message_is)
+    ∙ ap (λ (n : ℕ). headers_for headers (record { 0 = n }) (length (message_of headers behind payload))) number in
+    let message_bytes = AreBytes-back (written_headers linked (ip_headers_parts linked)) (transport_bytes filled ++ payload)
+    (AreBytes-back front _ (AreBytes-back before _ bytes)) in
+    read_back link headers behind payload fits_link
+    (subst FitIpHeaders linked_is (fit_both linked header_fits parts_fit)) (subst FitsTransport between fits)
+    (subst AreBytes message_is message_bytes)

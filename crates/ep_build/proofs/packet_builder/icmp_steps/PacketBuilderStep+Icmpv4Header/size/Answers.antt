@@ -1,0 +1,15 @@
+use Rattle.std.proofs.Common.{◌≡◌, ◌+◌, ap, ◌∙◌, arith}
+use Rattle.ep_transport.specs.declared.transport_header.TransportHeader.TheVariants as transport
+use Rattle.ep_build.specs.BuiltFrames.{built_size}
+use Rattle.ep_build.specs.Steps.{transport_held}
+use Rattle.ep_build.proofs.SizeLemmas.{transport_size}
+use Rattle.ep_build.proofs.packet_builder.icmp_steps.PacketBuilderStep+Icmpv4Header.size.Goals as goal
+
+pub returns-clause-frame : goal.returns-clause-frame
+returns-clause-frame c = λ payload same.
+    let step = c.args.self.now in
+    let held = transport_held {H = _} (λ h. transport.Icmpv4 h) step in
+    let whole = transport_size step.before.0 step.before.1 (transport.Icmpv4 step.last) payload c.link_fits.ensures
+    c.ip_header_fits.ensures c.icmpv4_fits.ensures in
+    let sized : built_size held c.args.payload_size ≡ c.header_len.result + c.header_len-2.result + c.header_len-3.result + c.args.payload_size = omega arith in
+    whole ∙ ap (built_size held) same ∙ sized

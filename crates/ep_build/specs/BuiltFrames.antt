@@ -1,0 +1,158 @@
+-- The frame that headers and a payload are built to: the headers from the outside in, each with the types, the numbers,
+-- the lengths and the checksums of what stands behind it, and then the payload.
+use Rattle.std.specs.Prelude.{ℕ, ◌+◌, List, [], ◌++◌, length}
+use Rattle.ep_base.specs.EtherTypes.{arp_type, provider_bridging_type, vlan_type}
+use Rattle.ep_base.specs.IpNumbers.{icmpv4_number, icmpv6_number, tcp_number, udp_number}
+use Rattle.ep_base.specs.declared.ether_type.EtherType.{EtherType}
+use Rattle.ep_base.specs.declared.ip_number.IpNumber.{IpNumber}
+use Rattle.ep_link.specs.Arp.{Arp, arp_bytes, arp_len}
+use Rattle.ep_link.specs.Ethernet2.{ethernet2_bytes, ethernet2_header_len}
+use Rattle.ep_link.specs.LinuxSll.{ethernet_hardware, linux_sll_bytes, linux_sll_header_len}
+use Rattle.ep_link.specs.Vlan.{vlan_tags_bytes}
+use Rattle.ep_link.specs.declared.link.linux_sll_protocol_type.LinuxSllProtocolType.TheVariants as protocol
+use Rattle.ep_link.specs.declared.link_ext.vlan_header.VlanHeader.{VlanHeader}
+use Rattle.ep_link.specs.declared.link_ext.vlan_header.VlanHeader.TheVariants as tags
+use Rattle.ep_packet.specs.IpHeaders.{headers_for, ip_headers_len, ip_headers_parts, ip_headers_type}
+use Rattle.ep_packet.specs.IpHeaders.{written_headers}
+use Rattle.ep_packet.specs.declared.ip_headers.IpHeaders.{IpHeaders}
+use Rattle.ep_packet.specs.declared.ip_headers.IpHeaders.TheVariants as version
+use Rattle.ep_transport.specs.TransportHeaders.{transport_bytes, transport_header_len, with_checksum_ipv4}
+use Rattle.ep_transport.specs.TransportHeaders.{with_checksum_ipv6}
+use Rattle.ep_transport.specs.declared.transport_header.TransportHeader.{TransportHeader}
+use Rattle.ep_transport.specs.declared.transport_header.TransportHeader.TheVariants as transport
+use Rattle.ep_build.specs.declared.link_part.LinkPart.{LinkPart}
+use Rattle.ep_build.specs.declared.link_part.LinkPart.TheVariants as link
+
+-- ---- the headers of a frame, as plain data
+
+-- what the link part carries: IP headers, with the number of the payload or with a transport header, or an ARP packet
+pub data Inside : Type 0 where
+  ip_packet : IpHeaders → IpNumber → Inside
+  transport_packet : IpHeaders → TransportHeader → Inside
+  arp_packet : Arp → Inside
+
+-- the link header and the VLAN tags, where there are any, and what they carry
+pub record Held : Type 0 where
+  pub link : LinkPart
+  pub inside : Inside
+
+-- these headers
+abbrev pub held_ip : LinkPart → IpHeaders → IpNumber → Held
+held_ip part headers last = record { link = part; inside = ip_packet headers last }
+
+abbrev pub held_transport : LinkPart → IpHeaders → TransportHeader → Held
+held_transport part headers behind = record { link = part; inside = transport_packet headers behind }
+
+abbrev pub held_arp : LinkPart → Arp → Held
+held_arp part packet = record { link = part; inside = arp_packet packet }
+
+-- ---- the link part
+
+-- a number as an ether type
+abbrev pub as_ether_type : ℕ → EtherType
+as_ether_type number = record { 0 = number }
+
+-- the type before VLAN tags: that of a customer tag before one, and that of a service tag before two (IEEE 802.1Q, 9.5)
+abbrev pub tags_type : VlanHeader → ℕ
+tags_type (tags.Single tag) = vlan_type
+tags_type (tags.Double both) = provider_bridging_type
+
+-- VLAN tags before what has this type; the outer one of two names the inner one, a customer tag
+abbrev pub tags_before : VlanHeader → EtherType → VlanHeader
+tags_before (tags.Single tag) type = tags.Single (record tag { ether_type = type })
+tags_before (tags.Double both) type = tags.Double (record {
+  outer = record both.outer { ether_type = as_ether_type vlan_type };
+  inner = record both.inner { ether_type = type };
+})
+
+-- The link part before what has this type, which the last of its headers names. A cooked capture is one of Ethernet.
+abbrev pub link_before : LinkPart → EtherType → LinkPart
+link_before link.Absent type = link.Absent
+link_before (link.Ethernet2 header) type = link.Ethernet2 (record header { ether_type = type })
+link_before (link.Tagged header both) type =
+    link.Tagged (record header { ether_type = as_ether_type (tags_type both) }) (tags_before both type)
+link_before (link.LinuxSll header) type = link.LinuxSll (record header {
+  arp_hrd_type = record { 0 = ethernet_hardware };
+  protocol_type = protocol.EtherType type;
+})
+
+-- the bytes of a link part
+abbrev pub link_part_bytes : LinkPart → List ℕ
+link_part_bytes link.Absent = []
+link_part_bytes (link.Ethernet2 header) = ethernet2_bytes header
+link_part_bytes (link.Tagged header both) = ethernet2_bytes header ++ vlan_tags_bytes both
+link_part_bytes (link.LinuxSll header) = linux_sll_bytes header
+
+-- the number of these bytes
+abbrev pub tags_len : VlanHeader → ℕ
+tags_len (tags.Single tag) = 4
+tags_len (tags.Double both) = 8
+
+abbrev pub link_part_len : LinkPart → ℕ
+link_part_len link.Absent = 0
+link_part_len (link.Ethernet2 header) = ethernet2_header_len
+link_part_len (link.Tagged header both) = ethernet2_header_len + tags_len both
+link_part_len (link.LinuxSll header) = linux_sll_header_len
+
+-- ---- the transport header
+
+-- the protocol number of a transport header
+abbrev pub transport_number : TransportHeader → ℕ
+transport_number (transport.Udp header) = udp_number
+transport_number (transport.Tcp header) = tcp_number
+transport_number (transport.Icmpv4 header) = icmpv4_number
+transport_number (transport.Icmpv6 header) = icmpv6_number
+
+-- a transport header before so many bytes, which the length field of UDP counts behind its own 8
+abbrev pub with_length : ℕ → TransportHeader → TransportHeader
+with_length len (transport.Udp header) = transport.Udp (record header { length = 8 + len })
+with_length len (transport.Tcp header) = transport.Tcp header
+with_length len (transport.Icmpv4 header) = transport.Icmpv4 header
+with_length len (transport.Icmpv6 header) = transport.Icmpv6 header
+
+-- a transport header with its checksum between the addresses of IP headers and this payload
+abbrev pub with_checksum_behind : IpHeaders → List ℕ → TransportHeader → TransportHeader
+with_checksum_behind (version.Ipv4 header extensions) payload behind = with_checksum_ipv4 header payload behind
+with_checksum_behind (version.Ipv6 header extensions) payload behind = with_checksum_ipv6 header payload behind
+
+-- a transport header as it is written between these
+abbrev pub transport_between : IpHeaders → List ℕ → TransportHeader → TransportHeader
+transport_between headers payload behind = with_checksum_behind headers payload (with_length (length payload) behind)
+
+-- ---- the frame
+
+-- IP headers that lead to this number and count this content, and then the content
+abbrev pub ip_frame : IpHeaders → IpNumber → List ℕ → List ℕ
+ip_frame headers last content =
+    let written = headers_for headers last (length content) in
+    written_headers written (ip_headers_parts written) ++ content
+
+-- the ether type of what the link part carries
+abbrev pub inside_type : Inside → ℕ
+inside_type (ip_packet headers last) = ip_headers_type headers
+inside_type (transport_packet headers behind) = ip_headers_type headers
+inside_type (arp_packet packet) = arp_type
+
+-- the bytes of what the link part carries, and of the payload
+abbrev pub inside_frame : Inside → List ℕ → List ℕ
+inside_frame (ip_packet headers last) payload = ip_frame headers last payload
+inside_frame (transport_packet headers behind) payload = ip_frame
+    headers
+    (record { 0 = transport_number behind })
+    (transport_bytes (transport_between headers payload behind) ++ payload)
+inside_frame (arp_packet packet) payload = arp_bytes packet ++ payload
+
+-- the frame of headers and a payload
+abbrev pub built_frame : Held → List ℕ → List ℕ
+built_frame held payload =
+    link_part_bytes (link_before held.link (as_ether_type (inside_type held.inside))) ++ inside_frame held.inside payload
+
+-- the number of bytes of what the link part carries, and of so many bytes of payload
+abbrev pub inside_size : Inside → ℕ → ℕ
+inside_size (ip_packet headers last) len = ip_headers_len headers + len
+inside_size (transport_packet headers behind) len = ip_headers_len headers + (transport_header_len behind + len)
+inside_size (arp_packet packet) len = arp_len packet + len
+
+-- the number of bytes of the frame of headers and so many bytes of payload
+abbrev pub built_size : Held → ℕ → ℕ
+built_size held len = link_part_len held.link + inside_size held.inside len

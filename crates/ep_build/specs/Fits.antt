@@ -1,0 +1,63 @@
+-- Each field of the headers of a frame fits its place, as the types of the code say.
+use Rattle.std.specs.Prelude.{◌≡◌, ◌<◌, ◌^◌, length}
+use Rattle.ep_base.specs.Bytes.{AreBytes}
+use Rattle.ep_ip.specs.Ipv4.{FitsIpv4}
+use Rattle.ep_ip.specs.Ipv6.{FitsIpv6}
+use Rattle.ep_link.specs.Arp.{FitsArp}
+use Rattle.ep_link.specs.Ethernet2.{FitsEthernet2}
+use Rattle.ep_link.specs.Vlan.{FitsVlan}
+use Rattle.ep_link.specs.declared.link.linux_sll_header.LinuxSllHeader.{LinuxSllHeader}
+use Rattle.ep_link.specs.declared.link_ext.vlan_header.VlanHeader.{VlanHeader}
+use Rattle.ep_link.specs.declared.link_ext.vlan_header.VlanHeader.TheVariants as tags
+use Rattle.ep_packet.specs.declared.ip_headers.IpHeaders.{IpHeaders}
+use Rattle.ep_packet.specs.declared.ip_headers.IpHeaders.TheVariants as version
+use Rattle.ep_transport.specs.Icmpv4.{icmpv4_bytes, icmpv4_kind, icmpv4_len}
+use Rattle.ep_transport.specs.Icmpv6.{icmpv6_bytes}
+use Rattle.ep_transport.specs.Tcp.{FitsTcp}
+use Rattle.ep_transport.specs.Udp.{FitsUdp}
+use Rattle.ep_transport.specs.declared.transport_header.TransportHeader.{TransportHeader}
+use Rattle.ep_transport.specs.declared.transport_header.TransportHeader.TheVariants as transport
+use Rattle.ep_build.specs.BuiltFrames.{Held, Inside, ip_packet, transport_packet, arp_packet}
+use Rattle.ep_build.specs.declared.link_part.LinkPart.{LinkPart}
+use Rattle.ep_build.specs.declared.link_part.LinkPart.TheVariants as link
+
+-- VLAN tags
+abbrev pub FitTags : VlanHeader → Type 0
+FitTags (tags.Single tag) = FitsVlan tag
+FitTags (tags.Double both) = FitsVlan both.outer × FitsVlan both.inner
+
+-- what the header of a cooked capture has that is not filled in, whatever its packet type
+pub record FitsCooked (header : LinuxSllHeader) : Type 0 where
+  pub packet_type : header.packet_type.0 < 2 ^ 16
+  pub valid_length : header.sender_address_valid_length < 2 ^ 16
+  pub address_length : length header.sender_address ≡ 8
+  pub address : AreBytes header.sender_address
+
+-- a link part
+abbrev pub FitsLink : LinkPart → Type 0
+FitsLink link.Absent = Unit {0}
+FitsLink (link.Ethernet2 header) = FitsEthernet2 header
+FitsLink (link.Tagged header both) = FitsEthernet2 header × FitTags both
+FitsLink (link.LinuxSll header) = FitsCooked header
+
+-- the header of IP, without the extension headers
+abbrev pub FitsIpHeader : IpHeaders → Type 0
+FitsIpHeader (version.Ipv4 header extensions) = FitsIpv4 header
+FitsIpHeader (version.Ipv6 header extensions) = FitsIpv6 header
+
+-- a transport header; of ICMP that it has its length, since any bytes of that length may be read
+abbrev pub FitsTransport : TransportHeader → Type 0
+FitsTransport (transport.Udp header) = FitsUdp header
+FitsTransport (transport.Tcp header) = FitsTcp header
+FitsTransport (transport.Icmpv4 header) = length (icmpv4_bytes header) ≡ icmpv4_len (icmpv4_kind header.icmp_type)
+FitsTransport (transport.Icmpv6 header) = length (icmpv6_bytes header) ≡ 8
+
+-- what the link part carries
+abbrev pub FitsInside : Inside → Type 0
+FitsInside (ip_packet headers last) = FitsIpHeader headers
+FitsInside (transport_packet headers behind) = FitsIpHeader headers × FitsTransport behind
+FitsInside (arp_packet packet) = FitsArp packet
+
+-- all headers of a frame
+abbrev pub FitsHeld : Held → Type 0
+FitsHeld held = FitsLink held.link × FitsInside held.inside

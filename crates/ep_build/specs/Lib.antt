@@ -1,0 +1,5 @@
+pub mod BuiltFrames
+pub mod Steps
+pub mod BuildErrors
+pub mod Fits
+pub mod ReadBack

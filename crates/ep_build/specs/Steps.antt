@@ -1,0 +1,108 @@
+-- What a step of building holds.
+use Rattle.std.specs.Prelude.{ℕ, ◌+◌, List, None, false}
+use Rattle.ep_base.specs.declared.ether_type.EtherType.{EtherType}
+use Rattle.ep_base.specs.declared.ip_number.IpNumber.{IpNumber}
+use Rattle.ep_ext.specs.Ipv6Chains.{no_ipv6_extensions}
+use Rattle.ep_ip.specs.Ipv4.{default_ipv4_header}
+use Rattle.ep_ip.specs.Ipv6.{default_ipv6_header}
+use Rattle.ep_link.specs.ArpSlices.{arp_of}
+use Rattle.ep_link.specs.declared.arp.arp_packet.ArpPacket.{ArpPacket}
+use Rattle.ep_link.specs.declared.link.ethernet2_header.Ethernet2Header.{Ethernet2Header}
+use Rattle.ep_link.specs.declared.link.linux_sll_header.LinuxSllHeader.{LinuxSllHeader}
+use Rattle.ep_link.specs.declared.link_ext.single_vlan_header.SingleVlanHeader.{SingleVlanHeader}
+use Rattle.ep_link.specs.declared.link_ext.vlan_header.VlanHeader.{VlanHeader}
+use Rattle.ep_packet.specs.declared.ip_headers.IpHeaders.{IpHeaders}
+use Rattle.ep_packet.specs.declared.ip_headers.IpHeaders.TheVariants as version
+use Rattle.ep_transport.specs.declared.transport_header.TransportHeader.{TransportHeader}
+use Rattle.ep_build.specs.BuiltFrames.{Held, held_arp, held_ip, held_transport, link_part_len}
+use Rattle.ep_packet.specs.IpHeaders.{ip_headers_len}
+use Rattle.ep_build.specs.ReadBack.{IsArpReadBack, IsReadBack}
+use Rattle.ep_build.specs.declared.link_part.LinkPart.{LinkPart}
+use Rattle.ep_build.specs.declared.link_part.LinkPart.TheVariants as link
+use Rattle.ep_build.specs.declared.packet_builder.PacketBuilderStep.{PacketBuilderStep}
+
+-- ---- steps that a net layer may follow: their link part
+
+abbrev pub ethernet2_link : PacketBuilderStep Ethernet2Header (Unit {0}) → LinkPart
+ethernet2_link step = link.Ethernet2 step.last
+
+abbrev pub linux_sll_link : PacketBuilderStep LinuxSllHeader (Unit {0}) → LinkPart
+linux_sll_link step = link.LinuxSll step.last
+
+abbrev pub vlan_link : PacketBuilderStep VlanHeader Ethernet2Header → LinkPart
+vlan_link step = link.Tagged step.before step.last
+
+-- ---- the step of IP headers
+
+-- its link part
+abbrev pub ip_link : PacketBuilderStep IpHeaders LinkPart → LinkPart
+ip_link step = step.before
+
+-- its headers
+abbrev pub ip_step_headers : PacketBuilderStep IpHeaders LinkPart → IpHeaders
+ip_step_headers step = step.last
+
+-- what it holds, with the number of the payload
+abbrev pub ip_held : PacketBuilderStep IpHeaders LinkPart → IpNumber → Held
+ip_held step last = held_ip (ip_link step) (ip_step_headers step) last
+
+-- the number of bytes of its frame, with so many bytes of payload
+abbrev pub ip_step_size : PacketBuilderStep IpHeaders LinkPart → ℕ → ℕ
+ip_step_size step len = link_part_len (ip_link step) + (ip_headers_len (ip_step_headers step) + len)
+
+-- ---- steps of a transport header
+
+-- the header
+abbrev pub transport_header : {H : Type 0} → PacketBuilderStep H (LinkPart × IpHeaders) → H
+transport_header step = step.last
+
+-- what the step holds, where its header is this transport header
+abbrev pub transport_held : {H : Type 0} → (H → TransportHeader) → PacketBuilderStep H (LinkPart × IpHeaders) → Held
+transport_held kind step = held_transport step.before.0 step.before.1 (kind (transport_header step))
+
+-- the frame of the step and a payload is read back
+abbrev pub StepReadsBack : {H : Type 0} → (H → TransportHeader) → PacketBuilderStep H (LinkPart × IpHeaders) → List ℕ
+    → Type 0
+StepReadsBack kind step payload = IsReadBack step.before.0 step.before.1 (kind (transport_header step)) payload
+
+-- what a transport header makes of the step of IP headers
+abbrev pub held_behind : PacketBuilderStep IpHeaders LinkPart → TransportHeader → Held
+held_behind step behind = held_transport (ip_link step) (ip_step_headers step) behind
+
+-- the step with another header
+abbrev pub with_header : {H : Type 0} → PacketBuilderStep H (LinkPart × IpHeaders) → H
+    → PacketBuilderStep H (LinkPart × IpHeaders)
+with_header step header = record step { last = header }
+
+-- ---- the step of an ARP packet
+
+-- what it holds
+abbrev pub arp_held : PacketBuilderStep ArpPacket LinkPart → Held
+arp_held step = held_arp step.before (arp_of step.last)
+
+-- its frame is read back
+abbrev pub ArpStepReadsBack : PacketBuilderStep ArpPacket LinkPart → Type 0
+ArpStepReadsBack step = IsArpReadBack step.before (arp_of step.last)
+
+-- ---- headers that are begun
+
+-- an ether type that is not known before the frame is written
+abbrev pub no_type : EtherType
+no_type = record { 0 = 0 }
+
+-- a VLAN tag of this identifier, whose other fields are 0
+abbrev pub tag_of : ℕ → SingleVlanHeader
+tag_of identifier =
+    record { pcp = 0; drop_eligible_indicator = false; vlan_id = identifier; ether_type = no_type }
+
+-- the default headers of IPv4, with these addresses and this number of hops
+abbrev pub ipv4_headers_between : List ℕ → List ℕ → ℕ → IpHeaders
+ipv4_headers_between source destination time_to_live = version.Ipv4
+    (record default_ipv4_header { time_to_live = time_to_live; source = source; destination = destination })
+    (record { auth = None })
+
+-- the default headers of IPv6, with these addresses and this number of hops
+abbrev pub ipv6_headers_between : List ℕ → List ℕ → ℕ → IpHeaders
+ipv6_headers_between source destination hop_limit = version.Ipv6
+    (record default_ipv6_header { hop_limit = hop_limit; source = source; destination = destination })
+    no_ipv6_extensions

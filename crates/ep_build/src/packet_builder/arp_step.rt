@@ -1,0 +1,33 @@
+//! The step of an ARP packet.
+
+ghost use Rattle.std.specs.Prelude.{◌≡◌, ◌++◌, [], length, IfErr, OnOk, OnErr};
+ghost use Rattle.ep_build.specs.BuiltFrames.{built_frame, built_size};
+ghost use Rattle.ep_build.specs.Steps.{ArpStepReadsBack, arp_held};
+
+use super::PacketBuilderStep;
+use crate::err::BuildWriteError;
+use crate::facts::link_fits;
+use crate::writing::write_arp;
+use ep_link::ArpPacket;
+
+impl PacketBuilderStep<ArpPacket> {
+    /// Appends the frame of the headers and the packet. Where there is no memory, the buffer is as it was.
+    pub fn write(self, buf: &mut Vec<u8>) -> Result<(), BuildWriteError>
+        ensures ok { OnOk result (buf.new.items ≡ buf.old.items ++ built_frame (arp_held self) []) }
+        ensures err { OnErr result (buf.new.items ≡ buf.old.items) }
+        ensures refused { IfErr result (λ error. error ≡ BuildWriteError.OutOfMemory) }
+        ensures read_back { OnOk result (ArpStepReadsBack self) }
+    {
+        write_arp(&self.before, &self.last, buf)
+    }
+
+    /// The number of bytes of the frame.
+    #[inline]
+    pub fn size(&self) -> usize
+        ensures value { result ≡ built_size (arp_held self.now) 0 }
+        ensures frame { length (built_frame (arp_held self.now) []) ≡ result }
+    {
+        link_fits(&self.before);
+        self.before.header_len() + self.last.packet_len()
+    }
+}

@@ -1,0 +1,141 @@
+-- Where a text parts at a byte, and the numbers in it.
+use Rattle.std.proofs.Common.{◌≡◌, ◌≢◌, ℕ, ◌^◌, ◌⊎◌, inl, inr, List, [], ◌∷◌, ◌++◌, length, refl, sym, ap, ◌∙◌, subst, arith}
+use Rattle.std.specs.List.{All}
+use Rattle.std.specs.Char.{digit_value}
+use Rattle.std.specs.Str.{IsUtf8}
+use Rattle.std.specs.Str.Parse.{AllDigits, digits_value}
+use Rattle.std.proofs.lemmas.Bool.{cases_eq, cases_lt}
+use Rattle.std.proofs.lemmas.List.Elements.{All-cons, All-head, All-nil, All-tail}
+use Rattle.std.proofs.lemmas.Fmt.{IsAscii-from_digits}
+use Rattle.std.proofs.lemmas.Str.{IsUtf8-from_ascii}
+use Rattle.std.proofs.lemmas.Str.Parse.{digit_from_value}
+use Rattle.frame_bench.specs.Lines.{space}
+use Rattle.frame_bench.specs.Requests.{IsNumber}
+
+-- the byte is not in the text
+abbrev pub IsWithout : ℕ → List ℕ → Type 0
+IsWithout mark text = All (λ byte. byte ≢ mark) text
+
+-- what stands behind the first elements
+tails : (x y : ℕ) (xs ys : List ℕ) → x ∷ xs ≡ y ∷ ys → (x ≡ y) × (xs ≡ ys)
+tails x y xs ys same = (cc same, cc same)
+
+-- a text parts at the first of these bytes in one way
+pub same_split : (mark : ℕ) (a b r s : List ℕ) → IsWithout mark a → IsWithout mark b
+    → a ++ mark ∷ r ≡ b ++ mark ∷ s → (a ≡ b) × (r ≡ s)
+same_split mark [] [] r s in_a in_b same = (refl, (tails mark mark r s same).1)
+same_split mark [] (y ∷ b) r s in_a in_b same =
+    absurd (All-head (λ byte. byte ≢ mark) y b in_b (sym (tails mark y r (b ++ mark ∷ s) same).0))
+same_split mark (x ∷ a) [] r s in_a in_b same =
+    absurd (All-head (λ byte. byte ≢ mark) x a in_a (tails x mark (a ++ mark ∷ r) s same).0)
+same_split mark (x ∷ a) (y ∷ b) r s in_a in_b same =
+    let both = tails x y (a ++ mark ∷ r) (b ++ mark ∷ s) same in
+    let rest =
+    same_split mark a b r s (All-tail (λ byte. byte ≢ mark) x a in_a) (All-tail (λ byte. byte ≢ mark) y b in_b)
+    both.1 in
+    (rw (both.0, rest.0) refl, rest.1)
+
+-- a text without the byte does not part at it
+pub no_split : (mark : ℕ) (text word rest : List ℕ) → IsWithout mark text → text ≢ word ++ mark ∷ rest
+no_split mark [] [] rest without same = cc same
+no_split mark [] (w ∷ word) rest without same = cc same
+no_split mark (x ∷ text) [] rest without same =
+    All-head (λ byte. byte ≢ mark) x text without (tails x mark text rest same).0
+no_split mark (x ∷ text) (w ∷ word) rest without same =
+    no_split mark text word rest (All-tail (λ byte. byte ≢ mark) x text without)
+    (tails x w text (word ++ mark ∷ rest) same).1
+
+-- a text parts at the first of these bytes, or is without it
+pub split_cases : (mark : ℕ) (text : List ℕ)
+    → ((word rest : List ℕ) × IsWithout mark word × (text ≡ word ++ mark ∷ rest)) ⊎ IsWithout mark text
+split_cases mark [] = inr (All-nil (λ byte. byte ≢ mark))
+split_cases mark (x ∷ text) =
+    elim (cases_eq x mark) [
+      | inl same ↦ inl ([], text, (All-nil (λ byte. byte ≢ mark)), ap (λ b. b ∷ text) same)
+      | inr other ↦
+          elim (split_cases mark text) [
+            | inl found ↦
+                inl (
+                  x ∷ found.0,
+                  found.1,
+                  (All-cons (λ byte. byte ≢ mark) x found.0 other found.2),
+                  ap (λ t. x ∷ t) found.3,
+                )
+            | inr without ↦ inr (All-cons (λ byte. byte ≢ mark) x text other without)
+          ]
+    ]
+
+-- a digit is no space
+digits_without : (text : List ℕ) → AllDigits 10 text → IsWithout space text
+digits_without [] digits = All-nil (λ byte. byte ≢ space)
+digits_without (c ∷ text) digits =
+    All-cons (λ byte. byte ≢ space) c text (λ same. omega (arith, digit_from_value c digits.0, same))
+    (digits_without text digits.1)
+
+pub number_without : (text : List ℕ) (number : ℕ) → IsNumber text number → IsWithout space text
+number_without text number is = digits_without text is.0.1
+
+-- and its text is one of characters
+pub number_utf8 : (text : List ℕ) (number : ℕ) → IsNumber text number → IsUtf8 text
+number_utf8 text number is = IsUtf8-from_ascii text (IsAscii-from_digits text is.0.1)
+
+-- a text says no other number
+pub number_one : (text : List ℕ) (a b : ℕ) → IsNumber text a → IsNumber text b → a ≡ b
+number_one text a b x y = sym x.2 ∙ y.2
+
+-- each byte is a digit, or one is none
+digits_cases : (text : List ℕ) → AllDigits 10 text ⊎ (AllDigits 10 text → ⊥)
+digits_cases [] = inl tt
+digits_cases (c ∷ text) =
+    elim (cases_lt (digit_value c) 10) [
+      | inl digit ↦ elim (digits_cases text) [
+        | inl digits ↦ inl (digit, digits)
+        | inr other ↦ inr (λ digits. other digits.1)
+      ]
+      | inr above ↦ inr (λ digits. omega (arith, digits.0, above))
+    ]
+
+-- a text says a number or does not
+pub number_cases : (text : List ℕ) → ((number : ℕ) × IsNumber text number) ⊎ ((number : ℕ) → IsNumber text number → ⊥)
+number_cases text =
+    elim (digits_cases text) [
+      | inl digits ↦ elim (cases_lt 0 (length text)) [
+        | inl some ↦ elim (cases_lt 20 (length text)) [
+          | inl long ↦ inr (λ number is. omega (arith, is.1, long))
+          | inr short ↦ elim (cases_lt (digits_value 10 text) (2 ^ 64)) [
+            | inl small ↦ inl (digits_value 10 text, ((some, digits), short, refl, small))
+            | inr great ↦ inr (λ number is. omega (arith, is.2, is.3, great))
+          ]
+        ]
+        | inr none ↦ inr (λ number is. omega (arith, is.0.0, none))
+      ]
+      | inr other ↦ inr (λ number is. other is.0.1)
+    ]
+
+-- a number and a space stand at the front of a text
+abbrev pub NumberAt : List ℕ → List ℕ → List ℕ → ℕ → Type 0
+NumberAt text word rest number = (text ≡ word ++ space ∷ rest) × IsNumber word number
+
+-- no other number does
+pub number_at_one : (text word other rest left : List ℕ) (a b : ℕ) → NumberAt text word rest a
+    → NumberAt text other left b → (word ≡ other) × (rest ≡ left) × (a ≡ b)
+number_at_one text word other rest left a b x y =
+    let same =
+    same_split space word other rest left (number_without word a x.1) (number_without other b y.1) (sym x.0 ∙ y.0) in
+    (same.0, same.1, number_one word a b x.1 (subst (λ t. IsNumber t b) (sym same.0) y.1))
+
+-- a number and a space stand at the front of a text, or they do not
+pub number_at_cases : (text : List ℕ)
+    → ((word rest : List ℕ) × (number : ℕ) × NumberAt text word rest number)
+    ⊎ ((word rest : List ℕ) (number : ℕ) → NumberAt text word rest number → ⊥)
+number_at_cases text =
+    elim (split_cases space text) [
+      | inl parts ↦ elim (number_cases parts.0) [
+        | inl found ↦ inl (parts.0, parts.1, found.0, (parts.3, found.1))
+        | inr none ↦ inr (λ word rest number at.
+            let same =
+            same_split space word parts.0 rest parts.1 (number_without word number at.1) parts.2 (sym at.0 ∙ parts.3) in
+            none number (subst (λ t. IsNumber t number) same.0 at.1))
+      ]
+      | inr without ↦ inr (λ word rest number at. no_split space text word rest without at.0)
+    ]

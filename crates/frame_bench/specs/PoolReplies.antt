@@ -1,0 +1,46 @@
+-- What is replied about a fragment and a drop, as text.
+use Rattle.std.specs.Prelude.{◌≡◌, ℕ, ◌⊎◌, List, [], ◌∷◌, codes}
+use Rattle.std.specs.Fmt.{decimal}
+use Rattle.ep_defrag.specs.declared.ip_defrag_error.IpDefragError.{IpDefragError}
+use Rattle.ep_defrag.specs.declared.ip_defrag_error.IpDefragError.TheVariants.{UnalignedFragmentPayloadLen, SegmentTooBig, ConflictingEnd, AllocationFailure}
+use Rattle.ep_defrag.specs.Calls.{Answer, fragment_refused, payload_handed_out, nothing_handed_out, streams_dropped, buffer_returned, answer_to}
+use Rattle.ep_packet.specs.declared.err.slice_error.SliceError.{SliceError}
+use Rattle.ep_packet.specs.Frame.{IsFrame}
+use Rattle.ep_packet.specs.Layers.{Layers}
+use Rattle.ep_packet.specs.Refusals.{RefusesFrame}
+use Rattle.frame_bench.specs.Lines.{words}
+use Rattle.frame_bench.specs.PoolCalls.{NumberCall, frame_call, table_behind}
+use Rattle.frame_bench.specs.Requests.{frame_entry}
+use Rattle.frame_bench.specs.SliceReplies.{hex_text, refusal_text}
+use Rattle.frame_bench.specs.declared.requests.Entry.{Entry}
+
+-- The text of a pool's refusal. An offset is in units of 8 bytes. Want of memory has none: it ends the run.
+abbrev pub pool_error_text : IpDefragError → List ℕ
+pool_error_text (SegmentTooBig offset len max) =
+    words (codes "err" ∷ codes "too-big" ∷ decimal offset ∷ decimal len ∷ decimal max ∷ [])
+pool_error_text (UnalignedFragmentPayloadLen offset len) =
+    words (codes "err" ∷ codes "unaligned" ∷ decimal offset ∷ decimal len ∷ [])
+pool_error_text (ConflictingEnd previous new) =
+    words (codes "err" ∷ codes "conflict" ∷ decimal previous ∷ decimal new ∷ [])
+pool_error_text (AllocationFailure len) = []
+
+-- The text of a pool's answer. A buffer that is given back is no answer to a line.
+abbrev pub pool_answer_text : Answer → List ℕ
+pool_answer_text nothing_handed_out = codes "none"
+pool_answer_text (payload_handed_out payload) =
+    words (codes "payload" ∷ decimal payload.ip_number.0 ∷ hex_text payload.bytes ∷ [])
+pool_answer_text (fragment_refused error) = pool_error_text error
+pool_answer_text streams_dropped = codes "ok"
+pool_answer_text buffer_returned = []
+
+-- the answer to a call, behind others on a new pool
+abbrev pub call_reply : List NumberCall → NumberCall → List ℕ
+call_reply calls call = pool_answer_text (answer_to (table_behind calls) call)
+
+-- The reply about bytes from an entry on, behind some calls: what the pool answers the frame that they are, or why they
+-- are none.
+abbrev pub IsFragmentReply : List NumberCall → Entry → ℕ → ℕ → List ℕ → List ℕ → Type 0
+IsFragmentReply calls entry timestamp channel bytes reply =
+    ((layers : Layers) × IsFrame (frame_entry entry) bytes layers
+    × (reply ≡ call_reply calls (frame_call layers timestamp channel)))
+    ⊎ ((error : SliceError) × RefusesFrame (frame_entry entry) bytes error × (reply ≡ refusal_text error))

@@ -1,0 +1,76 @@
+//! What the lines `frag` and `drop` ask.
+
+ghost use Rattle.std.specs.Prelude.{◌≡◌, ◌∷◌, ◌++◌, ℕ, List, IfNone, IfOk, IfSome, codes};
+ghost use Rattle.frame_bench.specs.Lines.{space};
+ghost use Rattle.frame_bench.specs.Requests.{Asks, IsNumber};
+ghost use Rattle.frame_bench.specs.declared.requests.Request.{Request};
+
+use crate::hex_text::decode;
+use crate::requests::{Request, entry_at};
+use crate::texts::split_at_first;
+use std::alloc::AllocError;
+use std::str;
+
+/// What a line asks that has this text behind `frag` and a space, where it does. The bytes that it says are then left
+/// in `bytes`.
+pub fn parse_fragment(text: &[u8], bytes: &mut Vec<u8>) -> Result<Option<Request>, AllocError>
+    ensures some { IfOk result (λ found. IfSome found (λ request.
+        Asks (codes "frag" ++ space ∷ text.now) request bytes.new.items)) }
+    ensures none { IfOk result (λ found. IfNone found ((request : Request) (said : List ℕ) →
+        Asks (codes "frag" ++ space ∷ text.now) request said → ⊥)) }
+{
+    let Some((entry, timed)) = entry_at(text) else {
+        return Ok(None);
+    };
+    let Some((timestamp, numbered)) = number_at(timed) else {
+        return Ok(None);
+    };
+    let Some((channel, digits)) = number_at(numbered) else {
+        return Ok(None);
+    };
+    if decode(digits, bytes)? {
+        Ok(Some(Request::Fragment {
+            entry,
+            timestamp,
+            channel,
+        }))
+    } else {
+        Ok(None)
+    }
+}
+
+/// What a line asks that has this text behind `drop` and a space, where it does. No bytes are then left in `bytes`.
+pub fn parse_drop(text: &[u8], bytes: &mut Vec<u8>) -> Option<Request>
+    ensures some { IfSome result (λ request. Asks (codes "drop" ++ space ∷ text.now) request bytes.new.items) }
+    ensures none { IfNone result ((request : Request) (said : List ℕ) →
+        Asks (codes "drop" ++ space ∷ text.now) request said → ⊥) }
+{
+    bytes.clear();
+    let timestamp = number(text)?;
+    Some(Request::Drop { timestamp })
+}
+
+/// The number at the front of a text, and what stands behind it and a space.
+fn number_at(text: &[u8]) -> Option<(u64, &[u8])>
+    ensures some { IfSome result (λ found. (word : List ℕ) × (text.now ≡ word ++ space ∷ found.1.now)
+        × IsNumber word found.0) }
+    ensures none { IfNone result ((word rest : List ℕ) (value : ℕ) → text.now ≡ word ++ space ∷ rest →
+        IsNumber word value → ⊥) }
+{
+    let (word, rest) = split_at_first(text, b' ')?;
+    Some((number(word)?, rest))
+}
+
+/// The number that a text says, where it does: 1 to 20 decimal digits of a value that fits.
+fn number(text: &[u8]) -> Option<u64>
+    ensures some { IfSome result (IsNumber text.now) }
+    ensures none { IfNone result ((value : ℕ) → IsNumber text.now value → ⊥) }
+{
+    if text.len() > 20 || text.first() == Some(&b'+') {
+        return None;
+    }
+    let Ok(digits) = str::from_utf8(text) else {
+        return None;
+    };
+    digits.parse().ok()
+}

@@ -1,0 +1,279 @@
+//! Readers and writers that move little or fail.
+
+ghost use Rattle.std.specs.Prelude.{◌≤◌, IfOk};
+
+use super::{fragments, frames, texts_of};
+use crate::engine::run;
+use crate::run_error::RunError;
+use crate::watched::Watched;
+use std::alloc::Global;
+use std::io;
+use std::io::{ErrorKind, Read, Write};
+use std::process::Abort;
+use std::test::Fail;
+
+/// What a call of a reader or a writer does.
+#[derive(Clone, Copy)]
+enum Turn {
+    /// It moves so many bytes, or as many as there are and have room.
+    Moves(usize),
+    /// It fails.
+    Fails(ErrorKind),
+}
+
+/// The turns of a reader or a writer, of which the last one comes again and again.
+#[derive(Drop)]
+struct Turns {
+    turns: &'static [Turn],
+    calls: usize,
+}
+
+impl Turns {
+    /// How many bytes the next call moves, of so many.
+    fn next(&mut self, len: usize) -> io::Result<usize>
+        ensures { IfOk result (λ count. count ≤ len) }
+    {
+        let last = self.turns.len().saturating_sub(1);
+        let turn = self.turns.get(self.calls.min(last));
+        self.calls = self.calls.saturating_add(1);
+        match turn {
+            Some(Turn::Moves(most)) => Ok(len.min(*most)),
+            Some(Turn::Fails(kind)) => Err((*kind).into()),
+            None => Ok(0),
+        }
+    }
+}
+
+/// A reader that goes by turns.
+#[derive(Drop)]
+struct Source<'a> {
+    rest: &'a [u8],
+    turns: Turns,
+}
+
+impl Read for Source<'_> {
+    fn read(&mut self, piece: &mut [u8]) -> io::Result<usize> {
+        let count = self.turns.next(self.rest.len().min(piece.len()))?;
+        let (front, rest) = self.rest.split_at(count);
+        piece[..count].copy_from_slice(front);
+        self.rest = rest;
+        Ok(count)
+    }
+}
+
+/// A writer that goes by turns.
+#[derive(Drop)]
+struct Target {
+    bytes: Vec<u8>,
+    turns: Turns,
+}
+
+impl Write for Target {
+    fn write(&mut self, part: &[u8]) -> io::Result<usize> {
+        let count = self.turns.next(part.len())?;
+        self.bytes.extend_from_slice(&part[..count])?;
+        Ok(count)
+    }
+
+    fn flush(&mut self) -> io::Result<()> {
+        Ok(())
+    }
+}
+
+/// A reader and a writer by their turns, why their run ends, how often each is called, and how much is written.
+#[derive(Drop)]
+struct Streams {
+    reading: &'static [Turn],
+    writing: &'static [Turn],
+    error: Option<RunError>,
+    calls: (usize, usize),
+    written: usize,
+}
+
+/// Runs between the two, and compares the result, the calls and what is written.
+fn assert_streams(
+    rt: &impl Abort,
+    alloc: Global,
+    streams: &Streams,
+    input: &[u8],
+    wanted: &[u8],
+) -> Result<(), Fail> {
+    let mut source = Source {
+        rest: input,
+        turns: Turns {
+            turns: streams.reading,
+            calls: 0,
+        },
+    };
+    let mut target = Target {
+        bytes: Vec::new(alloc),
+        turns: Turns {
+            turns: streams.writing,
+            calls: 0,
+        },
+    };
+    let mut reader = Watched::new(&mut source);
+    let mut writer = Watched::new(&mut target);
+    let error = run(alloc, &mut reader, &mut writer).err();
+    assert_eq!(rt; error, streams.error);
+    assert_eq!(rt; (source.turns.calls, target.turns.calls), streams.calls);
+    assert!(rt; streams.written <= wanted.len());
+    assert_eq!(rt; target.bytes.as_slice(), &wanted[..streams.written]);
+    Ok(())
+}
+
+/// Each call moves all that is there.
+const WHOLE: &[Turn] = &[Turn::Moves(usize::MAX)];
+
+/// Each call moves one byte.
+const SINGLE: &[Turn] = &[Turn::Moves(1)];
+
+/// Three lines, the last without its line feed.
+const LINES: &[u8] = b"a\nslice eth -\nb";
+
+/// Their answers.
+const ANSWERS: &[u8] = b"err line\nerr len 14 0 Slice Ethernet2Header 0\nerr line\n";
+
+/// Readers and writers of these lines and answers.
+const STREAMS: [Streams; 13] = [
+    Streams {
+        reading: WHOLE,
+        writing: WHOLE,
+        error: None,
+        calls: (2, 2),
+        written: 55,
+    },
+    Streams {
+        reading: WHOLE,
+        writing: SINGLE,
+        error: None,
+        calls: (2, 55),
+        written: 55,
+    },
+    Streams {
+        reading: SINGLE,
+        writing: WHOLE,
+        error: None,
+        calls: (16, 3),
+        written: 55,
+    },
+    // A reader that fails for good, once at its first call, and once in its midst.
+    Streams {
+        reading: &[Turn::Fails(ErrorKind::Other)],
+        writing: WHOLE,
+        error: Some(RunError::Read),
+        calls: (1, 0),
+        written: 0,
+    },
+    Streams {
+        reading: &[Turn::Fails(ErrorKind::Interrupted), Turn::Moves(usize::MAX)],
+        writing: WHOLE,
+        error: Some(RunError::Read),
+        calls: (1, 0),
+        written: 0,
+    },
+    Streams {
+        reading: &[
+            Turn::Moves(14),
+            Turn::Fails(ErrorKind::WouldBlock),
+            Turn::Moves(usize::MAX),
+        ],
+        writing: WHOLE,
+        error: Some(RunError::Read),
+        calls: (2, 1),
+        written: 46,
+    },
+    // A reader that gives nothing once, at its first call and before the end of a line.
+    Streams {
+        reading: &[Turn::Moves(0), Turn::Moves(usize::MAX)],
+        writing: WHOLE,
+        error: None,
+        calls: (1, 0),
+        written: 0,
+    },
+    Streams {
+        reading: &[Turn::Moves(13), Turn::Moves(0), Turn::Moves(usize::MAX)],
+        writing: WHOLE,
+        error: None,
+        calls: (2, 2),
+        written: 46,
+    },
+    // A writer that fails for good, once at its first call, in its midst, and at the last line.
+    Streams {
+        reading: WHOLE,
+        writing: &[Turn::Fails(ErrorKind::Other)],
+        error: Some(RunError::Write),
+        calls: (1, 1),
+        written: 0,
+    },
+    Streams {
+        reading: WHOLE,
+        writing: &[Turn::Fails(ErrorKind::Interrupted), Turn::Moves(usize::MAX)],
+        error: Some(RunError::Write),
+        calls: (1, 1),
+        written: 0,
+    },
+    Streams {
+        reading: WHOLE,
+        writing: &[
+            Turn::Moves(20),
+            Turn::Fails(ErrorKind::WouldBlock),
+            Turn::Moves(usize::MAX),
+        ],
+        error: Some(RunError::Write),
+        calls: (1, 2),
+        written: 20,
+    },
+    Streams {
+        reading: WHOLE,
+        writing: &[
+            Turn::Moves(46),
+            Turn::Fails(ErrorKind::Other),
+            Turn::Moves(usize::MAX),
+        ],
+        error: Some(RunError::Write),
+        calls: (2, 2),
+        written: 46,
+    },
+    // A writer that takes nothing once.
+    Streams {
+        reading: WHOLE,
+        writing: &[Turn::Moves(45), Turn::Moves(0), Turn::Moves(usize::MAX)],
+        error: Some(RunError::Write),
+        calls: (1, 2),
+        written: 45,
+    },
+];
+
+#[test]
+fn moves_little_or_fails(rt: HostRuntime) -> Result<(), Fail> {
+    for streams in &STREAMS {
+        assert_streams(&rt, rt.alloc(), streams, LINES, ANSWERS)?;
+    }
+    // Each row, a byte at a time, and each run on one pool.
+    let (input, wanted) = texts_of(rt.alloc(), &frames::ROWS)?;
+    assert_single(&rt, rt.alloc(), input.as_slice(), wanted.as_slice())?;
+    for (input, wanted) in fragments::RUNS {
+        assert_single(&rt, rt.alloc(), input.as_bytes(), wanted.as_bytes())?;
+    }
+    Ok(())
+}
+
+/// Runs with a reader and a writer that move a byte a call.
+fn assert_single(rt: &impl Abort, alloc: Global, input: &[u8], wanted: &[u8]) -> Result<(), Fail> {
+    let streams = Streams {
+        reading: SINGLE,
+        writing: SINGLE,
+        error: None,
+        calls: (input.len().saturating_add(1), wanted.len()),
+        written: wanted.len(),
+    };
+    assert_streams(rt, alloc, &streams, input, wanted)
+}
+
+#[test]
+fn tells_each_failure(rt: HostRuntime) {
+    assert_eq!(rt; RunError::Read.text(), "frame_bench: read failed");
+    assert_eq!(rt; RunError::Write.text(), "frame_bench: write failed");
+    assert_eq!(rt; RunError::OutOfMemory.text(), "frame_bench: out of memory");
+}

@@ -1,0 +1,4 @@
+mod FileLemmas
+mod SumLemmas
+mod FrameLists
+mod HandedOut

@@ -1,0 +1,6 @@
+pub mod Files
+pub mod Sums
+pub mod Refusals
+pub mod Corpora
+pub mod Reassembly
+pub mod Rounds

@@ -1,0 +1,213 @@
+//! What is done with a frame, and what is summed of it.
+
+ghost use Rattle.std.specs.Prelude.{◌≡◌, ◌+◌, ℕ, List, map};
+ghost use Rattle.std.specs.Option.{option_and_then, option_map};
+ghost use Rattle.ep_link.specs.LinkSlices.{link_header_of, link_layer_of};
+ghost use Rattle.ep_packet.specs.Layers.{layers_of, net_layer_of};
+ghost use Rattle.ep_packet.specs.PacketHeaders.{headers_of, net_header_in, net_header_of, transport_header_in};
+ghost use Rattle.ep_transport.specs.TransportParts.{transport_layer_of};
+ghost use Rattle.slice_bench.specs.Sums.{GivesDecoded, GivesIpHeaders, GivesIpv4, GivesSliced, IsTotal};
+ghost use Rattle.slice_bench.specs.Sums.{headers_sum, kept_sum, layers_sum, link_sum, net_sum, transport_sum};
+
+use ep_ip::Ipv4Slice;
+use ep_link::{LinkHeader, LinkSlice};
+use ep_packet::{IpHeaders, NetHeaders, NetSlice, PacketHeaders, SlicedPacket};
+use ep_transport::{TransportHeader, TransportSlice};
+
+/// Something that is done with each frame, or with each IP packet, alone.
+pub trait Column {
+    ghost gives: { List ℕ → ℕ → Type 0 };
+
+    /// What is summed of it; 0 where it is refused.
+    fn number(bytes: &[u8]) -> u64
+        ensures { Self.gives bytes.now result };
+}
+
+/// The sum over all of them.
+pub fn total<C: Column>(frames: &[&[u8]]) -> u64
+    ensures { IsTotal C.gives (map (λ frame. frame.now) frames.now) result }
+{
+    let mut total: u64 = 0;
+    for frame in frames {
+        total = total.wrapping_add(C::number(frame));
+    }
+    total
+}
+
+/// `SlicedPacket::from_ethernet`.
+pub struct Slicing;
+
+impl Column for Slicing {
+    ghost gives = { GivesSliced };
+
+    fn number(bytes: &[u8]) -> u64 {
+        match SlicedPacket::from_ethernet(bytes) {
+            Ok(packet) => layers_number(&packet),
+            Err(_) => 0,
+        }
+    }
+}
+
+/// `PacketHeaders::from_ethernet_slice`.
+pub struct Decoding;
+
+impl Column for Decoding {
+    ghost gives = { GivesDecoded };
+
+    fn number(bytes: &[u8]) -> u64 {
+        match PacketHeaders::from_ethernet_slice(bytes) {
+            Ok(packet) => headers_number(&packet),
+            Err(_) => 0,
+        }
+    }
+}
+
+/// `Ipv4Slice::from_slice`.
+pub struct SlicingIpv4;
+
+impl Column for SlicingIpv4 {
+    ghost gives = { GivesIpv4 };
+
+    fn number(bytes: &[u8]) -> u64 {
+        match Ipv4Slice::from_slice(bytes) {
+            Ok(packet) => {
+                let protocol = packet.header().protocol();
+                u64::from(protocol.0).wrapping_add(packet.payload().payload.len() as u64)
+            }
+            Err(_) => 0,
+        }
+    }
+}
+
+/// `IpHeaders::from_slice`.
+pub struct ReadingIpHeaders;
+
+impl Column for ReadingIpHeaders {
+    ghost gives = { GivesIpHeaders };
+
+    fn number(bytes: &[u8]) -> u64 {
+        match IpHeaders::from_slice(bytes) {
+            Ok((headers, payload)) => {
+                let protocol = match &headers {
+                    IpHeaders::Ipv4(header, _) => header.protocol,
+                    IpHeaders::Ipv6(header, _) => header.next_header,
+                };
+                u64::from(protocol.0).wrapping_add(payload.payload.len() as u64)
+            }
+            Err(_) => 0,
+        }
+    }
+}
+
+/// What is summed of a sliced packet.
+#[inline]
+fn layers_number(packet: &SlicedPacket<'_>) -> u64
+    ensures { result ≡ kept_sum (layers_sum (layers_of packet.now)) }
+{
+    let link = link_number(&packet.link);
+    let net = net_number(&packet.net);
+    let transport = transport_number(&packet.transport);
+    let headers = u64::from(link) + u64::from(net) + u64::from(transport);
+    headers.wrapping_add(packet.payload().len() as u64)
+}
+
+/// What is summed of a link layer.
+#[inline]
+fn link_number(link: &Option<LinkSlice<'_>>) -> u16
+    ensures { result ≡ link_sum (option_and_then link_header_of (option_map link_layer_of link.now)) }
+{
+    match link {
+        Some(LinkSlice::Ethernet2(frame)) => frame.ether_type().0,
+        Some(LinkSlice::LinuxSll(_) | LinkSlice::EtherPayload(_) | LinkSlice::LinuxSllPayload(_))
+        | None => 0,
+    }
+}
+
+/// What is summed of a net layer.
+#[inline]
+fn net_number(net: &Option<NetSlice<'_>>) -> u32
+    ensures { result ≡ net_sum (option_map net_header_in (option_map net_layer_of net.now)) }
+{
+    match net {
+        Some(NetSlice::Ipv4(packet)) => {
+            let header = packet.header();
+            u32::from(header.protocol().0) + u32::from(header.total_len())
+        }
+        Some(NetSlice::Ipv6(packet)) => {
+            let header = packet.header();
+            u32::from(header.next_header().0) + u32::from(header.payload_length())
+        }
+        Some(NetSlice::Arp(_)) | None => 0,
+    }
+}
+
+/// What is summed of a transport layer.
+#[inline]
+fn transport_number(transport: &Option<TransportSlice<'_>>) -> u32
+    ensures { result ≡ transport_sum (option_map transport_header_in (option_map transport_layer_of transport.now)) }
+{
+    match transport {
+        Some(TransportSlice::Udp(datagram)) => {
+            u32::from(datagram.source_port()) + u32::from(datagram.destination_port())
+        }
+        Some(TransportSlice::Tcp(segment)) => {
+            u32::from(segment.source_port()) + u32::from(segment.destination_port())
+        }
+        Some(TransportSlice::Icmpv4(_) | TransportSlice::Icmpv6(_)) | None => 0,
+    }
+}
+
+/// What is summed of decoded headers.
+#[inline]
+fn headers_number(packet: &PacketHeaders<'_>) -> u64
+    ensures { result ≡ kept_sum (headers_sum (headers_of packet.now)) }
+{
+    let link = link_header_number(&packet.link);
+    let net = net_header_number(&packet.net);
+    let transport = transport_header_number(&packet.transport);
+    let headers = u64::from(link) + u64::from(net) + u64::from(transport);
+    headers.wrapping_add(packet.payload.slice().len() as u64)
+}
+
+/// What is summed of a link header.
+#[inline]
+fn link_header_number(link: &Option<LinkHeader>) -> u16
+    ensures { result ≡ link_sum link.now }
+{
+    match link {
+        Some(LinkHeader::Ethernet2(header)) => header.ether_type.0,
+        Some(LinkHeader::LinuxSll(_)) | None => 0,
+    }
+}
+
+/// What is summed of net headers.
+#[inline]
+fn net_header_number(net: &Option<NetHeaders>) -> u32
+    ensures { result ≡ net_sum (option_map net_header_of net.now) }
+{
+    match net {
+        Some(NetHeaders::Ipv4(header, _)) => {
+            u32::from(header.protocol.0) + u32::from(header.total_len)
+        }
+        Some(NetHeaders::Ipv6(header, _)) => {
+            u32::from(header.next_header.0) + u32::from(header.payload_length)
+        }
+        Some(NetHeaders::Arp(_)) | None => 0,
+    }
+}
+
+/// What is summed of a transport header.
+#[inline]
+fn transport_header_number(transport: &Option<TransportHeader>) -> u32
+    ensures { result ≡ transport_sum transport.now }
+{
+    match transport {
+        Some(TransportHeader::Udp(header)) => {
+            u32::from(header.source_port) + u32::from(header.destination_port)
+        }
+        Some(TransportHeader::Tcp(header)) => {
+            u32::from(header.source_port) + u32::from(header.destination_port)
+        }
+        Some(TransportHeader::Icmpv4(_) | TransportHeader::Icmpv6(_)) | None => 0,
+    }
+}

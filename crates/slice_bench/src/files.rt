@@ -1,0 +1,43 @@
+//! The frames of a file.
+
+ghost use Rattle.std.specs.Prelude.{◌≡◌, ◌++◌, ℕ, List, map, IfErr, IfNone, IfOk, IfSome};
+ghost use Rattle.slice_bench.specs.Files.{FitsFile, HoldsFrames, length_field};
+ghost use Rattle.slice_bench.specs.Refusals.{RefusesFile};
+
+use crate::bench_error::BenchError;
+use std::alloc::Global;
+
+/// The frames that the bytes of a file hold: of each its length in four bytes, the lowest first, and then its bytes.
+/// A file whose last frame is cut is refused.
+pub fn frames_of(alloc: Global, bytes: &[u8]) -> Result<Vec<&[u8]>, BenchError>
+    ensures ok { IfOk result (λ frames. HoldsFrames bytes.now (map (λ frame. frame.now) frames.items)) }
+    ensures err { IfErr result (RefusesFile bytes.now) }
+{
+    let mut frames = Vec::new(alloc);
+    let mut rest = bytes;
+    'frames: while !rest.is_empty() {
+        let Some((frame, behind)) = split_frame(rest) else {
+            return Err(BenchError::Cut);
+        };
+        let Ok(()) = frames.push(frame) else {
+            return Err(BenchError::OutOfMemory);
+        };
+        rest = behind;
+    }
+    Ok(frames)
+}
+
+/// The first frame, and what stands behind it.
+fn split_frame(bytes: &[u8]) -> Option<(&[u8], &[u8])>
+    ensures some { IfSome result (λ parts. FitsFile parts.0.now
+        × (bytes.now ≡ length_field parts.0.now ++ (parts.0.now ++ parts.1.now))) }
+    ensures none { IfNone result ((frame rest : List ℕ) → FitsFile frame
+        → bytes.now ≡ length_field frame ++ (frame ++ rest) → ⊥) }
+{
+    let (field, rest) = bytes.split_first_chunk::<4>()?;
+    let len = u32::from_le_bytes(*field) as usize;
+    if rest.len() < len {
+        return None;
+    }
+    Some((&rest[..len], &rest[len..]))
+}
