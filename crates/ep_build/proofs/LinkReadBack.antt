@@ -18,7 +18,9 @@ use Rattle.ep_link.specs.declared.link.linux_sll_header.LinuxSllHeader.{LinuxSll
 use Rattle.ep_link.specs.declared.link_ext.single_vlan_header.SingleVlanHeader.{SingleVlanHeader}
 use Rattle.ep_link.specs.declared.link_ext.vlan_header.VlanHeader.TheVariants as tags
 use Rattle.ep_packet.specs.Frame.{IsFrameIn, IsInside, IsNetPart, any_ip, net_kind}
-use Rattle.ep_packet.specs.Layers.{Entry, Layers, NetLayer, ethernet, ether_type, ip, linux_sll}
+use Rattle.ep_packet.specs.declared.entry.Entry.{Entry}
+use Rattle.ep_packet.specs.declared.entry.Entry.TheVariants.{Ethernet as ethernet, EtherType as ether_type, Ip as ip, LinuxSll as linux_sll}
+use Rattle.ep_packet.specs.Layers.{Layers, NetLayer}
 use Rattle.ep_transport.specs.TransportParts.{TransportLayer}
 use Rattle.ep_build.specs.BuiltFrames.{Inside, as_ether_type, arp_packet, ip_packet, transport_packet, inside_type}
 use Rattle.ep_build.specs.BuiltFrames.{link_before, link_part_bytes}

@@ -11,7 +11,9 @@ use Rattle.ep_link.specs.Arp.{Arp, FitsArp, IsArp, arp_bytes}
 use Rattle.ep_packet.specs.Frame.{IsNetPart, IsTransportBehind, any_ip}
 use Rattle.ep_packet.specs.IpHeaders.{EndsExtensions, FitIpHeaders, headers_for, ip_headers_type}
 use Rattle.ep_packet.specs.IpHeaders.{payload_of_headers}
-use Rattle.ep_packet.specs.Layers.{Entry, arp, ether_type, ip, net_payload}
+use Rattle.ep_packet.specs.declared.entry.Entry.{Entry}
+use Rattle.ep_packet.specs.declared.entry.Entry.TheVariants.{EtherType as ether_type, Ip as ip}
+use Rattle.ep_packet.specs.Layers.{arp, net_payload}
 use Rattle.ep_packet.specs.declared.ip_headers.IpHeaders.{IpHeaders}
 use Rattle.ep_packet.specs.declared.ip_headers.IpHeaders.TheVariants as version
 use Rattle.ep_transport.specs.TransportParts.{IsTransportPart, TransportLayer}

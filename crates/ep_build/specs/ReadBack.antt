@@ -7,7 +7,9 @@ use Rattle.ep_base.specs.Tables.{first_row}
 use Rattle.ep_link.specs.Arp.{Arp}
 use Rattle.ep_packet.specs.Frame.{IsFrameIn}
 use Rattle.ep_packet.specs.IpHeaders.{headers_fragment}
-use Rattle.ep_packet.specs.Layers.{Entry, ethernet, linux_sll, ether_type, ip, Layers, arp, ip_payload_in}
+use Rattle.ep_packet.specs.declared.entry.Entry.{Entry}
+use Rattle.ep_packet.specs.declared.entry.Entry.TheVariants.{Ethernet as ethernet, LinuxSll as linux_sll, EtherType as ether_type, Ip as ip}
+use Rattle.ep_packet.specs.Layers.{Layers, arp, ip_payload_in}
 use Rattle.ep_packet.specs.declared.ip_headers.IpHeaders.{IpHeaders}
 use Rattle.ep_packet.specs.declared.ip_headers.IpHeaders.TheVariants as version
 use Rattle.ep_transport.specs.Icmpv4.{icmpv4_rows}

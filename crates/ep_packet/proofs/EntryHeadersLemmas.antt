@@ -26,7 +26,9 @@ use Rattle.ep_transport.specs.declared.transport_header.TransportHeader.{Transpo
 use Rattle.ep_transport.specs.declared.transport_header.TransportHeader.TheVariants as header
 use Rattle.ep_packet.specs.declared.err.slice_error.SliceError.{SliceError}
 use Rattle.ep_packet.specs.declared.packet_headers.PacketHeaders.{PacketHeaders}
-use Rattle.ep_packet.specs.Layers.{Entry, ethernet, ether_type, ip, Layers, NetLayer, ipv4, ipv6, arp}
+use Rattle.ep_packet.specs.declared.entry.Entry.{Entry}
+use Rattle.ep_packet.specs.declared.entry.Entry.TheVariants.{Ethernet as ethernet, EtherType as ether_type, Ip as ip}
+use Rattle.ep_packet.specs.Layers.{Layers, NetLayer, ipv4, ipv6, arp}
 use Rattle.ep_packet.specs.Frame.{any_ip, IsFrameIn, most_link_exts}
 use Rattle.ep_packet.specs.FrameBytes.{AreInOrder, inner_payload, last_payload, link_payload, payload_behind}
 use Rattle.ep_packet.specs.PacketHeaders.{Headers, LieIn, headers_in, headers_of, net_header_in, transport_header_in}

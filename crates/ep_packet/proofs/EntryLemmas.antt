@@ -17,7 +17,8 @@ use Rattle.ep_link.specs.LinuxSll.{linux_sll_header_len, IsLinuxSll, protocol_et
 use Rattle.ep_link.specs.LinuxSllSlices.{linux_sll_slice_bytes, linux_sll_slice_header, linux_sll_slice_parts, linux_sll_slice_payload}
 use Rattle.ep_packet.specs.declared.err.slice_error.SliceError.{SliceError}
 use Rattle.ep_packet.specs.declared.sliced_packet.SlicedPacket.{SlicedPacket}
-use Rattle.ep_packet.specs.Layers.{ethernet, linux_sll, ether_type, layers_of}
+use Rattle.ep_packet.specs.declared.entry.Entry.TheVariants.{Ethernet as ethernet, LinuxSll as linux_sll, EtherType as ether_type}
+use Rattle.ep_packet.specs.Layers.{layers_of}
 use Rattle.ep_packet.specs.Frame.{IsFrame, IsInside, most_link_exts}
 use Rattle.ep_packet.specs.Refusals.{RefusesFrame, RefusesInside}
 use Rattle.ep_packet.specs.ShownBytes.{link_slice_bytes, ShowsBytes, ShowsInside, ShowsLink}

@@ -11,7 +11,9 @@ use Rattle.ep_link.specs.LinuxSll.{linux_sll_bytes, protocol_ether_type}
 use Rattle.ep_transport.specs.TransportParts.{TransportLayer, EncodesTransport, AreTransport, payload_in}
 use Rattle.ep_packet.proofs.Deciders.{Deciders}
 use Rattle.ep_packet.proofs.NetBytesLemmas.{LayerBytes, layer_bytes}
-use Rattle.ep_packet.specs.Layers.{Entry, ethernet, linux_sll, ether_type, ip, NetLayer, ipv4, ipv6, arp, Layers, net_payload}
+use Rattle.ep_packet.specs.declared.entry.Entry.{Entry}
+use Rattle.ep_packet.specs.declared.entry.Entry.TheVariants.{Ethernet as ethernet, LinuxSll as linux_sll, EtherType as ether_type, Ip as ip}
+use Rattle.ep_packet.specs.Layers.{NetLayer, ipv4, ipv6, arp, Layers, net_payload}
 use Rattle.ep_packet.specs.Frame.{NetKind, any_ip, net_kind, IsNetPart, IsTransportBehind, IsInside, most_link_exts, IsFrameIn}
 use Rattle.ep_packet.specs.FrameBytes.{EncodesLink, EncodesTags, EncodesNet, behind_net, link_payload, payload_behind, inner_payload, AreInOrder}
 

@@ -13,7 +13,9 @@ use Rattle.ep_link.specs.LinkSlices.{LinkLayer, ethernet2, linux_sll as sll, eth
 use Rattle.ep_link.specs.LinuxSll.{linux_sll_bytes, linux_sll_header_len, IsLinuxSll, RefusesLinuxSll, protocol_ether_type}
 use Rattle.ep_packet.specs.declared.err.slice_error.SliceError.{SliceError}
 use Rattle.ep_packet.specs.declared.err.slice_error.SliceError.TheVariants.{Len}
-use Rattle.ep_packet.specs.Layers.{Entry, ethernet, linux_sll, ether_type, ip, Layers}
+use Rattle.ep_packet.specs.declared.entry.Entry.{Entry}
+use Rattle.ep_packet.specs.declared.entry.Entry.TheVariants.{Ethernet as ethernet, LinuxSll as linux_sll, EtherType as ether_type, Ip as ip}
+use Rattle.ep_packet.specs.Layers.{Layers}
 use Rattle.ep_packet.specs.Frame.{any_ip, IsInside, most_link_exts, IsFrameIn}
 use Rattle.ep_packet.specs.Refusals.{RefusesInside, RefusesFrameIn, linux_sll_refusal}
 use Rattle.ep_packet.proofs.Deciders.{Deciders}

@@ -14,7 +14,9 @@ use Rattle.ep_transport.specs.declared.transport_header.TransportHeader.{Transpo
 use Rattle.ep_transport.specs.declared.transport_header.TransportHeader.TheVariants as header
 use Rattle.ep_transport.specs.TransportParts.{TransportLayer, IsTransportLayer, IsTransportPart, transport_layer}
 use Rattle.ep_transport.specs.Udp.{udp_bytes}
-use Rattle.ep_packet.specs.Layers.{Entry, ethernet, linux_sll, ether_type, ip, NetLayer, Layers, net_payload}
+use Rattle.ep_packet.specs.declared.entry.Entry.{Entry}
+use Rattle.ep_packet.specs.declared.entry.Entry.TheVariants.{Ethernet as ethernet, LinuxSll as linux_sll, EtherType as ether_type, Ip as ip}
+use Rattle.ep_packet.specs.Layers.{NetLayer, Layers, net_payload}
 use Rattle.ep_packet.specs.Frame.{NetKind, only_ipv4, only_ipv6, only_arp, any_ip, net_kind, IsFrameIn, IsInside, IsNetLayer, IsNetPart, IsTransportBehind, most_link_exts}
 use Rattle.ep_packet.specs.FrameBytes.{inner_payload, link_payload, payload_behind}
 use Rattle.ep_packet.specs.TwoParsers.{Agree, HasNoSecondKind, LastAgrees, PayloadAgrees, TransportAgrees}

@@ -19,7 +19,9 @@ use Rattle.ep_ip.specs.declared.ipv4_header.Ipv4Header.{Ipv4Header}
 use Rattle.ep_ip.specs.declared.ipv6_header.Ipv6Header.{Ipv6Header}
 use Rattle.ep_ip.specs.IpPackets.{IpPacket, IpPart, IsIpv4, IsIpv6, IsIp}
 use Rattle.ep_transport.specs.TransportParts.{TransportLayer, IsTransportPart}
-use Rattle.ep_packet.specs.Layers.{Entry, ethernet, linux_sll, ether_type, ip, NetLayer, arp, Layers, ipv4_layer, ipv6_layer, ip_layer, net_payload}
+use Rattle.ep_packet.specs.declared.entry.Entry.{Entry}
+use Rattle.ep_packet.specs.declared.entry.Entry.TheVariants.{Ethernet as ethernet, LinuxSll as linux_sll, EtherType as ether_type, Ip as ip}
+use Rattle.ep_packet.specs.Layers.{NetLayer, arp, Layers, ipv4_layer, ipv6_layer, ip_layer, net_payload}
 
 -- how a net layer is known: by its own ether type, or, as an IP packet, by the version in its first byte
 pub data NetKind : Type 0 where

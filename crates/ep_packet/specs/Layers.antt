@@ -1,7 +1,6 @@
 -- The layers of a frame, as plain data, and which of them a sliced packet shows.
 use Rattle.std.specs.Prelude.{List, [], map, Option, Some, None, Bool, false}
 use Rattle.std.specs.Option.{option_map, option_and_then, option_map_or}
-use Rattle.ep_base.specs.declared.ether_type.EtherType.{EtherType}
 use Rattle.ep_link.specs.Arp.{Arp}
 use Rattle.ep_link.specs.ArpSlices.{arp_slice_packet}
 use Rattle.ep_link.specs.LinkSlices.{LinkLayer, link_layer_of}
@@ -17,14 +16,6 @@ use Rattle.ep_transport.specs.TransportParts.{TransportLayer, transport_layer_of
 use Rattle.ep_packet.specs.declared.net_slice.NetSlice.{NetSlice}
 use Rattle.ep_packet.specs.declared.net_slice.NetSlice.TheVariants as slice
 use Rattle.ep_packet.specs.declared.sliced_packet.SlicedPacket.{SlicedPacket}
-
--- what stands at the front of the bytes: an Ethernet II header, the header of a Linux cooked capture, the payload of a
--- link layer with its type, or an IP packet, whose first byte has its version
-pub data Entry : Type 0 where
-  ethernet : Entry
-  linux_sll : Entry
-  ether_type : EtherType → Entry
-  ip : Entry
 
 -- a net layer: its header, the extension headers behind it and its payload, or an ARP packet
 pub data NetLayer : Type 0 where

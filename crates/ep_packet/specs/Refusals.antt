@@ -32,7 +32,9 @@ use Rattle.ep_ip.specs.IpPackets.{RefusesIpv4, RefusesIpv6, RefusesIp}
 use Rattle.ep_transport.specs.TransportParts.{RefusesTransportPart}
 use Rattle.ep_packet.specs.declared.err.slice_error.SliceError.{SliceError}
 use Rattle.ep_packet.specs.declared.err.slice_error.SliceError.TheVariants.{Len, LinuxSll, Macsec, Ip, Ipv4, Ipv6, Ipv4Exts, Ipv6Exts, Tcp}
-use Rattle.ep_packet.specs.Layers.{Entry, ethernet, linux_sll, ether_type, ip, NetLayer, ipv4, ipv6, arp, net_payload}
+use Rattle.ep_packet.specs.declared.entry.Entry.{Entry}
+use Rattle.ep_packet.specs.declared.entry.Entry.TheVariants.{Ethernet as ethernet, LinuxSll as linux_sll, EtherType as ether_type, Ip as ip}
+use Rattle.ep_packet.specs.Layers.{NetLayer, ipv4, ipv6, arp, net_payload}
 use Rattle.ep_packet.specs.Frame.{NetKind, only_ipv4, only_ipv6, only_arp, any_ip, net_kind, IsNetLayer, most_link_exts}
 
 -- the refusal of a layer that begins this many bytes further behind

@@ -4,7 +4,7 @@ ghost use Rattle.std.specs.Prelude.{◌≡◌, ◌↔◌, ℕ, List, IsTrue};
 ghost use Rattle.ep_base.specs.Bytes.{AreBytes};
 ghost use Rattle.ep_base.specs.Layer.{Reading};
 ghost use Rattle.ep_base.specs.Tables.{IsDecided};
-ghost use Rattle.ep_packet.specs.Layers.{Entry, Layers};
+ghost use Rattle.ep_packet.specs.Layers.{Layers};
 ghost use Rattle.ep_packet.specs.Frame.{IsFrame, IsFrameIn, most_link_exts};
 ghost use Rattle.ep_packet.specs.FrameBytes.{AreInOrder};
 ghost use Rattle.ep_packet.specs.Refusals.{RefusesFrame, RefusesFrameIn};
@@ -17,9 +17,10 @@ pub mod parsers;
 
 use crate::err::{HeadersWriteError, NetSetNextHeaderError, SliceError};
 use crate::{
-    ArpPacket, ArpPacketSlice, IpHeaders, Ipv4Extensions, Ipv4Header, Ipv4Slice, Ipv6Extensions,
-    Ipv6Header, Ipv6Slice, LinkExtHeader, LinkExtSlice, LinkHeader, LinkSlice, NetHeaders,
-    NetSlice, PacketHeaders, PayloadSlice, SlicedPacket, TransportHeader, TransportSlice,
+    ArpPacket, ArpPacketSlice, Entry, IpHeaders, Ipv4Extensions, Ipv4Header, Ipv4Slice,
+    Ipv6Extensions, Ipv6Header, Ipv6Slice, LinkExtHeader, LinkExtSlice, LinkHeader, LinkSlice,
+    NetHeaders, NetSlice, PacketHeaders, PayloadSlice, SlicedPacket, TransportHeader,
+    TransportSlice,
 };
 
 /// Bytes are a frame, of one list of layers, or are refused with one error, and never both, in each reading. It follows
@@ -67,10 +68,11 @@ pub fn constants()
     ensures cap { SlicedPacket.LINK_EXTS_CAP ≡ most_link_exts }
 {}
 
-/// Errors are equal where they are the same, and payloads where they are of one kind and show the same. Headers, slices
-/// and packets are equal where each of their parts is, by the equality of the part. The order of payloads goes by their
-/// kinds as declared, and within a kind by what they are made of.
+/// Entries and errors are equal where they are the same, and payloads where they are of one kind and show the same.
+/// Headers, slices and packets are equal where each of their parts is, by the equality of the part. The order of payloads
+/// goes by their kinds as declared, and within a kind by what they are made of.
 pub fn comparisons()
+    ensures entries { (a b : Entry) → IsTrue (⟦<Entry as PartialEq>⟧.eq a b) ↔ (a ≡ b) }
     ensures slice_errors { (a b : SliceError) → IsTrue (⟦<SliceError as PartialEq>⟧.eq a b) ↔ (a ≡ b) }
     ensures write_errors { (a b : HeadersWriteError) →
         IsTrue (⟦<HeadersWriteError as PartialEq>⟧.eq a b) ↔ (a ≡ b) }
@@ -101,6 +103,7 @@ pub fn comparisons()
 
 /// A clone equals its source.
 pub fn clones()
+    ensures entries { (a b : Entry) → ⟦<Entry as Clone>⟧.is_clone a b → b ≡ a }
     ensures slice_errors { (a b : SliceError) → ⟦<SliceError as Clone>⟧.is_clone a b → b ≡ a }
     ensures write_errors { (a b : HeadersWriteError) → ⟦<HeadersWriteError as Clone>⟧.is_clone a b → b ≡ a }
     ensures net_errors { (a b : NetSetNextHeaderError) → ⟦<NetSetNextHeaderError as Clone>⟧.is_clone a b → b ≡ a }

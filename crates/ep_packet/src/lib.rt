@@ -1,6 +1,7 @@
 //! Whole packets.
 #![tactic(auto)]
 
+mod entry;
 pub mod err;
 mod ip_headers;
 mod ip_headers_read;
@@ -14,6 +15,7 @@ mod sliced_packet;
 mod sliced_packet_payload;
 
 pub use arrayvec::ArrayVec;
+pub use entry::Entry;
 pub use ep_base::err::{Layer, LenError};
 pub use ep_base::{EtherPayloadSlice, EtherType, IpNumber, IpPayloadSlice, LenSource, VlanId};
 pub use ep_ext::{Ipv4Extensions, Ipv6Extensions};

@@ -44,7 +44,8 @@ pub struct PacketHeaders<'a> {
 
 impl<'a> PacketHeaders<'a> {
     ghost use Rattle.std.specs.Prelude.{IsOkAnd, [], None};
-    ghost use Rattle.ep_packet.specs.Layers.{ethernet, ether_type as of_type, ip, Layers};
+    ghost use Rattle.ep_packet.specs.declared.entry.Entry.TheVariants.{Ethernet as ethernet, EtherType as of_type, Ip as ip};
+    ghost use Rattle.ep_packet.specs.Layers.{Layers};
     ghost use Rattle.ep_packet.specs.Frame.{IsFrameIn};
     ghost use Rattle.ep_packet.specs.PacketHeaders.{LieIn, headers_in, header_vlan_ids, outer_headers, vlan_headers};
     ghost use Rattle.ep_packet.specs.PayloadParts.{payload_part_bytes, payload_part_of};

@@ -46,7 +46,8 @@ impl<'a> SlicedPacket<'a> {
     ghost use Rattle.std.specs.Prelude.{◌≡◌, IfOk, IfErr, IsOkAnd};
     ghost use Rattle.std.specs.Option.{option_copied, option_map};
     ghost use Rattle.ep_base.specs.IpPayload.{ip_payload_of};
-    ghost use Rattle.ep_packet.specs.Layers.{ethernet, linux_sll, ether_type as of_type, ip, Layers, layers_of, ip_payload_in, carries_fragment};
+    ghost use Rattle.ep_packet.specs.declared.entry.Entry.TheVariants.{Ethernet as ethernet, LinuxSll as linux_sll, EtherType as of_type, Ip as ip};
+    ghost use Rattle.ep_packet.specs.Layers.{Layers, layers_of, ip_payload_in, carries_fragment};
     ghost use Rattle.ep_link.specs.EtherPayloads.{ether_payload_of};
     ghost use Rattle.ep_packet.specs.Frame.{IsFrame};
     ghost use Rattle.ep_packet.specs.Payloads.{ether_payload_in, extensions_len_source, payload_ether_type_in};

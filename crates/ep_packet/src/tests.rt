@@ -3,7 +3,8 @@
 ghost use Rattle.std.specs.Prelude.{◌≡◌, IfSome, Some};
 ghost use Rattle.ep_transport.specs.TransportParts.{TransportLayer, transport_payload as payload_of};
 ghost use Rattle.ep_packet.specs.Frame.{IsFrame};
-ghost use Rattle.ep_packet.specs.Layers.{ethernet, Layers};
+ghost use Rattle.ep_packet.specs.declared.entry.Entry.TheVariants.{Ethernet as ethernet};
+ghost use Rattle.ep_packet.specs.Layers.{Layers};
 
 use super::*;
 use crate::err::SliceError;

@@ -7,7 +7,8 @@ use Rattle.ep_base.specs.Tables.{IsDecided}
 use Rattle.ep_defrag.specs.Calls.{drops_streams}
 use Rattle.ep_packet.specs.declared.err.slice_error.SliceError.{SliceError}
 use Rattle.ep_packet.specs.Frame.{IsFrame}
-use Rattle.ep_packet.specs.Layers.{Entry as FrameEntry, Layers}
+use Rattle.ep_packet.specs.declared.entry.Entry.{Entry as FrameEntry}
+use Rattle.ep_packet.specs.Layers.{Layers}
 use Rattle.ep_packet.specs.Refusals.{RefusesFrame}
 use Rattle.frame_bench.specs.Answers.{AreAnswers, IsAnswer, IsAnswered, IsReplyAfter}
 use Rattle.frame_bench.specs.Lines.{line_feed, lines_of}

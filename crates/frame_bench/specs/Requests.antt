@@ -2,7 +2,8 @@
 use Rattle.std.specs.Prelude.{◌≡◌, ℕ, ◌^◌, ◌<◌, ◌≤◌, ◌⊎◌, List, [], ◌∷◌, length, codes, Ok}
 use Rattle.std.specs.Str.Parse.{IsNumeral, digits_value}
 use Rattle.hex.specs.Hex.{decode_of}
-use Rattle.ep_packet.specs.Layers.{Entry as FrameEntry, ethernet, linux_sll, ip}
+use Rattle.ep_packet.specs.declared.entry.Entry.{Entry as FrameEntry}
+use Rattle.ep_packet.specs.declared.entry.Entry.TheVariants.{Ethernet as ethernet, LinuxSll as linux_sll, Ip as ip}
 use Rattle.frame_bench.specs.Lines.{words}
 use Rattle.frame_bench.specs.declared.requests.Entry.{Entry}
 use Rattle.frame_bench.specs.declared.requests.Entry.TheVariants.{Ethernet, LinuxSll, Ip}

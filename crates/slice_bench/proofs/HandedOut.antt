@@ -6,7 +6,8 @@ use Rattle.ep_defrag.specs.declared.ip_defrag_pool.IpDefragPool.{IpDefragPool}
 use Rattle.ep_defrag.specs.Pools.{HoldsTable, TakesFrame, fragment_in, plain_frame_answer, wants_memory}
 use Rattle.ep_defrag.specs.Streams.{PacketFragment}
 use Rattle.ep_packet.specs.Frame.{IsFrame}
-use Rattle.ep_packet.specs.Layers.{ethernet, layers_of}
+use Rattle.ep_packet.specs.declared.entry.Entry.TheVariants.{Ethernet as ethernet}
+use Rattle.ep_packet.specs.Layers.{layers_of}
 use Rattle.ep_packet.specs.declared.sliced_packet.SlicedPacket.{SlicedPacket}
 use Rattle.slice_bench.specs.Reassembly.{HandsOut, Table, answer_len, len_handed_out, same_channel, table_behind}
 

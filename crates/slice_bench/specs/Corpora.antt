@@ -4,7 +4,8 @@ use Rattle.std.specs.List.{AllZip, filter_map}
 use Rattle.std.specs.Option.{option_map}
 use Rattle.ep_link.specs.EtherPayloads.{EtherPayload}
 use Rattle.ep_packet.specs.Frame.{IsFrame}
-use Rattle.ep_packet.specs.Layers.{ethernet, Layers, NetLayer, ipv4, ipv6, arp}
+use Rattle.ep_packet.specs.declared.entry.Entry.TheVariants.{Ethernet as ethernet}
+use Rattle.ep_packet.specs.Layers.{Layers, NetLayer, ipv4, ipv6, arp}
 use Rattle.ep_packet.specs.Payloads.{ether_payload_in}
 use Rattle.ep_packet.specs.Refusals.{RefusesFrame}
 use Rattle.ep_packet.specs.declared.err.slice_error.SliceError.{SliceError}

@@ -3,7 +3,8 @@ use Rattle.std.specs.Prelude.{◌≡◌, ℕ, ◌⊎◌, Bool, true, List, [], �
 use Rattle.std.specs.Option.{option_map}
 use Rattle.ep_packet.specs.Fragments.{fragment_of}
 use Rattle.ep_packet.specs.Frame.{IsFrame}
-use Rattle.ep_packet.specs.Layers.{ethernet, Layers}
+use Rattle.ep_packet.specs.declared.entry.Entry.TheVariants.{Ethernet as ethernet}
+use Rattle.ep_packet.specs.Layers.{Layers}
 use Rattle.ep_packet.specs.Refusals.{RefusesFrame}
 use Rattle.ep_packet.specs.declared.err.slice_error.SliceError.{SliceError}
 use Rattle.ep_defrag.specs.Calls.{Answer, fragment_refused, payload_handed_out, nothing_handed_out, streams_dropped, buffer_returned, Kept, answer_to_frame, table_with_frame}

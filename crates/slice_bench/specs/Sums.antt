@@ -14,7 +14,8 @@ use Rattle.ep_transport.specs.declared.transport_header.TransportHeader.{Transpo
 use Rattle.ep_transport.specs.declared.transport_header.TransportHeader.TheVariants as transport
 use Rattle.ep_packet.specs.Frame.{IsFrame, IsFrameIn}
 use Rattle.ep_packet.specs.FrameBytes.{last_payload}
-use Rattle.ep_packet.specs.Layers.{ethernet, Layers}
+use Rattle.ep_packet.specs.declared.entry.Entry.TheVariants.{Ethernet as ethernet}
+use Rattle.ep_packet.specs.Layers.{Layers}
 use Rattle.ep_packet.specs.PacketHeaders.{Headers, NetHeader, ip_headers, arp_packet, headers_in, net_header_in, transport_header_in}
 use Rattle.ep_packet.specs.PayloadParts.{payload_part_bytes}
 use Rattle.ep_packet.specs.Refusals.{RefusesFrame, RefusesFrameIn}

@@ -3,18 +3,17 @@
 ghost use Rattle.std.specs.Prelude.{◌≡◌};
 ghost use Rattle.ep_link.specs.ArpSlices.{arp_of};
 ghost use Rattle.ep_build.specs.BuiltFrames.{held_arp};
-ghost use Rattle.ep_build.specs.Steps.{ethernet2_link, linux_sll_link, vlan_link, ip_link, ip_step_headers, arp_held};
+ghost use Rattle.ep_build.specs.Steps.{arp_held, ip_link, ip_step_headers, vlan_link};
 ghost use Rattle.ep_build.specs.Steps.{ipv4_headers_between, ipv6_headers_between, tag_of};
 
+use super::holds_headers::CarriesNet;
 use super::{PacketBuilderStep, ip_behind, ipv4_between, ipv6_between};
 use crate::link_part::LinkPart;
 use ep_base::{EtherType, VlanId, VlanPcp};
-use ep_link::{
-    ArpPacket, DoubleVlanHeader, Ethernet2Header, LinuxSllHeader, SingleVlanHeader, VlanHeader,
-};
+use ep_link::{ArpPacket, DoubleVlanHeader, Ethernet2Header, SingleVlanHeader, VlanHeader};
 use ep_packet::IpHeaders;
 
-impl PacketBuilderStep<Ethernet2Header> {
+impl<Link: CarriesNet> PacketBuilderStep<Link> {
     /// An IPv4 header (RFC 791, 3.1) of these addresses and this number of hops, and else the default's fields.
     #[inline]
     pub fn ipv4(
@@ -23,13 +22,10 @@ impl PacketBuilderStep<Ethernet2Header> {
         destination: [u8; 4],
         time_to_live: u8,
     ) -> PacketBuilderStep<IpHeaders>
-        ensures link { ip_link result ≡ ethernet2_link self }
+        ensures link { ip_link result ≡ Link.link self }
         ensures headers { ip_step_headers result ≡ ipv4_headers_between source destination time_to_live }
     {
-        ip_behind(
-            LinkPart::Ethernet2(self.last),
-            ipv4_between(source, destination, time_to_live),
-        )
+        self.ip(ipv4_between(source, destination, time_to_live))
     }
 
     /// An IPv6 header (RFC 8200, 3) of these addresses and this number of hops, with the traffic class and the flow
@@ -41,24 +37,34 @@ impl PacketBuilderStep<Ethernet2Header> {
         destination: [u8; 16],
         hop_limit: u8,
     ) -> PacketBuilderStep<IpHeaders>
-        ensures link { ip_link result ≡ ethernet2_link self }
+        ensures link { ip_link result ≡ Link.link self }
         ensures headers { ip_step_headers result ≡ ipv6_headers_between source destination hop_limit }
     {
-        ip_behind(
-            LinkPart::Ethernet2(self.last),
-            ipv6_between(source, destination, hop_limit),
-        )
+        self.ip(ipv6_between(source, destination, hop_limit))
     }
 
     /// These IP headers.
     #[inline]
     pub fn ip(self, ip_headers: IpHeaders) -> PacketBuilderStep<IpHeaders>
-        ensures link { ip_link result ≡ ethernet2_link self }
+        ensures link { ip_link result ≡ Link.link self }
         ensures headers { ip_step_headers result ≡ ip_headers }
     {
-        ip_behind(LinkPart::Ethernet2(self.last), ip_headers)
+        ip_behind(Link::link_part(self), ip_headers)
     }
 
+    /// This ARP packet (RFC 826), which ends the frame.
+    #[inline]
+    pub fn arp(self, packet: ArpPacket) -> PacketBuilderStep<ArpPacket>
+        ensures { arp_held result ≡ held_arp (Link.link self) (arp_of packet) }
+    {
+        PacketBuilderStep {
+            before: Link::link_part(self),
+            last: packet,
+        }
+    }
+}
+
+impl PacketBuilderStep<Ethernet2Header> {
     /// These VLAN tags (IEEE 802.1Q, 9.6), one or two.
     #[inline]
     pub fn vlan(self, vlan: VlanHeader) -> PacketBuilderStep<VlanHeader>
@@ -94,131 +100,6 @@ impl PacketBuilderStep<Ethernet2Header> {
             outer: tag_of(outer_vlan_identifier),
             inner: tag_of(inner_vlan_identifier),
         }))
-    }
-
-    /// This ARP packet (RFC 826), which ends the frame.
-    #[inline]
-    pub fn arp(self, packet: ArpPacket) -> PacketBuilderStep<ArpPacket>
-        ensures { arp_held result ≡ held_arp (ethernet2_link self) (arp_of packet) }
-    {
-        PacketBuilderStep {
-            before: LinkPart::Ethernet2(self.last),
-            last: packet,
-        }
-    }
-}
-
-impl PacketBuilderStep<LinuxSllHeader> {
-    /// An IPv4 header (RFC 791, 3.1) of these addresses and this number of hops, and else the default's fields.
-    #[inline]
-    pub fn ipv4(
-        self,
-        source: [u8; 4],
-        destination: [u8; 4],
-        time_to_live: u8,
-    ) -> PacketBuilderStep<IpHeaders>
-        ensures link { ip_link result ≡ linux_sll_link self }
-        ensures headers { ip_step_headers result ≡ ipv4_headers_between source destination time_to_live }
-    {
-        ip_behind(
-            LinkPart::LinuxSll(self.last),
-            ipv4_between(source, destination, time_to_live),
-        )
-    }
-
-    /// An IPv6 header (RFC 8200, 3) of these addresses and this number of hops, with the traffic class and the flow
-    /// label 0.
-    #[inline]
-    pub fn ipv6(
-        self,
-        source: [u8; 16],
-        destination: [u8; 16],
-        hop_limit: u8,
-    ) -> PacketBuilderStep<IpHeaders>
-        ensures link { ip_link result ≡ linux_sll_link self }
-        ensures headers { ip_step_headers result ≡ ipv6_headers_between source destination hop_limit }
-    {
-        ip_behind(
-            LinkPart::LinuxSll(self.last),
-            ipv6_between(source, destination, hop_limit),
-        )
-    }
-
-    /// These IP headers.
-    #[inline]
-    pub fn ip(self, ip_headers: IpHeaders) -> PacketBuilderStep<IpHeaders>
-        ensures link { ip_link result ≡ linux_sll_link self }
-        ensures headers { ip_step_headers result ≡ ip_headers }
-    {
-        ip_behind(LinkPart::LinuxSll(self.last), ip_headers)
-    }
-
-    /// This ARP packet (RFC 826), which ends the frame.
-    #[inline]
-    pub fn arp(self, packet: ArpPacket) -> PacketBuilderStep<ArpPacket>
-        ensures { arp_held result ≡ held_arp (linux_sll_link self) (arp_of packet) }
-    {
-        PacketBuilderStep {
-            before: LinkPart::LinuxSll(self.last),
-            last: packet,
-        }
-    }
-}
-
-impl PacketBuilderStep<VlanHeader> {
-    /// An IPv4 header (RFC 791, 3.1) of these addresses and this number of hops, and else the default's fields.
-    #[inline]
-    pub fn ipv4(
-        self,
-        source: [u8; 4],
-        destination: [u8; 4],
-        time_to_live: u8,
-    ) -> PacketBuilderStep<IpHeaders>
-        ensures link { ip_link result ≡ vlan_link self }
-        ensures headers { ip_step_headers result ≡ ipv4_headers_between source destination time_to_live }
-    {
-        ip_behind(
-            LinkPart::Tagged(self.before, self.last),
-            ipv4_between(source, destination, time_to_live),
-        )
-    }
-
-    /// An IPv6 header (RFC 8200, 3) of these addresses and this number of hops, with the traffic class and the flow
-    /// label 0.
-    #[inline]
-    pub fn ipv6(
-        self,
-        source: [u8; 16],
-        destination: [u8; 16],
-        hop_limit: u8,
-    ) -> PacketBuilderStep<IpHeaders>
-        ensures link { ip_link result ≡ vlan_link self }
-        ensures headers { ip_step_headers result ≡ ipv6_headers_between source destination hop_limit }
-    {
-        ip_behind(
-            LinkPart::Tagged(self.before, self.last),
-            ipv6_between(source, destination, hop_limit),
-        )
-    }
-
-    /// These IP headers.
-    #[inline]
-    pub fn ip(self, ip_headers: IpHeaders) -> PacketBuilderStep<IpHeaders>
-        ensures link { ip_link result ≡ vlan_link self }
-        ensures headers { ip_step_headers result ≡ ip_headers }
-    {
-        ip_behind(LinkPart::Tagged(self.before, self.last), ip_headers)
-    }
-
-    /// This ARP packet (RFC 826), which ends the frame.
-    #[inline]
-    pub fn arp(self, packet: ArpPacket) -> PacketBuilderStep<ArpPacket>
-        ensures { arp_held result ≡ held_arp (vlan_link self) (arp_of packet) }
-    {
-        PacketBuilderStep {
-            before: LinkPart::Tagged(self.before, self.last),
-            last: packet,
-        }
     }
 }
 

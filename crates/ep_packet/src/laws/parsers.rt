@@ -3,9 +3,10 @@
 ghost use Rattle.std.specs.Prelude.{◌≡◌, ◌++◌, ℕ, List};
 ghost use Rattle.ep_base.specs.Layer.{headers};
 ghost use Rattle.ep_packet.specs.Frame.{IsFrame, IsFrameIn, most_link_exts};
-ghost use Rattle.ep_packet.specs.Layers.{Entry, Layers};
+ghost use Rattle.ep_packet.specs.Layers.{Layers};
 ghost use Rattle.ep_packet.specs.TwoParsers.{Agree, HasNoSecondKind};
 
+use crate::entry::Entry;
 use crate::packet_headers::PacketHeaders;
 
 /// Bytes that are a frame as slices are read, in which no kind of extension header of IPv6 stands twice, are one as

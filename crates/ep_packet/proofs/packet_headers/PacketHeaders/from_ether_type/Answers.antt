@@ -2,7 +2,7 @@ use Rattle.std.proofs.Common.{◌≡◌, ◌-◌, length, Some, ap, subst, arith
 use Rattle.ep_base.specs.Layer.{headers}
 use Rattle.ep_packet.specs.Frame.{most_link_exts}
 use Rattle.ep_packet.specs.HeadersWalk.{FillsInside}
-use Rattle.ep_packet.specs.Layers.{ether_type}
+use Rattle.ep_packet.specs.declared.entry.Entry.TheVariants.{EtherType as ether_type}
 use Rattle.ep_packet.specs.PacketHeaders.{Headers, headers_in, headers_of}
 use Rattle.ep_packet.specs.Refusals.{RefusesInside}
 use Rattle.ep_packet.proofs.EntryHeadersLemmas.{ether_payload_filled, headers_law, payload_lies, whole_room}

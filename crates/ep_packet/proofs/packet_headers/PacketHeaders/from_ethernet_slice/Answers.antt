@@ -2,7 +2,7 @@ use Rattle.std.proofs.Common.{◌-◌, length, Some, ap, arith, ◌∙◌, rules
 use Rattle.std.specs.Prelude.{IfErr}
 use Rattle.std.proofs.lemmas.Result.{IfErr-weaker}
 use Rattle.ep_base.specs.Layer.{headers}
-use Rattle.ep_packet.specs.Layers.{ethernet}
+use Rattle.ep_packet.specs.declared.entry.Entry.TheVariants.{Ethernet as ethernet}
 use Rattle.ep_packet.specs.PacketHeaders.{headers_in}
 use Rattle.ep_packet.specs.Frame.{most_link_exts}
 use Rattle.ep_packet.specs.Refusals.{RefusesInside}

@@ -1,5 +1,5 @@
 use Rattle.std.proofs.Common.{arith, ap, ◌∙◌}
-use Rattle.ep_packet.specs.Layers.{ip}
+use Rattle.ep_packet.specs.declared.entry.Entry.TheVariants.{Ip as ip}
 use Rattle.ep_packet.specs.PacketHeaders.{headers_in, headers_of}
 use Rattle.ep_packet.proofs.EntryHeadersLemmas.{headers_law, ip_fills, payload_lies}
 use Rattle.ep_packet.proofs.packet_headers.PacketHeaders.from_ip_slice.Goals as goal

@@ -7,7 +7,8 @@ use Rattle.ep_base.specs.declared.len_source.LenSource.TheVariants as source
 use Rattle.ep_link.specs.declared.link.link_slice.LinkSlice.TheVariants as link
 use Rattle.ep_packet.specs.declared.sliced_packet.SlicedPacket.{SlicedPacket}
 use Rattle.ep_packet.specs.Frame.{IsFrame}
-use Rattle.ep_packet.specs.Layers.{ether_type, layers_of}
+use Rattle.ep_packet.specs.declared.entry.Entry.TheVariants.{EtherType as ether_type}
+use Rattle.ep_packet.specs.Layers.{layers_of}
 use Rattle.ep_packet.specs.Walk.{HoldsBehind}
 use Rattle.ep_packet.proofs.EntryLemmas.{ether_payload_holds}
 use Rattle.ep_packet.proofs.LayerLaws.{frame_law}

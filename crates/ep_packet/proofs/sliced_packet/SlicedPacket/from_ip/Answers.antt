@@ -1,7 +1,8 @@
 use Rattle.std.proofs.Common.{None, map, refl, ap, arith}
 use Rattle.ep_link.specs.LinkExtensions.{link_extension_of}
 use Rattle.ep_packet.specs.declared.sliced_packet.SlicedPacket.{SlicedPacket}
-use Rattle.ep_packet.specs.Layers.{ip, layers_of}
+use Rattle.ep_packet.specs.declared.entry.Entry.TheVariants.{Ip as ip}
+use Rattle.ep_packet.specs.Layers.{layers_of}
 use Rattle.ep_packet.proofs.LayerLaws.{frame_law}
 use Rattle.ep_packet.proofs.sliced_packet.SlicedPacket.from_ip.Goals as goal
 

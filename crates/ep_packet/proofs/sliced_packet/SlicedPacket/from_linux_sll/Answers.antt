@@ -7,7 +7,8 @@ use Rattle.ep_packet.specs.declared.err.slice_error.SliceError.TheVariants.{Len}
 use Rattle.ep_link.specs.declared.link.link_slice.LinkSlice.TheVariants as link
 use Rattle.ep_packet.specs.declared.sliced_packet.SlicedPacket.{SlicedPacket}
 use Rattle.ep_packet.specs.Frame.{IsFrame}
-use Rattle.ep_packet.specs.Layers.{linux_sll, layers_of}
+use Rattle.ep_packet.specs.declared.entry.Entry.TheVariants.{LinuxSll as linux_sll}
+use Rattle.ep_packet.specs.Layers.{layers_of}
 use Rattle.ep_packet.specs.Refusals.{RefusesFrame, linux_sll_refusal}
 use Rattle.ep_packet.specs.Walk.{HoldsBehind}
 use Rattle.ep_packet.proofs.EntryLemmas.{linux_sll_holds, linux_sll_refused}
