@@ -1,6 +1,7 @@
 //! Where the end of a payload comes from.
 
 ghost use Rattle.std.specs.Prelude.{◌≡◌};
+ghost use Rattle.ep_base.specs.Layer.{cut_by};
 ghost use Rattle.ep_base.specs.Names.{len_source_name};
 
 /// What sets the number of bytes that a layer has at hand.
@@ -21,6 +22,18 @@ pub enum LenSource {
 }
 
 impl LenSource {
+    /// What set the end of a layer's bytes in a payload whose end `outer` set: this, or `outer` where this is the end
+    /// of the slice.
+    #[inline]
+    pub fn cut_by(self, outer: LenSource) -> LenSource
+        ensures { result ≡ cut_by outer self }
+    {
+        match self {
+            LenSource::Slice => outer,
+            _ => self,
+        }
+    }
+
     /// The variant's name.
     pub fn name(&self) -> &'static str
         ensures { result.now ≡ len_source_name self.now }

@@ -5,3 +5,5 @@ pub mod LinkReadBack
 pub mod NetReadBack
 pub mod TransportReadBack
 pub mod ReadBackLemmas
+pub mod FitLemmas
+pub mod FrameBytesLemmas

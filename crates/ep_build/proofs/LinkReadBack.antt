@@ -21,9 +21,11 @@ use Rattle.ep_packet.specs.Frame.{IsFrameIn, IsInside, IsNetPart, any_ip, net_ki
 use Rattle.ep_packet.specs.declared.entry.Entry.{Entry}
 use Rattle.ep_packet.specs.declared.entry.Entry.TheVariants.{Ethernet as ethernet, EtherType as ether_type, Ip as ip, LinuxSll as linux_sll}
 use Rattle.ep_packet.specs.Layers.{Layers, NetLayer}
+use Rattle.ep_packet.specs.VlanTags.{vlan_ids_in}
 use Rattle.ep_transport.specs.TransportParts.{TransportLayer}
 use Rattle.ep_build.specs.BuiltFrames.{Inside, as_ether_type, arp_packet, ip_packet, transport_packet, inside_type}
 use Rattle.ep_build.specs.BuiltFrames.{link_before, link_part_bytes}
+use Rattle.ep_build.specs.BuiltFragments.{link_vlan_ids, tag_ids}
 use Rattle.ep_build.specs.Fits.{FitsCooked, FitsLink}
 use Rattle.ep_build.specs.ReadBack.{IsBareEntry, IsEntryOf}
 use Rattle.ep_build.specs.declared.link_part.LinkPart.{LinkPart}
@@ -37,11 +39,12 @@ pub record IsNet (reading : Reading) (type : EtherType) (bytes : List ℕ) (net 
   pub begins_none : ¬ BeginsLinkExtension type
   pub part : IsNetPart reading (net_kind type) bytes (Some net) transport
 
--- the bytes are a frame with this net layer and this transport layer
-pub record IsFrameOf (reading : Reading) (entry : Entry) (bytes : List ℕ) (net : NetLayer)
+-- the bytes are a frame with these VLAN identifiers, this net layer and this transport layer
+pub record IsFrameOf (reading : Reading) (entry : Entry) (bytes : List ℕ) (vlan_ids : List ℕ) (net : NetLayer)
     (transport : Option TransportLayer) : Type 0 where
   pub layers : Layers
   pub is : IsFrameIn reading entry bytes layers
+  pub has_vlan_ids : vlan_ids_in layers.link_exts ≡ vlan_ids
   pub has_net : layers.net ≡ Some net
   pub has_transport : layers.transport ≡ transport
 
@@ -67,7 +70,7 @@ typed header type fits small = record {
 behind_ethernet2 : (reading : Reading) (header : Ethernet2Header) (inner : List ℕ) (extensions : List LinkExtension)
     (net : NetLayer) (transport : Option TransportLayer) → FitsEthernet2 header
     → IsInside reading 3 (Some header.ether_type) inner extensions (Some net) transport
-    → IsFrameOf reading ethernet (ethernet2_bytes header ++ inner) net transport
+    → IsFrameOf reading ethernet (ethernet2_bytes header ++ inner) (vlan_ids_in extensions) net transport
 behind_ethernet2 reading header inner extensions net transport fits inside = record {
   layers = layers_behind (Some (ethernet2 header inner)) extensions net transport;
   is = (
@@ -76,6 +79,7 @@ behind_ethernet2 reading header inner extensions net transport fits inside = rec
     refl,
     inside,
   );
+  has_vlan_ids = refl;
   has_net = refl;
   has_transport = refl;
 }
@@ -95,9 +99,9 @@ is_vlan tag inner fits =
 behind_one : (reading : Reading) (header : Ethernet2Header) (tag : SingleVlanHeader) (inner : List ℕ) (net : NetLayer)
     (transport : Option TransportLayer) → FitsEthernet2 header → header.ether_type.0 ≡ vlan_type → FitsVlan tag
     → IsNet reading tag.ether_type inner net transport
-    → IsFrameOf reading ethernet ((ethernet2_bytes header ++ vlan_bytes tag) ++ inner) net transport
+    → IsFrameOf reading ethernet ((ethernet2_bytes header ++ vlan_bytes tag) ++ inner) (tag.vlan_id ∷ []) net transport
 behind_one reading header tag inner net transport fits is_tag tag_fits is = subst
-    (λ (b : List ℕ). IsFrameOf reading ethernet b net transport)
+    (λ (b : List ℕ). IsFrameOf reading ethernet b (tag.vlan_id ∷ []) net transport)
     (sym (append_assoc (ethernet2_bytes header) (vlan_bytes tag) inner))
     (behind_ethernet2 reading header (vlan_bytes tag ++ inner) (vlan tag inner ∷ []) net transport fits
     (([], (inl is_tag, is_vlan tag inner tag_fits)), (is.begins_none, is.part)))
@@ -108,10 +112,10 @@ behind_two : (reading : Reading) (header : Ethernet2Header) (outer inner_tag : S
     → header.ether_type.0 ≡ provider_bridging_type → FitsVlan outer → outer.ether_type.0 ≡ vlan_type
     → FitsVlan inner_tag → IsNet reading inner_tag.ether_type inner net transport
     → IsFrameOf reading ethernet ((ethernet2_bytes header ++ (vlan_bytes outer ++ vlan_bytes inner_tag)) ++ inner)
-    net transport
+    (outer.vlan_id ∷ inner_tag.vlan_id ∷ []) net transport
 behind_two reading header outer inner_tag inner net transport fits is_service outer_fits is_customer inner_fits is =
     let rest = vlan_bytes inner_tag ++ inner in subst
-    (λ (b : List ℕ). IsFrameOf reading ethernet b net transport)
+    (λ (b : List ℕ). IsFrameOf reading ethernet b (outer.vlan_id ∷ inner_tag.vlan_id ∷ []) net transport)
     (ap (λ (b : List ℕ). ethernet2_bytes header ++ b)
     (sym (append_assoc (vlan_bytes outer) (vlan_bytes inner_tag) inner))
     ∙ sym (append_assoc (ethernet2_bytes header) (vlan_bytes outer ++ vlan_bytes inner_tag) inner))
@@ -133,7 +137,7 @@ cooked_before header type = record header {
 cooked : (reading : Reading) (header : LinuxSllHeader) (type : EtherType) (inner : List ℕ) (net : NetLayer)
     (transport : Option TransportLayer) → FitsCooked header → header.packet_type.0 ≤ 7
     → IsNet reading type inner net transport → IsFrameOf reading linux_sll
-    (link_part_bytes (link_before (link.LinuxSll header) type) ++ inner) net transport
+    (link_part_bytes (link_before (link.LinuxSll header) type) ++ inner) [] net transport
 cooked reading header type inner net transport fits known is =
     let there = cooked_before header type in record {
       layers = layers_behind (Some (sll there inner)) [] net transport;
@@ -155,6 +159,7 @@ cooked reading header type inner net transport fits known is =
         refl,
         (is.begins_none, is.part),
       );
+      has_vlan_ids = refl;
       has_net = refl;
       has_transport = refl;
     }
@@ -172,23 +177,25 @@ bare : (reading : Reading) (inside : Inside) (entry : Entry) (inner : List ℕ) 
     (transport : Option TransportLayer) → (entry ≡ ip) ⊎ (entry ≡ ether_type (as_ether_type (inside_type inside)))
     → IsNet reading (as_ether_type (inside_type inside)) inner net transport
     → (entry ≡ ip → IsNetPart reading (Some any_ip) inner (Some net) transport)
-    → IsFrameOf reading entry inner net transport
+    → IsFrameOf reading entry inner [] net transport
 bare reading inside entry inner net transport (inl is_ip) is any = subst
-    (λ (e : Entry). IsFrameOf reading e inner net transport)
+    (λ (e : Entry). IsFrameOf reading e inner [] net transport)
     (sym is_ip)
     (record {
       layers = layers_behind None [] net transport;
       is = (refl, refl, any is_ip);
+      has_vlan_ids = refl;
       has_net = refl;
       has_transport = refl;
     })
 bare reading inside entry inner net transport (inr is_type) is any =
     let type = as_ether_type (inside_type inside) in subst
-    (λ (e : Entry). IsFrameOf reading e inner net transport)
+    (λ (e : Entry). IsFrameOf reading e inner [] net transport)
     (sym is_type)
     (record {
       layers = layers_behind (Some (ether_payload type source.Slice inner)) [] net transport;
       is = (refl, (is.begins_none, is.part));
+      has_vlan_ids = refl;
       has_net = refl;
       has_transport = refl;
     })
@@ -201,12 +208,12 @@ pub frame_is : (reading : Reading) (part : LinkPart) (inside : Inside) (entry : 
     → IsNet reading (as_ether_type (inside_type inside)) inner net transport
     → (entry ≡ ip → IsNetPart reading (Some any_ip) inner (Some net) transport)
     → IsFrameOf reading entry
-    (link_part_bytes (link_before part (as_ether_type (inside_type inside))) ++ inner) net transport
+    (link_part_bytes (link_before part (as_ether_type (inside_type inside))) ++ inner) (link_vlan_ids part) net transport
 frame_is reading link.Absent inside entry inner net transport fits of is any =
     bare reading inside entry inner net transport (bare_cases inside entry of) is any
 frame_is reading (link.Ethernet2 header) inside entry inner net transport fits of is any =
     let type = as_ether_type (inside_type inside) in subst
-    (λ (e : Entry). IsFrameOf reading e (ethernet2_bytes (record header { ether_type = type }) ++ inner) net transport)
+    (λ (e : Entry). IsFrameOf reading e (ethernet2_bytes (record header { ether_type = type }) ++ inner) [] net transport)
     (sym of)
     (behind_ethernet2 reading (record header { ether_type = type }) inner [] net transport
     (typed header type fits is.small) (is.begins_none, is.part))
@@ -214,7 +221,8 @@ frame_is reading (link.Tagged header (tags.Single tag)) inside entry inner net t
     let type = as_ether_type (inside_type inside) in
     let first = record header { ether_type = as_ether_type vlan_type } in
     let behind = record tag { ether_type = type } in subst
-    (λ (e : Entry). IsFrameOf reading e ((ethernet2_bytes first ++ vlan_bytes behind) ++ inner) net transport)
+    (λ (e : Entry). IsFrameOf reading e
+    ((ethernet2_bytes first ++ vlan_bytes behind) ++ inner) (tag.vlan_id ∷ []) net transport)
     (sym of)
     (behind_one reading first behind inner net transport
     (typed header (as_ether_type vlan_type) fits.0 (omega arith)) refl (tagged tag type fits.1 is.small) is)
@@ -224,7 +232,8 @@ frame_is reading (link.Tagged header (tags.Double both)) inside entry inner net 
     let outer = record both.outer { ether_type = as_ether_type vlan_type } in
     let behind = record both.inner { ether_type = type } in subst
     (λ (e : Entry). IsFrameOf reading e
-    ((ethernet2_bytes first ++ (vlan_bytes outer ++ vlan_bytes behind)) ++ inner) net transport)
+    ((ethernet2_bytes first ++ (vlan_bytes outer ++ vlan_bytes behind)) ++ inner) (tag_ids (tags.Double both)) net
+    transport)
     (sym of)
     (behind_two reading first outer behind inner net transport
     (typed header (as_ether_type provider_bridging_type) fits.0 (omega arith)) refl
@@ -233,6 +242,6 @@ frame_is reading (link.Tagged header (tags.Double both)) inside entry inner net 
 frame_is reading (link.LinuxSll header) inside entry inner net transport fits of is any = subst
     (λ (e : Entry). IsFrameOf reading e
     (link_part_bytes (link_before (link.LinuxSll header) (as_ether_type (inside_type inside))) ++ inner)
-    net transport)
+    [] net transport)
     (sym of.1)
     (cooked reading header (as_ether_type (inside_type inside)) inner net transport fits of.0 is)

@@ -1,7 +1,8 @@
 -- IP headers that are linked for their content are read back from it, in both readings.
-use Rattle.std.proofs.Common.{◌≡◌, ℕ, ◌||◌, Bool, true, false, not, if◌then◌else◌, List, [], ◌∷◌, ◌++◌}
+use Rattle.std.proofs.Common.{◌≡◌, ℕ, ◌||◌, ◌&&◌, Bool, true, false, not, if◌then◌else◌, List, [], ◌∷◌, ◌++◌}
 use Rattle.std.proofs.Common.{length, Option, Some, None, refl, sym, ap, ◌∙◌}
-use Rattle.std.specs.Option.{option_map}
+use Rattle.std.specs.Option.{option_and_then, option_map}
+use Rattle.ep_base.specs.IpNumbers.{fragment_number}
 use Rattle.ep_base.specs.IpPayload.{IpPayload}
 use Rattle.ep_base.specs.Layer.{Reading, slices, headers as by_value}
 use Rattle.ep_base.specs.declared.ip_number.IpNumber.{IpNumber}
@@ -12,16 +13,20 @@ use Rattle.ep_ext.specs.declared.ipv6_fragment_header.Ipv6FragmentHeader.{Ipv6Fr
 use Rattle.ep_ext.specs.declared.ipv6_raw_ext_header.Ipv6RawExtHeader.{Ipv6RawExtHeader}
 use Rattle.ep_ext.specs.declared.ipv6_routing_exts.Ipv6RoutingExtensions.{Ipv6RoutingExtensions}
 use Rattle.ep_ext.specs.Chains.{Demand, IsChainBehind, chain_fragments, demand_of, ends, ipv4, ipv6, is_ipv6_extension}
-use Rattle.ep_ext.specs.Chains.{misplaced, takes}
+use Rattle.ep_ext.specs.Chains.{is_first, is_taken, misplaced, takes}
 use Rattle.ep_ext.specs.ExtensionParts.{ExtensionPart, authentication, destination_options, fragment, hop_by_hop}
 use Rattle.ep_ext.specs.ExtensionParts.{part_fragments, part_next, parts_there, routing}
 use Rattle.ep_ext.specs.Ipv4Chains.{ip_auth_leading_to}
 use Rattle.ep_ext.specs.Ipv6Chains.{after_auth, after_destination, after_fragment, after_hop_by_hop, after_routing}
-use Rattle.ep_ext.specs.Ipv6Chains.{final_by, fragment_leading_to, ipv6_linked, ipv6_parts, raw_leading_to}
-use Rattle.ep_ext.specs.Ipv6Chains.{routing_header, routing_leading_to}
+use Rattle.ep_ext.specs.Ipv6Chains.{extensions_of, final_by, fragment_leading_to, ipv6_linked, ipv6_parts}
+use Rattle.ep_ext.specs.Ipv6Chains.{no_ipv6_extensions, raw_leading_to, routing_header, routing_leading_to}
+use Rattle.ep_ext.specs.Ipv6Chains.{with_destination, with_part, with_parts}
+use Rattle.ep_ext.specs.FragmentHeader.{is_ipv6_fragment}
+use Rattle.ep_ip.specs.Ipv4.{is_ipv4_fragment}
 use Rattle.ep_ip.specs.IpPackets.{IpPacket, IpPart, IsIp, IsIpv4, IsIpv6, ipv4_part, ipv6_part}
 use Rattle.ep_ip.specs.declared.ipv4_header.Ipv4Header.{Ipv4Header}
 use Rattle.ep_ip.specs.declared.ipv6_header.Ipv6Header.{Ipv6Header}
+use Rattle.ep_packet.specs.Fragments.{FrameFragment, first_fragment, ipv4_fragment, ipv6_fragment, net_fragment}
 use Rattle.ep_packet.specs.Frame.{IsNetLayer, NetKind, any_ip, only_ipv4, only_ipv6}
 use Rattle.ep_packet.specs.IpHeaders.{EndsExtensions, FitIpHeaders, headers_for, headers_fragment}
 use Rattle.ep_packet.specs.IpHeaders.{ip_headers_of, ip_part_payload, payload_of_headers}
@@ -29,6 +34,7 @@ use Rattle.ep_packet.specs.Layers.{NetLayer, ipv4_layer, ipv6_layer, net_payload
 use Rattle.ep_packet.specs.declared.ip_headers.IpHeaders.{IpHeaders}
 use Rattle.ep_packet.specs.declared.ip_headers.IpHeaders.TheVariants as version
 use Rattle.ep_packet.proofs.IpHeadersLemmas.{read}
+use Rattle.ep_build.specs.BuiltFragments.{headers_carry}
 use Rattle.ep_build.specs.BuiltFrames.{ip_frame}
 
 -- the kind of a net layer of these headers, by their ether type
@@ -36,12 +42,13 @@ abbrev pub kind_of : IpHeaders → NetKind
 kind_of (version.Ipv4 header extensions) = only_ipv4
 kind_of (version.Ipv6 header extensions) = only_ipv6
 
--- the bytes are a net layer of the version of the headers, with this payload
+-- the bytes are a net layer of the version of the headers, with this payload, which carries the fragment that they say
 pub record NetOf (reading : Reading) (headers : IpHeaders) (bytes : List ℕ) (payload : IpPayload) : Type 0 where
   pub layer : NetLayer
   pub typed : IsNetLayer reading (kind_of headers) bytes layer
   pub any : IsNetLayer reading any_ip bytes layer
   pub has_payload : net_payload layer ≡ Some payload
+  pub carries : (vlan_ids : List ℕ) → net_fragment vlan_ids layer ≡ headers_carry vlan_ids headers payload
 
 -- ---- chains that end in no extension header are the same in both readings
 
@@ -126,34 +133,143 @@ in_reading_6 reading bytes packet none is = record {
   source = is.source;
 }
 
+-- ---- by value there is at most one fragment header, the first
+
+-- a kind that was taken is so behind one more header
+taken_by : (nearest second : Bool) (taken : Bool) → taken ≡ true → second ≡ false
+    → (if nearest then true else if second then false else taken) ≡ true
+taken_by true second taken there other = refl
+taken_by false true taken there other = absurd (cc)
+taken_by false false taken there other = there
+
+and_false : (a : Bool) → (a && false) ≡ false
+and_false true = refl
+and_false false = refl
+
+taken_behind : (taken : List ℕ) (number : ℕ) → is_taken taken fragment_number ≡ true
+    → is_taken (number ∷ taken) fragment_number ≡ true
+taken_behind taken number there = taken_by _ _ _ there (and_false _)
+
+-- and then its number demands no further one
+second_ends : (taken : List ℕ) (number : ℕ) → number ≡ fragment_number → is_taken taken fragment_number ≡ true
+    → demand_of ipv6 by_value taken number ≡ takes → ⊥
+second_ends taken number is there demands =
+    let again : demand_of ipv6 by_value taken fragment_number ≡ takes =
+    ap (λ (n : ℕ). demand_of ipv6 by_value taken n) (sym is) ∙ demands in
+    let not_again : demand_by false (is_first taken) true (is_taken taken fragment_number) ≡ ends =
+    ap (λ (t : Bool). demand_by false (is_first taken) true t) there in
+    let both : ends ≡ takes = sym not_again ∙ again in absurd (cc)
+
+destination_kept : (before : Ipv6Extensions) (header : Ipv6RawExtHeader) (behind : Option Ipv6RoutingExtensions)
+    → (with_destination before header behind).fragment ≡ before.fragment
+destination_kept before header None = refl
+destination_kept before header (Some behind) = refl
+
+-- headers behind a fragment header are no other one
+kept_fragment : (taken : List ℕ) (number : ℕ) (bytes : List ℕ) (parts : List ExtensionPart) (last : ℕ) (rest : List ℕ)
+    (before : Ipv6Extensions) → is_taken taken fragment_number ≡ true
+    → IsChainBehind ipv6 by_value taken number bytes parts last rest
+    → (with_parts before parts).fragment ≡ before.fragment
+kept_fragment taken number bytes [] last rest before there is = refl
+kept_fragment taken number bytes (hop_by_hop header ∷ parts) last rest before there is =
+    kept_fragment (number ∷ taken) header.next_header.0 is.1.0 parts last rest
+    (with_part before (hop_by_hop header)) (taken_behind taken number there) is.1.2
+kept_fragment taken number bytes (destination_options header ∷ parts) last rest before there is =
+    kept_fragment (number ∷ taken) header.next_header.0 is.1.0 parts last rest
+    (with_part before (destination_options header)) (taken_behind taken number there) is.1.2
+    ∙ destination_kept before header before.routing
+kept_fragment taken number bytes (routing header ∷ parts) last rest before there is =
+    kept_fragment (number ∷ taken) header.next_header.0 is.1.0 parts last rest
+    (with_part before (routing header)) (taken_behind taken number there) is.1.2
+kept_fragment taken number bytes (fragment header ∷ parts) last rest before there is =
+    absurd (second_ends taken number is.1.1.0 there is.0)
+kept_fragment taken number bytes (authentication header ∷ parts) last rest before there is =
+    kept_fragment (number ∷ taken) header.next_header.0 is.1.0 parts last rest
+    (with_part before (authentication header)) (taken_behind taken number there) is.1.2
+
+-- so the first one of a chain is that of its value
+first_behind : (taken : List ℕ) (number : ℕ) (bytes : List ℕ) (parts : List ExtensionPart) (last : ℕ) (rest : List ℕ)
+    (before : Ipv6Extensions) → before.fragment ≡ None
+    → IsChainBehind ipv6 by_value taken number bytes parts last rest
+    → first_fragment parts ≡ (with_parts before parts).fragment
+first_behind taken number bytes [] last rest before none is = sym none
+first_behind taken number bytes (hop_by_hop header ∷ parts) last rest before none is =
+    first_behind (number ∷ taken) header.next_header.0 is.1.0 parts last rest
+    (with_part before (hop_by_hop header)) none is.1.2
+first_behind taken number bytes (destination_options header ∷ parts) last rest before none is =
+    first_behind (number ∷ taken) header.next_header.0 is.1.0 parts last rest
+    (with_part before (destination_options header)) (destination_kept before header before.routing ∙ none) is.1.2
+first_behind taken number bytes (routing header ∷ parts) last rest before none is =
+    first_behind (number ∷ taken) header.next_header.0 is.1.0 parts last rest
+    (with_part before (routing header)) none is.1.2
+first_behind taken number bytes (fragment header ∷ parts) last rest before none is = sym
+    (kept_fragment (number ∷ taken) header.next_header.0 is.1.0 parts last rest
+    (with_part before (fragment header))
+    (ap (λ (n : ℕ). is_taken (n ∷ taken) fragment_number) is.1.1.0) is.1.2)
+first_behind taken number bytes (authentication header ∷ parts) last rest before none is =
+    first_behind (number ∷ taken) header.next_header.0 is.1.0 parts last rest
+    (with_part before (authentication header)) none is.1.2
+
+first_by_value : (number : ℕ) (bytes : List ℕ) (parts : List ExtensionPart) (last : ℕ) (rest : List ℕ)
+    → IsChainBehind ipv6 by_value [] number bytes parts last rest
+    → first_fragment parts ≡ (extensions_of parts).fragment
+first_by_value number bytes parts last rest is =
+    first_behind [] number bytes parts last rest no_ipv6_extensions refl is
+
+-- headers that are linked say the same fragment
+linked_carry : (vlan_ids : List ℕ) (header : Ipv6Header) (part : Option Ipv6FragmentHeader) (next : IpNumber)
+    (payload : IpPayload)
+    → option_and_then (ipv6_fragment vlan_ids header payload) (option_map (fragment_leading_to next) part)
+    ≡ option_and_then (ipv6_fragment vlan_ids header payload) part
+linked_carry vlan_ids header None next payload = refl
+linked_carry vlan_ids header (Some part) next payload = refl
+
 -- ---- the net layer
 
 net_4 : (reading : Reading) (header there : Ipv4Header) (extensions these : Ipv4Extensions) (bytes : List ℕ)
-    (payload : IpPayload) (part : IpPart) → IsIp by_value bytes part
+    (payload : IpPayload) (part : IpPart) → ((vlan_ids : List ℕ)
+    → ipv4_fragment vlan_ids there payload ≡ ipv4_fragment vlan_ids header payload) → IsIp by_value bytes part
     → ip_headers_of part ≡ version.Ipv4 there these → ip_part_payload part ≡ payload
     → NetOf reading (version.Ipv4 header extensions) bytes payload
-net_4 reading header there extensions these bytes payload (ipv4_part packet) is same_headers same_payload =
-    let here = in_reading_4 reading bytes packet is in record {
+net_4 reading header there extensions these bytes payload (ipv4_part packet) same is same_headers same_payload =
+    let here = in_reading_4 reading bytes packet is in
+    let same_header : packet.header ≡ there = cc in record {
       layer = ipv4_layer packet;
       typed = (packet, here, refl);
       any = (ipv4_part packet, here, refl);
       has_payload = ap (λ (p : IpPayload). Some p) same_payload;
+      carries = λ vlan_ids.
+          ap (λ (h : Ipv4Header). ipv4_fragment vlan_ids h packet.payload) same_header
+          ∙ ap (ipv4_fragment vlan_ids there) same_payload ∙ same vlan_ids;
     }
-net_4 reading header there extensions these bytes payload (ipv6_part packet) is same_headers same_payload = absurd (cc)
+net_4 reading header there extensions these bytes payload (ipv6_part packet) same is same_headers same_payload =
+    absurd (cc)
 
 net_6 : (reading : Reading) (header there : Ipv6Header) (extensions these : Ipv6Extensions) (bytes : List ℕ)
-    (payload : IpPayload) (part : IpPart) → is_ipv6_extension payload.number ≡ false → IsIp by_value bytes part
-    → ip_headers_of part ≡ version.Ipv6 there these → ip_part_payload part ≡ payload
+    (payload : IpPayload) (part : IpPart) → ((vlan_ids : List ℕ)
+    → headers_carry vlan_ids (version.Ipv6 there these) payload
+    ≡ headers_carry vlan_ids (version.Ipv6 header extensions) payload) → is_ipv6_extension payload.number ≡ false
+    → IsIp by_value bytes part → ip_headers_of part ≡ version.Ipv6 there these → ip_part_payload part ≡ payload
     → NetOf reading (version.Ipv6 header extensions) bytes payload
-net_6 reading header there extensions these bytes payload (ipv4_part packet) none is same_headers same_payload =
+net_6 reading header there extensions these bytes payload (ipv4_part packet) same none is same_headers same_payload =
     absurd (cc)
-net_6 reading header there extensions these bytes payload (ipv6_part packet) none is same_headers same_payload =
+net_6 reading header there extensions these bytes payload (ipv6_part packet) same none is same_headers same_payload =
     let ends_so = ap (λ (p : IpPayload). is_ipv6_extension p.number) same_payload ∙ none in
-    let here = in_reading_6 reading bytes packet ends_so is in record {
+    let here = in_reading_6 reading bytes packet ends_so is in
+    let same_header : packet.header ≡ there = cc in
+    let same_extensions : extensions_of packet.extensions ≡ these = cc in
+    let first = first_by_value packet.header.next_header.0 is.content packet.extensions packet.payload.number
+    packet.payload.bytes is.chain in record {
       layer = ipv6_layer packet;
       typed = (packet, here, refl);
       any = (ipv6_part packet, here, refl);
       has_payload = ap (λ (p : IpPayload). Some p) same_payload;
+      carries = λ vlan_ids.
+          ap (option_and_then (ipv6_fragment vlan_ids packet.header packet.payload)) first
+          ∙ ap (λ (h : Ipv6Header). headers_carry vlan_ids
+          (version.Ipv6 h (extensions_of packet.extensions)) packet.payload) same_header
+          ∙ ap (λ (e : Ipv6Extensions). headers_carry vlan_ids (version.Ipv6 there e) packet.payload) same_extensions
+          ∙ ap (headers_carry vlan_ids (version.Ipv6 there these)) same_payload ∙ same vlan_ids;
     }
 
 -- headers that lead to a number of no extension header, and count their content
@@ -163,10 +279,13 @@ pub net_of : (reading : Reading) (headers : IpHeaders) (last : IpNumber) (conten
     (payload_of_headers (headers_for headers last (length content)) last content)
 net_of reading (version.Ipv4 header extensions) last content fit other =
     let back = read (version.Ipv4 header extensions) last content fit other in
-    net_4 reading header _ extensions _ _ _ back.part back.is back.same_headers back.same_payload
+    net_4 reading header _ extensions _ _ _ back.part (λ vlan_ids. refl) back.is back.same_headers back.same_payload
 net_of reading (version.Ipv6 header extensions) last content fit other =
     let back = read (version.Ipv6 header extensions) last content fit other in
-    net_6 reading header _ extensions _ _ _ back.part other back.is back.same_headers back.same_payload
+    net_6 reading header _ extensions _ _ _ back.part
+    (λ vlan_ids. linked_carry vlan_ids header extensions.fragment (after_fragment extensions last)
+    (payload_of_headers (headers_for (version.Ipv6 header extensions) last (length content)) last content)) other
+    back.is back.same_headers back.same_payload
 
 -- ---- linked headers fragment where they did before
 
@@ -250,6 +369,47 @@ ipv6_same extensions last =
     (auth_same (after_auth extensions last) extensions.auth) in
     fragments_both (a ++ b ++ c ++ d ++ e) (a' ++ b' ++ c' ++ d' ++ e') f f' abcde
     (final_same (after_routing extensions last) last extensions.routing)
+
+-- headers that say a fragment fragment
+or_true : (a : Bool) → (a || true) ≡ true
+or_true true = refl
+or_true false = refl
+
+front_fragments : (parts more : List ExtensionPart) → chain_fragments parts ≡ true
+    → chain_fragments (parts ++ more) ≡ true
+front_fragments parts more there =
+    fragments-append parts more ∙ ap (λ (x : Bool). x || chain_fragments more) there
+
+back_fragments : (parts more : List ExtensionPart) → chain_fragments more ≡ true
+    → chain_fragments (parts ++ more) ≡ true
+back_fragments parts more there =
+    fragments-append parts more ∙ ap (λ (x : Bool). chain_fragments parts || x) there ∙ or_true (chain_fragments parts)
+
+said_4 : (test : Bool) (found said : FrameFragment) → (if test then Some said else None) ≡ Some found → test ≡ true
+said_4 true found said is = refl
+said_4 false found said is = absurd (cc)
+
+said_6 : (vlan_ids : List ℕ) (header : Ipv6Header) (payload : IpPayload) (part : Option Ipv6FragmentHeader)
+    (found : FrameFragment) → option_and_then (ipv6_fragment vlan_ids header payload) part ≡ Some found
+    → chain_fragments (parts_there fragment part) ≡ true
+said_6 vlan_ids header payload None found is = absurd (cc)
+said_6 vlan_ids header payload (Some part) found is =
+    ap (λ (x : Bool). x || false) (said_4 (is_ipv6_fragment part) found _ is)
+
+pub said_fragments : (vlan_ids : List ℕ) (headers : IpHeaders) (payload : IpPayload) (found : FrameFragment)
+    → headers_carry vlan_ids headers payload ≡ Some found → headers_fragment headers ≡ true
+said_fragments vlan_ids (version.Ipv4 header extensions) payload found is =
+    said_4 (is_ipv4_fragment header) found _ is
+said_fragments vlan_ids (version.Ipv6 header extensions) payload found is =
+    let a = parts_there hop_by_hop extensions.hop_by_hop_options in
+    let b = parts_there destination_options extensions.destination_options in
+    let c = parts_there routing (option_map routing_header extensions.routing) in
+    let d = parts_there fragment extensions.fragment in
+    let e = parts_there authentication extensions.auth in
+    let f = parts_there destination_options (final_by extensions.routing) in
+    let here = said_6 vlan_ids header payload extensions.fragment found is in
+    front_fragments (a ++ b ++ c ++ d ++ e) f
+    (front_fragments (a ++ b ++ c ++ d) e (back_fragments (a ++ b ++ c) d here))
 
 pub fragments_linked : (headers : IpHeaders) (last : IpNumber) (len : ℕ)
     → headers_fragment (headers_for headers last len) ≡ headers_fragment headers

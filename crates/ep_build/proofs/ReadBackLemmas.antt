@@ -1,6 +1,6 @@
 -- A built frame is read back, from its parts.
 use Rattle.std.proofs.Common.{◌≡◌, ℕ, List, [], ◌++◌, length, Option, Some, None, refl, sym, ap}
-use Rattle.std.proofs.Common.{subst, ◌∙◌, arith}
+use Rattle.std.proofs.Common.{subst, ◌∙◌, arith, inl, true}
 use Rattle.std.specs.Option.{option_and_then}
 use Rattle.ep_base.specs.Bytes.{AreBytes}
 use Rattle.ep_base.specs.EtherTypes.{arp_type}
@@ -8,6 +8,7 @@ use Rattle.ep_base.specs.IpPayload.{IpPayload}
 use Rattle.ep_base.specs.Layer.{Reading}
 use Rattle.ep_base.specs.declared.ip_number.IpNumber.{IpNumber}
 use Rattle.ep_link.specs.Arp.{Arp, FitsArp, IsArp, arp_bytes}
+use Rattle.ep_packet.specs.Fragments.{net_fragment}
 use Rattle.ep_packet.specs.Frame.{IsNetPart, IsTransportBehind, any_ip}
 use Rattle.ep_packet.specs.IpHeaders.{EndsExtensions, FitIpHeaders, headers_for, ip_headers_type}
 use Rattle.ep_packet.specs.IpHeaders.{payload_of_headers}
@@ -19,14 +20,15 @@ use Rattle.ep_packet.specs.declared.ip_headers.IpHeaders.TheVariants as version
 use Rattle.ep_transport.specs.TransportParts.{IsTransportPart, TransportLayer}
 use Rattle.ep_transport.specs.declared.transport_header.TransportHeader.{TransportHeader}
 use Rattle.ep_transport.specs.declared.transport_header.TransportHeader.TheVariants as transport
-use Rattle.ep_build.specs.BuiltFrames.{arp_packet, as_ether_type, ip_frame, transport_between, transport_number}
-use Rattle.ep_build.specs.BuiltFrames.{transport_packet}
+use Rattle.ep_build.specs.BuiltFragments.{IsFragmentReadBack, built_fragment, headers_carry, link_vlan_ids}
+use Rattle.ep_build.specs.BuiltFrames.{arp_packet, as_ether_type, ip_frame, ip_packet, transport_between}
+use Rattle.ep_build.specs.BuiltFrames.{transport_number, transport_packet}
 use Rattle.ep_build.specs.Fits.{FitsLink, FitsTransport}
 use Rattle.ep_build.specs.ReadBack.{IsArpReadBack, IsEntryOf, IsReadBack, message_of}
 use Rattle.ep_build.specs.declared.link_part.LinkPart.{LinkPart}
 use Rattle.ep_build.specs.declared.link_part.LinkPart.TheVariants as link
 use Rattle.ep_build.proofs.LinkReadBack.{IsNet, frame_is}
-use Rattle.ep_build.proofs.NetReadBack.{NetOf, fragments_linked, net_of}
+use Rattle.ep_build.proofs.NetReadBack.{NetOf, fragments_linked, net_of, said_fragments}
 use Rattle.ep_build.proofs.TransportReadBack.{transport_of}
 
 -- ---- IP
@@ -106,6 +108,41 @@ read_back part headers behind payload fits_link fit fits bytes = λ whole its_le
       encodes = found.encodes;
       parts = found.parts;
       sums = found.sums;
+    }
+
+-- a fragment has the number and the bytes of its payload, whatever else the headers count
+same_payload : (part : LinkPart) (headers : IpHeaders) (last : IpNumber) (payload : List ℕ)
+    → headers_carry (link_vlan_ids part) headers
+    (payload_of_headers (headers_for headers last (length payload)) last payload)
+    ≡ built_fragment part headers last payload
+same_payload part (version.Ipv4 header extensions) last payload = refl
+same_payload part (version.Ipv6 header extensions) last payload = refl
+
+-- the frame of a fragment is read back
+pub fragment_read_back : (part : LinkPart) (headers : IpHeaders) (last : IpNumber) (payload : List ℕ) → FitsLink part
+    → FitIpHeaders (headers_for headers last (length payload)) → IsFragmentReadBack part headers last payload
+fragment_read_back part headers last payload fits_link fit = λ found built other reading entry of.
+    let written = headers_for headers last (length payload) in
+    let content = payload_of_headers written last payload in
+    let net = net_of reading headers last payload fit other in
+    let is_fragment : content.fragmented ≡ true =
+    fragments_linked headers last (length payload)
+    ∙ said_fragments (link_vlan_ids part) headers (payload_of_headers headers last payload) found built in
+    let there : IsTransportBehind reading (Some content) None = inl is_fragment in
+    let any : IsNetPart reading (Some any_ip) (ip_frame headers last payload) (Some net.layer) None = (
+      net.layer,
+      net.any,
+      refl,
+      subst (λ (p : Option IpPayload). IsTransportBehind reading p None) (sym net.has_payload) there,
+    ) in
+    let frame = frame_is reading part (ip_packet headers last) entry (ip_frame headers last payload) net.layer None
+    fits_link of (ip_is_net reading headers _ _ None net there) (λ is_ip. any) in
+    record {
+      layers = frame.layers;
+      is = frame.is;
+      carries = ap (λ (ids : List ℕ). option_and_then (net_fragment ids) frame.layers.net) frame.has_vlan_ids
+          ∙ ap (option_and_then (net_fragment (link_vlan_ids part))) frame.has_net
+          ∙ net.carries (link_vlan_ids part) ∙ same_payload part headers last payload ∙ built;
     }
 
 -- ---- ARP

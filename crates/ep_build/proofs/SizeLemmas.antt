@@ -26,7 +26,7 @@ use Rattle.ep_build.proofs.LengthLemmas.{linked_len}
 
 -- ---- the parts
 
-link_len : (part : LinkPart) (type : EtherType) → FitsLink part
+pub link_len : (part : LinkPart) (type : EtherType) → FitsLink part
     → length (link_part_bytes (link_before part type)) ≡ link_part_len part
 link_len link.Absent type fits = refl
 link_len (link.Ethernet2 header) type fits =
@@ -36,6 +36,14 @@ link_len (link.Tagged header (tags.Single tag)) type fits =
 link_len (link.Tagged header (tags.Double both)) type fits =
     grind (arith, common_steps, fits.0.source_length, fits.0.destination_length)
 link_len (link.LinuxSll header) type fits = grind (arith, common_steps, fits.address_length)
+
+-- the bytes of IP headers, as they are written
+pub headers_len : (headers : IpHeaders) → FitsIpHeader headers
+    → length (written_headers headers (ip_headers_parts headers)) ≡ ip_headers_len headers
+headers_len (version.Ipv4 header extensions) fits =
+    grind (arith, common_steps, fits.source_len, fits.destination_len)
+headers_len (version.Ipv6 header extensions) fits =
+    grind (arith, common_steps, fits.source_len, fits.destination_len)
 
 header_len : (headers : IpHeaders) (last : IpNumber) (len : ℕ) → FitsIpHeader headers
     → length (ip_header_bytes (with_checksum (headers_for headers last len))) ≡ ip_header_len headers

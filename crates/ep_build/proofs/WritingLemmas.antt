@@ -1,13 +1,17 @@
 -- What the calls that write a frame answer, from what the calls answer that they make.
 use Rattle.std.proofs.Common.{◌≡◌, ℕ, ◌+◌, ◌-◌, ◌^◌, ◌<◌, ◌≤◌, Bool, true, false, List, [], ◌∷◌, ◌++◌, length}
 use Rattle.std.proofs.Common.{Some, None, Result, Ok, Err, refl, sym, ap, subst, ◌∙◌, inl, inr, arith}
-use Rattle.std.specs.Prelude.{OnOk, is_ok, nat_lt, slice_index}
+use Rattle.std.specs.Prelude.{OnOk, OnErr, is_err, ◌↔◌, if◌then◌else◌, nat_lt, slice_index}
+use Rattle.std.specs.Result.{IsOk}
 use Rattle.std.proofs.lemmas.Grind.{common_steps}
 use Rattle.std.proofs.lemmas.Bool.{cases_lt}
-use Rattle.std.proofs.lemmas.List.{get_or_past, length-append}
+use Rattle.std.proofs.lemmas.List.{append_assoc, get_or_past, length-append}
 use Rattle.ep_base.specs.Bytes.{AreBytes}
 use Rattle.ep_base.proofs.BytesLemmas.{AreBytes-back}
 use Rattle.ep_ext.specs.Chains.{FitParts}
+use Rattle.ep_ext.specs.ExtensionParts.{ExtensionPart}
+use Rattle.ep_base.specs.declared.err.ip_exts.ExtsWalkError.{ExtsWalkError}
+use Rattle.ep_base.specs.declared.err.ip_exts.ExtsWalkError.TheVariants as walk_error
 use Rattle.ep_base.specs.Tables.{Refuses, first_row, rows_as}
 use Rattle.ep_base.specs.declared.err.value_too_big.ValueTooBigError.{ValueTooBigError}
 use Rattle.ep_base.specs.declared.ether_type.EtherType.{EtherType}
@@ -15,7 +19,10 @@ use Rattle.ep_base.specs.declared.ip_number.IpNumber.{IpNumber}
 use Rattle.ep_base.proofs.TableLemmas.{first_row-append_none, first_row-append_some, first_row-as_none, first_row-as_some}
 use Rattle.ep_ext.specs.declared.ipv4_exts.Ipv4Extensions.{Ipv4Extensions}
 use Rattle.ep_ip.specs.declared.ipv4_header.Ipv4Header.{Ipv4Header}
-use Rattle.ep_packet.specs.IpHeaders.{FitIpHeaders}
+use Rattle.ep_packet.specs.IpHeaders.{FitIpHeaders, LeadThrough, RefusesLeading, ip_headers_len, of_walk_error}
+use Rattle.ep_packet.specs.declared.err.headers_write_error.HeadersWriteError.{HeadersWriteError}
+use Rattle.ep_packet.specs.declared.err.headers_write_error.HeadersWriteError.TheVariants as write_error
+use Rattle.ep_packet.proofs.IpHeadersLemmas.{not_refused, one_way}
 use Rattle.ep_packet.specs.IpHeaders.{headers_for, ip_extensions_len, ip_headers_parts, ip_headers_type, linked_headers}
 use Rattle.ep_packet.specs.IpHeaders.{most_behind_header, payload_len_rows, too_long, written_headers}
 use Rattle.ep_packet.specs.declared.ip_headers.IpHeaders.{IpHeaders}
@@ -26,6 +33,7 @@ use Rattle.ep_transport.specs.declared.transport_checksum_error.TransportChecksu
 use Rattle.ep_transport.specs.declared.transport_header.TransportHeader.{TransportHeader}
 use Rattle.ep_transport.specs.declared.transport_header.TransportHeader.TheVariants as transport
 use Rattle.ep_build.specs.BuildErrors.{IsBuildable, IsBuildError, is_icmpv6_in_ipv4}
+use Rattle.ep_build.specs.BuiltFragments.{IsFragmentReadBack}
 use Rattle.ep_build.specs.BuiltFrames.{as_ether_type, built_frame, held_ip, held_transport}
 use Rattle.ep_build.specs.BuiltFrames.{link_before, link_part_bytes, transport_between, transport_number}
 use Rattle.ep_build.specs.BuiltFrames.{with_checksum_behind, with_length}
@@ -34,15 +42,59 @@ use Rattle.ep_build.specs.declared.err.build_write_error.BuildWriteError.TheVari
 use Rattle.ep_build.specs.declared.link_part.LinkPart.{LinkPart}
 use Rattle.ep_build.specs.Fits.{FitsIpHeader, FitsLink, FitsTransport}
 use Rattle.ep_build.specs.ReadBack.{IsReadBack, message_of}
-use Rattle.ep_build.proofs.LengthLemmas.{between_len, linked_len}
-use Rattle.ep_build.proofs.ReadBackLemmas.{read_back}
+use Rattle.ep_build.proofs.LengthLemmas.{between_len, linked_len, with_checksum_len, with_length_len}
+use Rattle.ep_build.proofs.SizeLemmas.{headers_len}
+use Rattle.ep_build.proofs.ReadBackLemmas.{fragment_read_back, read_back}
 
--- what an answer ensures, where it is no error
-pub on_ok : {A E : Type 0} (answer : Result A E) (P : Type 0) → is_ok answer ≡ true → OnOk answer P → P
+-- what a call ensures that succeeded
+pub on_ok : {A E : Type 0} (answer : Result A E) (P : Type 0) → IsOk answer → OnOk answer P → P
 on_ok (Ok a) P there ok = ok
 on_ok (Err e) P there ok = absurd (cc)
 
--- what was appended to a buffer in which room was made
+-- what a call ensures that failed
+pub on_err : {A E : Type 0} (answer : Result A E) (P : Type 0) → is_err answer ≡ true → OnErr answer P → P
+on_err (Ok a) P failed err = absurd (cc)
+on_err (Err e) P failed err = err
+
+-- what a choice is that was made so
+pub chosen : {A : Type 0} (choice : Bool) (value one other : A) → choice ≡ true
+    → value ≡ (if choice then one else other) → value ≡ one
+chosen choice value one other so is = is ∙ ap (λ (b : Bool). if b then one else other) so
+
+-- a call that fails for want of room alone succeeds where there is room
+pub succeeds : {A E : Type 0} (answer : Result A E) (room needed : ℕ) → OnErr answer (room < needed) → needed ≤ room
+    → IsOk answer
+succeeds (Ok a) room needed full enough = refl
+succeeds (Err e) room needed full enough = absurd (omega (arith, full, enough))
+
+-- headers that lead through their parts are written where there is room for them
+pub headers_succeed : (headers : IpHeaders) (last len room : ℕ) (answer : Result (Unit {0}) HeadersWriteError)
+    → LeadThrough headers (ip_headers_parts headers) last → FitsIpHeader headers → len + ip_headers_len headers ≤ room
+    → ((error : ExtsWalkError) → RefusesLeading headers error ↔ (answer ≡ Err (of_walk_error error)))
+    → (answer ≡ Err write_error.OutOfMemory → (parts : List ExtensionPart) × (end : ℕ) × LeadThrough headers parts end
+    × (room < len + length (written_headers headers parts))) → IsOk answer
+headers_succeed headers last len room (Ok done) leads fits enough leading full = refl
+headers_succeed headers last len room (Err write_error.OutOfMemory) leads fits enough leading full =
+    let wanting = full refl in
+    let same = one_way headers wanting.0 (ip_headers_parts headers) wanting.1 last wanting.2 leads in
+    let written : length (written_headers headers wanting.0) ≡ ip_headers_len headers =
+    ap (λ (p : List ExtensionPart). length (written_headers headers p)) same.0 ∙ headers_len headers fits in
+    absurd (omega (arith, enough, wanting.3, written))
+headers_succeed headers last len room (Err (write_error.Ipv4Exts error)) leads fits enough leading full =
+    absurd (not_refused headers _ last (walk_error.Ipv4Exts error) leads ((leading (walk_error.Ipv4Exts error)).1 refl))
+headers_succeed headers last len room (Err (write_error.Ipv6Exts error)) leads fits enough leading full =
+    absurd (not_refused headers _ last (walk_error.Ipv6Exts error) leads ((leading (walk_error.Ipv6Exts error)).1 refl))
+
+-- what was appended to a buffer in which room was made, a part at a time
+pub joined : (before front written middle payload first second last : List ℕ) → first ≡ before ++ (front ++ written)
+    → second ≡ first ++ middle → last ≡ second ++ payload
+    → last ≡ before ++ (front ++ (written ++ (middle ++ payload)))
+joined before front written middle payload first second last a b c =
+    c ∙ ap (λ (l : List ℕ). l ++ payload) (b ∙ ap (λ (l : List ℕ). l ++ middle) a)
+    ∙ append_assoc (before ++ (front ++ written)) middle payload
+    ∙ append_assoc before (front ++ written) (middle ++ payload)
+    ∙ ap (λ (l : List ℕ). before ++ l) (append_assoc front written (middle ++ payload))
+
 pub appended : (new middle old bytes frame : List ℕ) → new ≡ middle ++ bytes → middle ≡ old → bytes ≡ frame
     → new ≡ old ++ frame
 appended new middle old bytes frame is same whole =
@@ -278,6 +330,14 @@ transport_len (transport.Tcp header) fits = grind (arith, common_steps)
 transport_len (transport.Icmpv4 header) fits = fits
 transport_len (transport.Icmpv6 header) fits = fits
 
+-- a transport header that was filled in has as many bytes as before
+pub filled_len : (headers : IpHeaders) (behind set filled : TransportHeader) (payload : List ℕ)
+    → set ≡ with_length (length payload) behind → filled ≡ with_checksum_behind headers payload set
+    → FitsTransport filled → length (transport_bytes filled) ≡ transport_header_len behind
+filled_len headers behind set filled payload sets sums fits =
+    transport_len filled fits ∙ ap transport_header_len sums ∙ with_checksum_len headers payload set
+    ∙ ap transport_header_len sets ∙ with_length_len (length payload) behind
+
 -- a transport header that was filled in behind linked headers is the one that is written between headers and payload
 between_is : (headers linked : IpHeaders) (behind set filled : TransportHeader) (last : IpNumber) (len : ℕ)
     (payload : List ℕ) → linked ≡ headers_for headers last len → set ≡ with_length (length payload) behind
@@ -326,6 +386,14 @@ transport_ok link headers linked behind set filled last len type payload is numb
 fit_both : (headers : IpHeaders) → FitsIpHeader headers → FitParts (ip_headers_parts headers) → FitIpHeaders headers
 fit_both (version.Ipv4 header extensions) header_fits parts_fit = (header_fits, parts_fit)
 fit_both (version.Ipv6 header extensions) header_fits parts_fit = (header_fits, parts_fit)
+
+-- the frame of linked headers is read back as the fragment that it was built from
+pub fragment_back : (link : LinkPart) (headers linked : IpHeaders) (last : IpNumber) (payload : List ℕ)
+    → linked ≡ headers_for headers last (length payload) → FitsLink link → FitsIpHeader linked
+    → FitParts (ip_headers_parts linked) → IsFragmentReadBack link headers last payload
+fragment_back link headers linked last payload is fits_link header_fits parts_fit =
+    fragment_read_back link headers last payload fits_link
+    (subst FitIpHeaders is (fit_both linked header_fits parts_fit))
 
 -- the frame that was appended to some bytes is read back
 pub transport_back : (link : LinkPart) (headers linked : IpHeaders) (behind set filled : TransportHeader)

@@ -3,7 +3,6 @@ use Rattle.std.specs.Prelude.{◌≡◌, ◌<◌, ◌^◌, length}
 use Rattle.ep_base.specs.Bytes.{AreBytes}
 use Rattle.ep_ip.specs.Ipv4.{FitsIpv4}
 use Rattle.ep_ip.specs.Ipv6.{FitsIpv6}
-use Rattle.ep_link.specs.Arp.{FitsArp}
 use Rattle.ep_link.specs.Ethernet2.{FitsEthernet2}
 use Rattle.ep_link.specs.Vlan.{FitsVlan}
 use Rattle.ep_link.specs.declared.link.linux_sll_header.LinuxSllHeader.{LinuxSllHeader}
@@ -17,7 +16,6 @@ use Rattle.ep_transport.specs.Tcp.{FitsTcp}
 use Rattle.ep_transport.specs.Udp.{FitsUdp}
 use Rattle.ep_transport.specs.declared.transport_header.TransportHeader.{TransportHeader}
 use Rattle.ep_transport.specs.declared.transport_header.TransportHeader.TheVariants as transport
-use Rattle.ep_build.specs.BuiltFrames.{Held, Inside, ip_packet, transport_packet, arp_packet}
 use Rattle.ep_build.specs.declared.link_part.LinkPart.{LinkPart}
 use Rattle.ep_build.specs.declared.link_part.LinkPart.TheVariants as link
 
@@ -51,13 +49,3 @@ FitsTransport (transport.Udp header) = FitsUdp header
 FitsTransport (transport.Tcp header) = FitsTcp header
 FitsTransport (transport.Icmpv4 header) = length (icmpv4_bytes header) ≡ icmpv4_len (icmpv4_kind header.icmp_type)
 FitsTransport (transport.Icmpv6 header) = length (icmpv6_bytes header) ≡ 8
-
--- what the link part carries
-abbrev pub FitsInside : Inside → Type 0
-FitsInside (ip_packet headers last) = FitsIpHeader headers
-FitsInside (transport_packet headers behind) = FitsIpHeader headers × FitsTransport behind
-FitsInside (arp_packet packet) = FitsArp packet
-
--- all headers of a frame
-abbrev pub FitsHeld : Held → Type 0
-FitsHeld held = FitsLink held.link × FitsInside held.inside

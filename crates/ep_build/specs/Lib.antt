@@ -3,3 +3,4 @@ pub mod Steps
 pub mod BuildErrors
 pub mod Fits
 pub mod ReadBack
+pub mod BuiltFragments

@@ -16,6 +16,7 @@ use Rattle.ep_packet.specs.declared.ip_headers.IpHeaders.TheVariants as version
 use Rattle.ep_transport.specs.declared.transport_header.TransportHeader.{TransportHeader}
 use Rattle.ep_build.specs.BuiltFrames.{Held, held_arp, held_ip, held_transport, link_part_len}
 use Rattle.ep_packet.specs.IpHeaders.{ip_headers_len}
+use Rattle.ep_build.specs.BuiltFragments.{IsFragmentReadBack}
 use Rattle.ep_build.specs.ReadBack.{IsArpReadBack, IsReadBack}
 use Rattle.ep_build.specs.declared.link_part.LinkPart.{LinkPart}
 use Rattle.ep_build.specs.declared.link_part.LinkPart.TheVariants as link
@@ -49,6 +50,10 @@ ip_held step last = held_ip (ip_link step) (ip_step_headers step) last
 -- the number of bytes of its frame, with so many bytes of payload
 abbrev pub ip_step_size : PacketBuilderStep IpHeaders LinkPart → ℕ → ℕ
 ip_step_size step len = link_part_len (ip_link step) + (ip_headers_len (ip_step_headers step) + len)
+
+-- its frame, with this number and this payload, is read back as the fragment that it is built from
+abbrev pub IpStepReadsBack : PacketBuilderStep IpHeaders LinkPart → IpNumber → List ℕ → Type 0
+IpStepReadsBack step last payload = IsFragmentReadBack (ip_link step) (ip_step_headers step) last payload
 
 -- ---- steps of a transport header
 

@@ -3,6 +3,7 @@
 
 pub mod err;
 mod facts;
+pub mod laws;
 mod link_part;
 mod packet_builder;
 mod writing;

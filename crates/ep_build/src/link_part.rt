@@ -1,6 +1,6 @@
 //! What stands in front of a net layer.
 
-ghost use Rattle.std.specs.Prelude.{◌≡◌, ◌≤◌, ◌++◌, ℕ, List, OnOk, OnErr};
+ghost use Rattle.std.specs.Prelude.{◌≡◌, ◌+◌, ◌≤◌, ◌++◌, length, vec_len, vec_capacity};
 ghost use Rattle.ep_build.specs.BuiltFrames.{link_before, link_part_bytes, link_part_len, tags_before, tags_len, tags_type};
 
 use ep_base::EtherType;
@@ -8,7 +8,6 @@ use ep_link::{
     ArpHardwareId, DoubleVlanHeader, Ethernet2Header, LinuxSllHeader, LinuxSllPacketType,
     LinuxSllProtocolType, SingleVlanHeader, VlanHeader,
 };
-use std::alloc::AllocError;
 
 /// The link header in front of a net layer, and the VLAN tags behind it, where there are any. Their ether types are
 /// those of what follows them only once they are written.
@@ -39,40 +38,40 @@ impl LinkPart {
         }
     }
 
-    /// Appends the headers before a net layer of this ether type. Where memory is wanting, a part of them may stand
-    /// there.
+    /// Appends the headers before a net layer of this ether type, for which there is room.
     #[inline]
-    pub(crate) fn write_before(
-        &self,
-        ether_type: EtherType,
-        buf: &mut Vec<u8>,
-    ) -> Result<(), AllocError>
-        ensures ok { OnOk result (buf.new.items
-            ≡ buf.old.items ++ link_part_bytes (link_before self.now ether_type)) }
-        ensures err { OnErr result ((part : List ℕ) × (buf.new.items ≡ buf.old.items ++ part)) }
+    pub(crate) fn write_before(&self, ether_type: EtherType, buf: &mut Vec<u8>)
+        requires room { vec_len buf.old + length (link_part_bytes (link_before self.now ether_type))
+            ≤ vec_capacity buf.old }
+        ensures items { buf.new.items ≡ buf.old.items ++ link_part_bytes (link_before self.now ether_type) }
+        ensures capacity { vec_capacity buf.old ≤ vec_capacity buf.new }
     {
         match self {
-            LinkPart::Absent => Ok(()),
-            LinkPart::Ethernet2(header) => ethernet2_before(header, ether_type).write(buf),
+            LinkPart::Absent => {}
+            LinkPart::Ethernet2(header) => ethernet2_before(header, ether_type).write(buf).unwrap(),
             LinkPart::Tagged(header, tags) => write_tagged(header, tags, ether_type, buf),
-            LinkPart::LinuxSll(header) => linux_sll_before(header, ether_type).write(buf),
+            LinkPart::LinuxSll(header) => linux_sll_before(header, ether_type).write(buf).unwrap(),
         }
     }
 }
 
-/// Appends an Ethernet II header and the tags behind it, before what has this type.
+/// Appends an Ethernet II header and the tags behind it, before what has this type, for which there is room.
 fn write_tagged(
     header: &Ethernet2Header,
     tags: &VlanHeader,
     ether_type: EtherType,
     buf: &mut Vec<u8>,
-) -> Result<(), AllocError>
-    ensures ok { OnOk result (buf.new.items ≡ buf.old.items
-        ++ link_part_bytes (link_before (LinkPart.Tagged header.now tags.now) ether_type)) }
-    ensures err { OnErr result ((part : List ℕ) × (buf.new.items ≡ buf.old.items ++ part)) }
+)
+    requires room { vec_len buf.old + length (link_part_bytes (link_before (LinkPart.Tagged header.now tags.now)
+        ether_type)) ≤ vec_capacity buf.old }
+    ensures items { buf.new.items ≡ buf.old.items
+        ++ link_part_bytes (link_before (LinkPart.Tagged header.now tags.now) ether_type) }
+    ensures capacity { vec_capacity buf.old ≤ vec_capacity buf.new }
 {
-    ethernet2_before(header, type_before(tags)).write(buf)?;
-    tags_before(tags, ether_type).write(buf)
+    ethernet2_before(header, type_before(tags))
+        .write(buf)
+        .unwrap();
+    tags_before(tags, ether_type).write(buf).unwrap();
 }
 
 /// An Ethernet II header before what has this type.

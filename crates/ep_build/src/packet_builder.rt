@@ -14,11 +14,10 @@ use ep_packet::IpHeaders;
 
 mod arp_step;
 mod holds_headers;
-mod icmp_steps;
 mod ip_step;
 mod link_steps;
 mod tcp_step;
-mod udp_step;
+mod transport_steps;
 
 use holds_headers::HoldsHeaders;
 

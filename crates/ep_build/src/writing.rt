@@ -1,16 +1,18 @@
 //! Writing the headers that a step holds, and a payload: all checks first, then one reservation, then the bytes.
 
-ghost use Rattle.std.specs.Prelude.{◌≡◌, ◌≤◌, ◌+◌, ◌++◌, ℕ, List, [], length, None, IfErr, OnOk, OnErr, MatchResult, true, false};
+ghost use Rattle.std.specs.Prelude.{◌≡◌, ◌≤◌, ◌<◌, ◌+◌, ◌++◌, ℕ, [], length, None, Err, IfErr, OnOk, OnErr, MatchResult, true};
+ghost use Rattle.std.specs.Prelude.{false, vec_len, vec_capacity};
 ghost use Rattle.ep_base.specs.Tables.{Refuses, first_row};
 ghost use Rattle.ep_packet.specs.IpHeaders.{LeadThrough, headers_for, ip_headers_parts, ip_headers_type, payload_len_rows};
-ghost use Rattle.ep_packet.specs.IpHeaders.{written_headers};
+ghost use Rattle.ep_packet.specs.IpHeaders.{ip_headers_len, written_headers};
 ghost use Rattle.ep_link.specs.ArpSlices.{arp_of};
-ghost use Rattle.ep_transport.specs.TransportHeaders.{transport_bytes, transport_header_len};
+ghost use Rattle.ep_transport.specs.TransportHeaders.{transport_header_len};
 ghost use Rattle.ep_ext.specs.Chains.{FitParts};
+ghost use Rattle.ep_build.specs.BuiltFragments.{IsFragmentReadBack};
 ghost use Rattle.ep_build.specs.ReadBack.{IsArpReadBack, IsReadBack};
 ghost use Rattle.ep_build.specs.BuildErrors.{IsBuildable, IsBuildError, is_icmpv6_in_ipv4};
-ghost use Rattle.ep_build.specs.BuiltFrames.{held_ip, held_transport, held_arp, built_frame};
-ghost use Rattle.ep_build.specs.BuiltFrames.{link_before, link_part_bytes, transport_number, with_length};
+ghost use Rattle.ep_build.specs.BuiltFrames.{held_ip, held_transport, held_arp, built_frame, built_size};
+ghost use Rattle.ep_build.specs.BuiltFrames.{link_before, link_part_bytes, link_part_len, transport_number, with_length};
 ghost use Rattle.ep_build.specs.BuiltFrames.{with_checksum_behind};
 
 use crate::err::BuildWriteError;
@@ -20,7 +22,6 @@ use ep_base::err::ValueTooBigError;
 use ep_base::{EtherType, IpNumber};
 use ep_link::ArpPacket;
 use ep_packet::IpHeaders;
-use ep_packet::err::HeadersWriteError;
 use ep_transport::{TransportChecksumError, TransportHeader, UdpHeader};
 
 /// Appends the frame of IP headers that lead to this number.
@@ -36,23 +37,23 @@ pub(crate) fn write_ip(
         × (buf.new.items ≡ buf.old.items ++ built_frame held payload.now)) }
     ensures err { OnErr result (buf.new.items ≡ buf.old.items) }
     ensures refused { IfErr result (IsBuildError (held_ip link.now headers.old last) (length payload.now)) }
+    ensures fragment { OnOk result (IsFragmentReadBack link.now headers.old last payload.now) }
+    ensures full { result ≡ Err BuildWriteError.OutOfMemory → vec_capacity buf.old
+        < vec_len buf.old + built_size (held_ip link.now headers.old last) (length payload.now) }
 {
+    link_fits(link);
     let ether_type = match link_headers(headers, last, payload.len()) {
         Ok(ether_type) => ether_type,
         Err(error) => return Err(BuildWriteError::PayloadLen(error)),
     };
+    ip_header_fits(headers);
     let size = link.header_len() + headers.header_len() + payload.len();
     if buf.reserve(size).is_err() {
         return Err(BuildWriteError::OutOfMemory);
     }
-    let start = buf.len();
-    match append_ip(link, ether_type, headers, payload, buf) {
-        Ok(()) => Ok(()),
-        Err(error) => {
-            buf.truncate(start);
-            Err(error)
-        }
-    }
+    append_headers(link, ether_type, headers, buf);
+    buf.extend_from_slice(payload).unwrap();
+    Ok(())
 }
 
 /// Appends the frame of IP headers and a transport header, which is that of what the headers lead to.
@@ -70,6 +71,8 @@ pub(crate) fn write_transport(
     ensures refused { IfErr result
         (IsBuildError (held_transport link.now headers.old transport.old) (length payload.now)) }
     ensures read_back { OnOk result (IsReadBack link.now headers.old transport.old payload.now) }
+    ensures full { result ≡ Err BuildWriteError.OutOfMemory → vec_capacity buf.old
+        < vec_len buf.old + built_size (held_transport link.now headers.old transport.old) (length payload.now) }
 {
     link_fits(link);
     let last = number_of(transport);
@@ -86,14 +89,10 @@ pub(crate) fn write_transport(
     if buf.reserve(size).is_err() {
         return Err(BuildWriteError::OutOfMemory);
     }
-    let start = buf.len();
-    match append_transport(link, ether_type, headers, transport, payload, buf) {
-        Ok(()) => Ok(()),
-        Err(error) => {
-            buf.truncate(start);
-            Err(error)
-        }
-    }
+    append_headers(link, ether_type, headers, buf);
+    transport.write(buf).unwrap();
+    buf.extend_from_slice(payload).unwrap();
+    Ok(())
 }
 
 /// Appends the frame of an ARP packet.
@@ -107,18 +106,17 @@ pub(crate) fn write_arp(
     ensures err { OnErr result (buf.new.items ≡ buf.old.items) }
     ensures memory { IfErr result (λ error. error ≡ BuildWriteError.OutOfMemory) }
     ensures read_back { OnOk result (IsArpReadBack link.now (arp_of packet.now)) }
+    ensures full { OnErr result
+        (vec_capacity buf.old < vec_len buf.old + built_size (held_arp link.now (arp_of packet.now)) 0) }
 {
     link_fits(link);
     let size = link.header_len() + packet.packet_len();
     if buf.reserve(size).is_err() {
         return Err(BuildWriteError::OutOfMemory);
     }
-    let start = buf.len();
-    if link.write_before(EtherType::ARP, buf).is_ok() && packet.write(buf).is_ok() {
-        return Ok(());
-    }
-    buf.truncate(start);
-    Err(BuildWriteError::OutOfMemory)
+    link.write_before(EtherType::ARP, buf);
+    packet.write(buf).unwrap();
+    Ok(())
 }
 
 /// Lets the headers lead to this number and count this many bytes behind them, and gives the ether type under which a
@@ -192,83 +190,18 @@ fn set_checksum(
     }
 }
 
-/// Appends the link part and linked IP headers. Where memory is wanting, a part of them may stand there.
-fn append_headers(
-    link: &LinkPart,
-    ether_type: EtherType,
-    headers: &IpHeaders,
-    buf: &mut Vec<u8>,
-) -> Result<(), BuildWriteError>
-    requires { (last : ℕ) × LeadThrough headers.now (ip_headers_parts headers.now) last }
-    ensures ok { OnOk result (buf.new.items ≡ buf.old.items ++ (link_part_bytes (link_before link.now ether_type)
-        ++ written_headers headers.now (ip_headers_parts headers.now))) }
-    ensures err { OnErr result ((part : List ℕ) × (buf.new.items ≡ buf.old.items ++ part)) }
-    ensures memory { IfErr result (λ error. error ≡ BuildWriteError.OutOfMemory) }
-    ensures fits { OnOk result (FitParts (ip_headers_parts headers.now)) }
+/// Appends the link part and linked IP headers, for which there is room.
+fn append_headers(link: &LinkPart, ether_type: EtherType, headers: &IpHeaders, buf: &mut Vec<u8>)
+    requires leads { (last : ℕ) × LeadThrough headers.now (ip_headers_parts headers.now) last }
+    requires room { vec_len buf.old + (link_part_len link.now + ip_headers_len headers.now) ≤ vec_capacity buf.old }
+    ensures items { buf.new.items ≡ buf.old.items ++ (link_part_bytes (link_before link.now ether_type)
+        ++ written_headers headers.now (ip_headers_parts headers.now)) }
+    ensures len { vec_len buf.new ≡ vec_len buf.old + (link_part_len link.now + ip_headers_len headers.now) }
+    ensures capacity { vec_capacity buf.old ≤ vec_capacity buf.new }
+    ensures fits { FitParts (ip_headers_parts headers.now) }
 {
-    if link.write_before(ether_type, buf).is_err() {
-        return Err(BuildWriteError::OutOfMemory);
-    }
-    match headers.write(buf) {
-        Ok(()) => Ok(()),
-        Err(HeadersWriteError::OutOfMemory) => Err(BuildWriteError::OutOfMemory),
-        Err(HeadersWriteError::Ipv4Exts(error)) => Err(BuildWriteError::Ipv4Exts(error)),
-        Err(HeadersWriteError::Ipv6Exts(error)) => Err(BuildWriteError::Ipv6Exts(error)),
-    }
-}
-
-/// Appends the link part, linked IP headers and the payload. Where memory is wanting, a part of them may stand there.
-fn append_ip(
-    link: &LinkPart,
-    ether_type: EtherType,
-    headers: &IpHeaders,
-    payload: &[u8],
-    buf: &mut Vec<u8>,
-) -> Result<(), BuildWriteError>
-    requires { (last : ℕ) × LeadThrough headers.now (ip_headers_parts headers.now) last }
-    ensures ok { OnOk result (buf.new.items ≡ buf.old.items ++ (link_part_bytes (link_before link.now ether_type)
-        ++ (written_headers headers.now (ip_headers_parts headers.now) ++ payload.now))) }
-    ensures err { OnErr result ((part : List ℕ) × (buf.new.items ≡ buf.old.items ++ part)) }
-    ensures memory { IfErr result (λ error. error ≡ BuildWriteError.OutOfMemory) }
-{
-    append_headers(link, ether_type, headers, buf)?;
-    append_bytes(payload, buf)
-}
-
-/// Appends the link part, linked IP headers, a transport header and the payload. Where memory is wanting, a part of
-/// them may stand there.
-fn append_transport(
-    link: &LinkPart,
-    ether_type: EtherType,
-    headers: &IpHeaders,
-    transport: &TransportHeader,
-    payload: &[u8],
-    buf: &mut Vec<u8>,
-) -> Result<(), BuildWriteError>
-    requires { (last : ℕ) × LeadThrough headers.now (ip_headers_parts headers.now) last }
-    ensures ok { OnOk result (buf.new.items ≡ buf.old.items ++ (link_part_bytes (link_before link.now ether_type)
-        ++ (written_headers headers.now (ip_headers_parts headers.now)
-        ++ (transport_bytes transport.now ++ payload.now)))) }
-    ensures err { OnErr result ((part : List ℕ) × (buf.new.items ≡ buf.old.items ++ part)) }
-    ensures memory { IfErr result (λ error. error ≡ BuildWriteError.OutOfMemory) }
-    ensures fits { OnOk result (FitParts (ip_headers_parts headers.now)) }
-{
-    append_headers(link, ether_type, headers, buf)?;
-    if transport.write(buf).is_err() {
-        return Err(BuildWriteError::OutOfMemory);
-    }
-    append_bytes(payload, buf)
-}
-
-/// Appends these bytes.
-#[inline]
-fn append_bytes(bytes: &[u8], buf: &mut Vec<u8>) -> Result<(), BuildWriteError>
-    ensures ok { OnOk result (buf.new.items ≡ buf.old.items ++ bytes.now) }
-    ensures err { OnErr result (buf.new.items ≡ buf.old.items) }
-    ensures memory { IfErr result (λ error. error ≡ BuildWriteError.OutOfMemory) }
-{
-    match buf.extend_from_slice(bytes) {
-        Ok(()) => Ok(()),
-        Err(_) => Err(BuildWriteError::OutOfMemory),
-    }
+    link_fits(link);
+    ip_header_fits(headers);
+    link.write_before(ether_type, buf);
+    headers.write(buf).unwrap();
 }

@@ -29,7 +29,7 @@ module _ (payload : List ℕ) where
     | inr partly ↦ rw partly tt
   ]
 
-  handed_at : {T C V : Type 0} (table : IpFragId C → Option (Kept T)) (call : Call T C V)
+  pub handed_at : {T C V : Type 0} (table : IpFragId C → Option (Kept T)) (call : Call T C V)
       → AllByRecursion (IsCut payload) (accepted_at table call)
       → IfHandedOut (answer_to table call) (λ handed. handed.bytes ≡ payload)
   handed_at table (gives_frame None timestamp channel) cuts = tt
@@ -94,7 +94,7 @@ module _ {T C V : Type 0} (eq : C → C → Bool) (keep : V → T → Bool) wher
         (λ i call. concerned_same a b alike call i)
 
     -- a call that concerns a stream is answered by what is kept of that stream
-    answer_alone : (earlier : List (Call T C V)) (name : IpFragId C) (call : Call T C V)
+    pub answer_alone : (earlier : List (Call T C V)) (name : IpFragId C) (call : Call T C V)
         → concerns eq name call ≡ true
         → answer_to (table_after eq keep earlier) call ≡ answer_to (λ other. table_after eq keep earlier name) call
     answer_alone earlier name (gives_frame None timestamp channel) does = absurd (false≢true does)
@@ -131,7 +131,7 @@ module _ {T C V : Type 0} (eq : C → C → Bool) (keep : V → T → Bool) wher
 
   -- ---- a stream that is given cuts
   module _ (payload : List ℕ) (short : length payload ≤ 65535) where
-    all_more : {X : Type 0} (P : X → Type 0) (xs : List X) (x : X) → AllByRecursion P xs → P x
+    pub all_more : {X : Type 0} (P : X → Type 0) (xs : List X) (x : X) → AllByRecursion P xs → P x
         → AllByRecursion P (xs ++ x ∷ [])
     all_more P [] x all last = (last, tt)
     all_more P (y ∷ xs) x all last = (all.0, all_more P xs x all.1 last)
@@ -152,14 +152,14 @@ module _ {T C V : Type 0} (eq : C → C → Bool) (keep : V → T → Bool) wher
       | inr partly ↦ rw partly tt
     ]
 
-    kept_cuts : (accepted : List IpFragment) (timestamp : T) → AllByRecursion (IsCut payload) accepted
+    pub kept_cuts : (accepted : List IpFragment) (timestamp : T) → AllByRecursion (IsCut payload) accepted
         → AllByRecursion (IsCut payload) (accepted_in (kept_of accepted timestamp))
     kept_cuts accepted timestamp cuts = elim (cases_Bool (is_complete accepted)) [
       | inl whole ↦ rw whole tt
       | inr partly ↦ rw partly cuts
     ]
 
-    drop_keeps : (answers : T → Bool) → ((timestamp : T) → answers timestamp ≡ true) → (kept : Option (Kept T))
+    pub drop_keeps : (answers : T → Bool) → ((timestamp : T) → answers timestamp ≡ true) → (kept : Option (Kept T))
         → kept_by answers kept ≡ kept
     drop_keeps answers always None = refl
     drop_keeps answers always (Some kept) = rw (always kept.timestamp) refl

@@ -1,6 +1,7 @@
 mod Lists
 mod Sections
 mod Data
+mod Writing
 mod Complete
 mod Held
 mod Cuts
@@ -12,3 +13,5 @@ mod Tables
 mod Taking
 mod Calls
 mod Alone
+mod BuiltCuts
+mod Frames

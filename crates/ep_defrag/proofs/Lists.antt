@@ -1,8 +1,9 @@
--- Lists: tests of a filter's two parts, the first place that passes, and a run of numbers.
-use Rattle.std.proofs.Common.{◌≡◌, ℕ, suc, zero, ◌+◌, ◌<◌, ◌≤◌, Bool, true, false, cond, not, ◌||◌, ltb, List, [], ◌∷◌, length, Some, None, sym, refl, ap, ◌∙◌, arith, inl, inr}
+-- Lists: tests of a filter's two parts, the first place that passes, a run of numbers, and what was taken of a list.
+use Rattle.std.proofs.Common.{◌≡◌, ℕ, suc, zero, ◌+◌, ◌<◌, ◌≤◌, Bool, true, false, cond, not, ◌||◌, ltb, List, [], ◌∷◌, ◌++◌, length, take, get_or, Some, None, sym, refl, ap, ◌∙◌, arith, inl, inr}
 use Rattle.std.specs.List.{list_any, list_all, filter, position, position_or_len, count_by, range_with_len}
 use Rattle.std.proofs.lemmas.Bool.{cases_Bool, false≢true, ltb-true, and_parts, and_from, cases_eq}
 use Rattle.std.proofs.lemmas.Bool.Decides.{nat_tests}
+use Rattle.std.proofs.lemmas.List.{append-nil}
 use Rattle.std.proofs.lemmas.List.Folds.{list_any-append}
 use Rattle.std.proofs.lemmas.List.Sorted.{list_any-IsPermutation, IsPermutation-filter_both}
 use Rattle.std.proofs.lemmas.List.Sums.{sum_by-cons}
@@ -108,3 +109,16 @@ count_by-positive p (x ∷ xs) any = elim (cases_Bool (p x)) [
   | inr fails ↦ rw (sum_by-cons (λ y. cond (p y) 1 0) x xs, fails)
       (omega (arith, count_by-positive p xs (rw fails at any)))
 ]
+
+-- where nothing is left, all were taken
+pub all_taken : {X : Type 0} (taken left all : List X) → taken ++ left ≡ all → length left ≡ 0 → taken ≡ all
+all_taken taken [] all whole none = sym (append-nil taken) ∙ whole
+all_taken taken (x ∷ left) all whole none = absurd (omega arith)
+
+-- the elements before one, and the one
+pub before_and_at : {X : Type 0} (taken left : List X) (x d : X)
+    → (take (length taken) (taken ++ x ∷ left) ≡ taken) × (get_or (taken ++ x ∷ left) (length taken) d ≡ x)
+before_and_at [] left x d = (refl, refl)
+before_and_at (y ∷ taken) left x d =
+    let rest = before_and_at taken left x d in
+    (ap (λ xs. y ∷ xs) rest.0, rest.1)

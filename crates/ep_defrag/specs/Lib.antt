@@ -10,3 +10,5 @@ pub mod Streams
 pub mod Calls
 pub mod Pools
 pub mod Isolation
+pub mod BuiltCuts
+pub mod FrameCalls

@@ -192,7 +192,7 @@ impl IpDefragBuf {
             IsTrue (list_any (merges range) (sections_of self.old)) → IsOk result }
     {
         make_room(&mut self.bytes, &mut self.sections, range)?;
-        overwrite(&mut self.bytes, range, payload);
+        put(&mut self.bytes, range, payload);
         join_section(&mut self.sections, range);
         if !more_fragments {
             self.bytes.truncate(usize::from(range.end));
@@ -255,37 +255,60 @@ fn end_within_limit(start: u16, payload_len: usize) -> Option<u16>
     start.checked_add(u16::try_from(payload_len).ok()?)
 }
 
-/// Takes the memory that a range needs, and extends the bytes with zeros up to its end.
+/// Takes the memory that a range needs.
 fn make_room(
     bytes: &mut Vec<u8>,
     sections: &mut Vec<IpFragRange>,
     range: IpFragRange,
 ) -> Result<(), AllocError>
-    ensures extended { OnOk result (bytes.new.items ≡ extended bytes.old.items range.end) }
-    ensures room { OnOk result
-        (IsFalse (list_any (merges range) sections.old.items) → vec_len sections.new < vec_capacity sections.new) }
+    ensures bytes { bytes.new.items ≡ bytes.old.items }
+    ensures bytes_room { OnOk result (range.end ≤ vec_capacity bytes.new) }
     ensures sections { sections.new.items ≡ sections.old.items }
-    ensures err { OnErr result (bytes.new.items ≡ bytes.old.items) }
+    ensures sections_room { OnOk result
+        (IsFalse (list_any (merges range) sections.old.items) → vec_len sections.new < vec_capacity sections.new) }
     ensures in_place { range.end ≤ vec_len bytes.old →
         IsTrue (list_any (merges range) sections.old.items) → IsOk result }
 {
     if !any_merging(sections.as_slice(), range) {
         sections.reserve(1)?;
     }
-    let end = usize::from(range.end);
-    if bytes.len() < end {
-        bytes.resize(end, 0)?;
-    }
-    Ok(())
+    bytes.reserve(usize::from(range.end).saturating_sub(bytes.len()))
 }
 
-/// Puts a fragment's bytes on its range.
-fn overwrite(bytes: &mut Vec<u8>, range: IpFragRange, payload: &[u8])
+/// Puts a fragment's bytes on its range, behind zeros where the data ends before it. No byte is written twice.
+fn put(bytes: &mut Vec<u8>, range: IpFragRange, payload: &[u8])
     requires len { range.end ≡ range.start + length payload.now }
-    requires within { range.end ≤ vec_len bytes.old }
-    ensures { bytes.new.items ≡ overwritten bytes.old.items range.start payload.now }
+    requires room { range.end ≤ vec_capacity bytes.old }
+    ensures { bytes.new.items ≡ overwritten (extended bytes.old.items range.end) range.start payload.now }
 {
-    bytes[usize::from(range.start)..usize::from(range.end)].copy_from_slice(payload);
+    let start = usize::from(range.start);
+    fill_gap(bytes, start);
+    let (within, behind) = payload.split_at(payload.len().min(bytes.len() - start));
+    bytes.extend_from_slice(behind).unwrap();
+    overwrite(bytes, start, within);
+}
+
+/// Extends the bytes with zeros up to `start`.
+fn fill_gap(bytes: &mut Vec<u8>, start: usize)
+    requires { start ≤ vec_capacity bytes.old }
+    ensures items { bytes.new.items ≡ extended bytes.old.items start }
+    ensures capacity { vec_capacity bytes.old ≤ vec_capacity bytes.new }
+{
+    if bytes.len() < start {
+        bytes.resize(start, 0).unwrap();
+    }
+}
+
+/// Puts a part of a fragment's bytes on those that begin at `start`. In a stream in order that is no part, for which
+/// the copy would cost a call.
+fn overwrite(bytes: &mut Vec<u8>, start: usize, part: &[u8])
+    requires { start + length part.now ≤ vec_len bytes.old }
+    ensures { bytes.new.items ≡ overwritten bytes.old.items start part.now }
+{
+    if part.is_empty() {
+        return;
+    }
+    bytes[start..start + part.len()].copy_from_slice(part);
 }
 
 /// The range and the sections that merge with it, as one.

@@ -1,6 +1,6 @@
 //! Laws of the definitions that the contracts of this crate cite. Each is the contract of a function that does nothing.
 
-ghost use Rattle.std.specs.Prelude.{◌≡◌, ◌↔◌, ◌⊎◌, ℕ, ◌%◌, ◌<◌, ◌≤◌, ◌||◌, Bool, List, length, IsTrue, IsSome, IfSome};
+ghost use Rattle.std.specs.Prelude.{◌≡◌, ◌↔◌, ◌⊎◌, ℕ, ◌%◌, ◌<◌, ◌≤◌, ◌||◌, Bool, List, [], length, map, IsTrue, IsSome, IfSome};
 ghost use Rattle.std.specs.List.{All, Any};
 ghost use Rattle.ep_defrag.specs.declared.TheConstants as constant;
 ghost use Rattle.ep_defrag.specs.Ranges.{touches, merge_of, SharePoint};
@@ -13,7 +13,11 @@ ghost use Rattle.ep_defrag.specs.Streams.{same_stream};
 ghost use Rattle.ep_defrag.specs.Calls.{Call, calls_of, answers_to};
 ghost use Rattle.ep_defrag.specs.Isolation.{answers_of, fragments_of, GivesCut, HandsOut, HandsOutAtMost};
 ghost use Rattle.ep_defrag.specs.Pools.{plain_payload, plain_answer};
+ghost use Rattle.ep_defrag.specs.BuiltCuts.{BuiltCut, IsBuiltCut, IsUnder, KeepsAll, answers_to_frames, cut_answers};
+ghost use Rattle.ep_defrag.specs.BuiltCuts.{cut_call, cut_fragment, frames_to, whole_of};
+ghost use Rattle.ep_defrag.specs.FrameCalls.{ReadCall, HasBytes, IsOnlyRead, pool_calls, frame_answers_to, pool_answers_in, read_answer};
 
+use crate::frame_run::{FrameAnswer, FrameCall};
 use crate::ip_defrag_buf::IpDefragBuf;
 use crate::ip_defrag_error::IpDefragError;
 use crate::ip_defrag_payload_vec::IpDefragPayloadVec;
@@ -80,6 +84,22 @@ pub fn cuts_come_out<Timestamp, CustomChannelId: Eq, V>()
         Any (HandsOut payload) (answers_of CustomChannelId.eq name calls (answers_to CustomChannelId.eq keep calls)) }
 {}
 
+/// A call whose frame is of bytes is read as one call on the pool or as one refusal. It follows from the law of frames.
+pub fn frame_calls<Timestamp, CustomChannelId, V>()
+    ensures { (call : FrameCall Timestamp CustomChannelId V) → HasBytes call →
+        (read : ReadCall Timestamp CustomChannelId V) × IsOnlyRead call read }
+{
+    ep_packet::laws::frames();
+}
+
+/// Frames that are refused change nothing: the pool's answers to a list of calls with frames are those to its own calls
+/// alone, of which the laws above speak.
+pub fn refused_frames_change_nothing<Timestamp, CustomChannelId: Eq, V>()
+    ensures { (keep : V → Timestamp → Bool) (reads : List (ReadCall Timestamp CustomChannelId V)) →
+        pool_answers_in (frame_answers_to CustomChannelId.eq keep reads)
+        ≡ answers_to CustomChannelId.eq keep (pool_calls reads) }
+{}
+
 /// The greatest length of a payload is what 16 bits can say, under either name.
 pub fn constants()
     ensures { (constant.MAX_IP_DEFRAG_LEN_U16 ≡ 65535) × (constant.MAX_IP_DEFRAG_LEN ≡ 65535) }
@@ -99,17 +119,53 @@ pub fn comparisons()
     ensures errors { (a b : IpDefragError) → ⟦<IpDefragError as Ord>⟧.cmp a b ≡ error_cmp a b }
 {}
 
-/// The parts of names are equal where they are the same, and payloads and answers of the pool where they show the same.
+/// The parts of names are equal where they are the same. Payloads, answers of the pool and answers to frames are equal
+/// where they show the same.
 pub fn pool_comparisons()
     ensures versions { (a b : IpFragVersionSpecId) → IsTrue (⟦<IpFragVersionSpecId as PartialEq>⟧.eq a b) ↔ (a ≡ b) }
     ensures payloads { (a b : IpDefragPayloadVec) →
         IsTrue (⟦<IpDefragPayloadVec as PartialEq>⟧.eq a b) ↔ (plain_payload a ≡ plain_payload b) }
     ensures answers { (a b : PoolAnswer) →
         IsTrue (⟦<PoolAnswer as PartialEq>⟧.eq a b) ↔ (plain_answer a ≡ plain_answer b) }
-{}
+    ensures frame_answers { (a b : FrameAnswer) →
+        IsTrue (⟦<FrameAnswer as PartialEq>⟧.eq a b) ↔ (read_answer a ≡ read_answer b) }
+{
+    ep_packet::laws::comparisons();
+}
 
 /// Two names are equal where they are one stream's, the channels by their own equality.
 pub fn names<CustomChannelId: Eq>()
     ensures { (a b : IpFragId CustomChannelId) →
         ⟦<IpFragId<CustomChannelId> as PartialEq>⟧.eq a b ≡ same_stream CustomChannelId.eq a b }
 {}
+
+/// Frames that are built of cuts of a payload of at most 65535 bytes under one name, in whatever order and with
+/// whatever repeats, hand the payload out at exactly those frames with which the cuts that were given since it was last
+/// handed out are complete, and nothing at the others. Among other calls the frames of that stream are answered so too:
+/// frames without a fragment, frames of other streams, buffers that are given back and drops that keep every stream may
+/// stand between them. A built frame is what the builder's step of IP headers writes, and a pool is given the layers
+/// that its bytes have.
+pub fn built_cuts_come_out<Timestamp, CustomChannelId: Eq, V>()
+    ensures alone { (keep : V → Timestamp → Bool) (name : IpFragId CustomChannelId) (payload : List ℕ)
+        (cuts : List (BuiltCut Timestamp CustomChannelId)) → length payload ≤ 65535 →
+        All (IsBuiltCut payload) cuts → All (IsUnder CustomChannelId.eq name) cuts →
+        answers_to CustomChannelId.eq keep (map cut_call cuts)
+        ≡ cut_answers (whole_of name payload) [] (map cut_fragment cuts) }
+    ensures among { (keep : V → Timestamp → Bool) (name : IpFragId CustomChannelId) (payload : List ℕ)
+        (cuts : List (BuiltCut Timestamp CustomChannelId)) (calls : List (Call Timestamp CustomChannelId V)) →
+        length payload ≤ 65535 → All (IsBuiltCut payload) cuts → All (KeepsAll keep) calls →
+        frames_to CustomChannelId.eq name calls ≡ map cut_call cuts →
+        answers_to_frames CustomChannelId.eq name calls (answers_to CustomChannelId.eq keep calls)
+        ≡ cut_answers (whole_of name payload) [] (map cut_fragment cuts) }
+    // Of calls with frames as bytes, whatever they are read as; refused frames may stand between too.
+    ensures read { (keep : V → Timestamp → Bool) (name : IpFragId CustomChannelId) (payload : List ℕ)
+        (cuts : List (BuiltCut Timestamp CustomChannelId)) (reads : List (ReadCall Timestamp CustomChannelId V)) →
+        length payload ≤ 65535 → All (IsBuiltCut payload) cuts → All (KeepsAll keep) (pool_calls reads) →
+        frames_to CustomChannelId.eq name (pool_calls reads) ≡ map cut_call cuts →
+        answers_to_frames CustomChannelId.eq name (pool_calls reads)
+        (pool_answers_in (frame_answers_to CustomChannelId.eq keep reads))
+        ≡ cut_answers (whole_of name payload) [] (map cut_fragment cuts) }
+{
+    ep_build::laws::built_fragments();
+    ep_packet::laws::frames();
+}

@@ -3,6 +3,7 @@
 
 mod carried_fragment;
 mod fragment;
+mod frame_run;
 mod ip_defrag_buf;
 mod ip_defrag_error;
 mod ip_defrag_payload_vec;
@@ -15,8 +16,10 @@ mod run;
 
 pub use arrayvec::ArrayVec;
 pub use ep_base::{IpFragOffset, IpNumber, LenSource, VlanId};
-pub use ep_packet::SlicedPacket;
+pub use ep_packet::err::SliceError;
+pub use ep_packet::{Entry, SlicedPacket};
 pub use fragment::Fragment;
+pub use frame_run::{FrameAnswer, FrameCall, run_frames};
 pub use ip_defrag_buf::IpDefragBuf;
 pub use ip_defrag_error::IpDefragError;
 pub use ip_defrag_payload_vec::IpDefragPayloadVec;

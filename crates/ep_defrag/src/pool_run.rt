@@ -99,7 +99,7 @@ pub fn run_calls<
 }
 
 /// The answer to one more call, but for an answer of memory.
-fn answer_next<
+pub(crate) fn answer_next<
     Timestamp: Drop,
     CustomChannelId: Eq + Hash + Drop,
     V: Drop,

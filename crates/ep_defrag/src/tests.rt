@@ -1,6 +1,7 @@
 //! Worked examples of reassembly, and what no clause says: that calls succeed where there is memory, and what they
 //! leave where there is none (`rt try --test --fail-alloc N` refuses the N-th request).
 
+mod frame_run;
 mod pool;
 
 use crate::{Fragment, IpDefragBuf, IpDefragError, IpFragRange, add_all};

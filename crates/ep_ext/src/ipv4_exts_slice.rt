@@ -20,6 +20,7 @@ impl<'a> Ipv4ExtensionsSlice<'a> {
 
     /// The extension headers at the front of the slice, which begins with what the number says, the number of what
     /// follows them, and the bytes behind them.
+    #[inline(always)]
     pub fn from_slice(
         number: IpNumber,
         slice: &'a [u8],

@@ -1,5 +1,5 @@
 -- That the bytes of an IP packet are its headers, its payload, and what its length field leaves.
-use Rattle.std.proofs.Common.{◌≡◌, ℕ, ◌+◌, List, [], ◌++◌, length, refl, ap, ◌∙◌, append_assoc, length-append, arith}
+use Rattle.std.proofs.Common.{◌≡◌, ℕ, List, ◌++◌, length, refl, ap, ◌∙◌, append_assoc, length-append, arith}
 use Rattle.std.proofs.lemmas.Grind.{common_steps}
 use Rattle.ep_base.specs.Layer.{Reading}
 use Rattle.ep_ext.proofs.ChainBytes.{chain_encoded, chain_len}

@@ -2,7 +2,7 @@
 -- payload behind the chain (RFC 791, 3.1; RFC 4302, 3.1.1; RFC 8200, 3 and 4).
 use Rattle.std.specs.Prelude.{◌≡◌, ℕ, ◌==◌, ◌||◌, ◌⊎◌, not, Bool, List, [], ◌∷◌, length}
 use Rattle.ep_base.specs.IpPayload.{IpPayload}
-use Rattle.ep_base.specs.Layer.{Reading, len_error}
+use Rattle.ep_base.specs.Layer.{Reading, behind_header, len_error}
 use Rattle.ep_base.specs.Tables.{Parts, parts_of, Refuses, RefusesAs}
 use Rattle.ep_base.specs.declared.err.layer.Layer.TheVariants as layer
 use Rattle.ep_base.specs.declared.len_source.LenSource.TheVariants as source
@@ -24,7 +24,7 @@ use Rattle.ep_ext.specs.Chains.{ipv4, ipv6, chain_of, chain_fragments, IsExtensi
 use Rattle.ep_ext.specs.ExtensionParts.{ExtensionPart, auth_refusal}
 use Rattle.ep_ip.specs.declared.ipv4_header.Ipv4Header.{Ipv4Header}
 use Rattle.ep_ip.specs.declared.ipv6_header.Ipv6Header.{Ipv6Header}
-use Rattle.ep_ip.specs.Ip.{version_of, behind_header}
+use Rattle.ep_ip.specs.Ip.{version_of}
 use Rattle.ep_ip.specs.Ipv4.{IsIpv4Packet, RefusesIpv4Packet, ipv4_header_len, is_ipv4_fragment}
 use Rattle.ep_ip.specs.Ipv6.{IsIpv6Packet, RefusesIpv6Packet, ipv6_payload_source}
 

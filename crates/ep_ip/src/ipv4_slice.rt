@@ -5,7 +5,6 @@ ghost use Rattle.ep_base.specs.Tables.{parts_of};
 ghost use Rattle.ep_ip.specs.Ipv4.{IsIpv4Packet, RefusesIpv4Packet};
 ghost use Rattle.ep_ip.specs.Ipv4Slices.{ipv4_header_slice_header, ipv4_header_slice_bytes};
 
-use crate::behind_header::behind_header;
 use crate::ipv4_header_slice::Ipv4HeaderSlice;
 use ep_base::err::ipv4::{HeaderSliceError, SliceError};
 use ep_base::err::{Layer, LenError, ip_auth};
@@ -30,6 +29,7 @@ impl<'a> Ipv4Slice<'a> {
     ghost use Rattle.ep_ip.specs.Ipv4Slices.{ipv4_slice_payload, ipv4_slice_content, ipv4_slice_packet};
 
     /// The packet at the front of the slice. Its total length cuts it.
+    #[inline(always)]
     pub fn from_slice(slice: &'a [u8]) -> Result<Ipv4Slice<'a>, SliceError>
         ensures ok { IfOk result (λ shown. (left : List ℕ) × (slice.now ≡ ipv4_slice_bytes shown ++ left)
             × IsIpv4 slices slice.now (ipv4_slice_packet shown left)) }
@@ -44,8 +44,7 @@ impl<'a> Ipv4Slice<'a> {
         ) {
             Ok(read) => read,
             Err(ip_auth::HeaderSliceError::Len(error)) => {
-                return Err(SliceError::Len(behind_header(
-                    error,
+                return Err(SliceError::Len(error.behind_header(
                     header.header_len(),
                     LenSource::Ipv4HeaderTotalLen,
                 )));

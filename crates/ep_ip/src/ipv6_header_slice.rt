@@ -4,7 +4,7 @@ ghost use Rattle.std.specs.Prelude.{◌≡◌, length};
 ghost use Rattle.ep_ip.specs.Ip.{version_of};
 
 use crate::ipv6_header::Ipv6Header;
-use ep_base::err::ipv6::{HeaderError, HeaderSliceError};
+use ep_base::err::ipv6::{HeaderError, HeaderSliceError, SliceError};
 use ep_base::err::{Layer, LenError};
 use ep_base::{IpNumber, Ipv6FlowLabel, LenSource};
 
@@ -25,7 +25,9 @@ pub struct Ipv6HeaderSlice<'a> {
 impl<'a> Ipv6HeaderSlice<'a> {
     ghost use Rattle.std.specs.Prelude.{◌≡◌, ◌++◌, IfOk, IfErr, IsOkAnd, List, ℕ};
     ghost use Rattle.ep_ip.specs.declared.ipv6_header.Ipv6Header.{Ipv6Header};
-    ghost use Rattle.ep_ip.specs.Ipv6.{IsIpv6Header, RefusesIpv6Header};
+    ghost use Rattle.ep_base.specs.Tables.{Parts, parts_of};
+    ghost use Rattle.ep_ip.specs.Ipv6.{IsIpv6Header, IsIpv6Packet, RefusesIpv6Header, RefusesIpv6Packet};
+    ghost use Rattle.ep_ip.specs.Ipv6.{ipv6_payload_source};
     ghost use Rattle.ep_ip.specs.Ipv6Slices.{ipv6_header_slice_bytes, ipv6_header_slice_header};
 
     /// The header at the front of the slice, whatever its payload length says.
@@ -55,6 +57,66 @@ impl<'a> Ipv6HeaderSlice<'a> {
                 slice: &slice[..Ipv6Header::LEN],
             },
         })
+    }
+
+    /// The header at the front of the slice, the bytes behind it that are its packet's, extension headers among them,
+    /// and what set their end: the payload length (RFC 8200, 3), or the end of the slice where that length is 0 and
+    /// there are bytes.
+    pub fn from_packet_slice(
+        slice: &'a [u8],
+    ) -> Result<(Ipv6HeaderSlice<'a>, &'a [u8], LenSource), SliceError>
+        ensures ok { IfOk result (λ read. (left : List ℕ)
+            × (slice.now ≡ (ipv6_header_slice_bytes read.0 ++ read.1.now) ++ left)
+            × IsIpv6Packet slice.now (parts_of (ipv6_header_slice_header read.0) read.1.now left)) }
+        ensures only { (packet : Parts Ipv6Header) → IsIpv6Packet slice.now packet
+            → IsOkAnd result (λ read. (ipv6_header_slice_header read.0 ≡ packet.header)
+            × (read.1.now ≡ packet.payload)) }
+        ensures err { IfErr result (RefusesIpv6Packet slice.now) }
+        ensures source { IfOk result (λ read.
+            read.2 ≡ ipv6_payload_source (ipv6_header_slice_header read.0) read.1.now) }
+    {
+        let (header, content) = Ipv6HeaderSlice::cut(slice)?;
+        let len_source = header.payload_source(content);
+        Ok((header, content, len_source))
+    }
+
+    /// The header at the front of the slice, and the bytes behind it, which its payload length cuts.
+    fn cut(slice: &'a [u8]) -> Result<(Ipv6HeaderSlice<'a>, &'a [u8]), SliceError>
+        ensures ok { IfOk result (λ read. (left : List ℕ)
+            × (slice.now ≡ (ipv6_header_slice_bytes read.0 ++ read.1.now) ++ left)
+            × IsIpv6Packet slice.now (parts_of (ipv6_header_slice_header read.0) read.1.now left)) }
+        ensures err { IfErr result (RefusesIpv6Packet slice.now) }
+    {
+        let header = match Ipv6HeaderSlice::from_slice(slice) {
+            Ok(header) => header,
+            Err(HeaderSliceError::Len(error)) => return Err(SliceError::Len(error)),
+            Err(HeaderSliceError::Content(error)) => return Err(SliceError::Header(error)),
+        };
+        let payload_length = header.payload_length() as usize;
+        if payload_length == 0 {
+            return Ok((header, &slice[Ipv6Header::LEN..]));
+        }
+        let packet_len = Ipv6Header::LEN + payload_length;
+        if slice.len() < packet_len {
+            return Err(SliceError::Len(LenError::at_start(
+                packet_len,
+                slice.len(),
+                LenSource::Slice,
+                Layer::Ipv6Packet,
+            )));
+        }
+        Ok((header, &slice[Ipv6Header::LEN..packet_len]))
+    }
+
+    /// What set the end of the bytes behind the header: those at hand, where the payload length is 0 and took some.
+    fn payload_source(&self, content: &[u8]) -> LenSource
+        ensures { result ≡ ipv6_payload_source (ipv6_header_slice_header self.now) content.now }
+    {
+        if self.payload_length() == 0 && content.len() > 0 {
+            LenSource::Slice
+        } else {
+            LenSource::Ipv6HeaderPayloadLen
+        }
     }
 
     /// The header again.

@@ -1,16 +1,13 @@
 //! An IPv6 packet in a slice (RFC 8200).
 
 ghost use Rattle.std.specs.Prelude.{◌≡◌, ◌++◌, IfOk, IfErr, IsOkAnd, List, ℕ};
-ghost use Rattle.ep_base.specs.Tables.{parts_of};
-ghost use Rattle.ep_ip.specs.Ipv6.{IsIpv6Packet, RefusesIpv6Packet, ipv6_payload_source};
 ghost use Rattle.ep_ip.specs.Ipv6Slices.{ipv6_header_slice_header, ipv6_header_slice_bytes};
 
-use crate::behind_header::behind_header;
 use crate::ipv6_header::Ipv6Header;
 use crate::ipv6_header_slice::Ipv6HeaderSlice;
-use ep_base::err::ipv6::{HeaderSliceError, SliceError};
-use ep_base::err::{Layer, LenError, ipv6_exts};
-use ep_base::{IpPayloadSlice, LenSource};
+use ep_base::IpPayloadSlice;
+use ep_base::err::ipv6::SliceError;
+use ep_base::err::ipv6_exts;
 use ep_ext::Ipv6ExtensionsSlice;
 
 /// An IPv6 packet (RFC 8200) that lies in a slice: header, extension headers and payload, cut by the payload length.
@@ -41,15 +38,14 @@ impl<'a> Ipv6Slice<'a> {
         ensures err { IfErr result (RefusesIpv6 slices slice.now) }
         ensures number { IfOk result (λ shown. FollowsIpv6Header shown) }
     {
-        let (header, content) = cut(slice)?;
-        let len_source = payload_source(&header, content);
+        let (header, content, len_source) = Ipv6HeaderSlice::from_packet_slice(slice)?;
         let (extensions, ip_number, payload) = match Ipv6ExtensionsSlice::from_slice(
             header.next_header(),
             content,
         ) {
             Ok(read) => read,
             Err(ipv6_exts::HeaderSliceError::Len(error)) => {
-                return Err(SliceError::Len(behind_header(error, Ipv6Header::LEN, len_source)));
+                return Err(SliceError::Len(error.behind_header(Ipv6Header::LEN, len_source)));
             }
             Err(ipv6_exts::HeaderSliceError::Content(error)) => {
                 return Err(SliceError::Exts(error));
@@ -100,44 +96,5 @@ impl<'a> Ipv6Slice<'a> {
         ensures { result ≡ (ipv6_slice_payload self.now).fragmented }
     {
         self.payload.fragmented
-    }
-}
-
-/// The header at the front of the slice, and the bytes behind it, which its payload length cuts.
-fn cut<'a>(slice: &'a [u8]) -> Result<(Ipv6HeaderSlice<'a>, &'a [u8]), SliceError>
-    ensures ok { IfOk result (λ read. (left : List ℕ)
-        × (slice.now ≡ (ipv6_header_slice_bytes read.0 ++ read.1.now) ++ left)
-        × IsIpv6Packet slice.now (parts_of (ipv6_header_slice_header read.0) read.1.now left)) }
-    ensures err { IfErr result (RefusesIpv6Packet slice.now) }
-{
-    let header = match Ipv6HeaderSlice::from_slice(slice) {
-        Ok(header) => header,
-        Err(HeaderSliceError::Len(error)) => return Err(SliceError::Len(error)),
-        Err(HeaderSliceError::Content(error)) => return Err(SliceError::Header(error)),
-    };
-    let payload_length = header.payload_length() as usize;
-    if payload_length == 0 {
-        return Ok((header, &slice[Ipv6Header::LEN..]));
-    }
-    let packet_len = Ipv6Header::LEN + payload_length;
-    if slice.len() < packet_len {
-        return Err(SliceError::Len(LenError::at_start(
-            packet_len,
-            slice.len(),
-            LenSource::Slice,
-            Layer::Ipv6Packet,
-        )));
-    }
-    Ok((header, &slice[Ipv6Header::LEN..packet_len]))
-}
-
-/// What set the end of the bytes behind the header: those at hand, where the payload length is 0 and took some.
-fn payload_source(header: &Ipv6HeaderSlice, content: &[u8]) -> LenSource
-    ensures { result ≡ ipv6_payload_source (ipv6_header_slice_header header.now) content.now }
-{
-    if header.payload_length() == 0 && content.len() > 0 {
-        LenSource::Slice
-    } else {
-        LenSource::Ipv6HeaderPayloadLen
     }
 }

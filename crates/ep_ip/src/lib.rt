@@ -1,7 +1,6 @@
 //! IP: headers, and packets with their extension headers.
 #![tactic(auto)]
 
-mod behind_header;
 mod ip_slice;
 mod ipv4_header;
 mod ipv4_header_slice;

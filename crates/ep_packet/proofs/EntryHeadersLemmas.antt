@@ -1,15 +1,14 @@
 -- What the entries fill in, and where the payload lies in a frame's bytes.
 use Rattle.std.proofs.Common.{◌≡◌, ℕ, ◌-◌, length, inr, List, [], ◌∷◌, ◌++◌, map, Option, Some, None, Result, Ok, Err, refl, sym, ap, subst, ◌∙◌, append_assoc}
-use Rattle.std.specs.Prelude.{IfOk, IfErr, IfSome, IsOkAnd}
-use Rattle.std.specs.Option.{option_map, option_and_then}
+use Rattle.std.specs.Prelude.{IfOk, IfErr, IfSome, IsOkAnd, OnOk}
+use Rattle.std.specs.Option.{option_map}
 use Rattle.ep_base.specs.Bytes.{AreBytes}
-use Rattle.ep_base.specs.Layer.{Reading, headers}
+use Rattle.ep_base.specs.Layer.{headers}
 use Rattle.ep_base.specs.Tables.{IsDecided, Parts}
 use Rattle.ep_base.specs.declared.ether_type.EtherType.{EtherType}
 use Rattle.ep_base.specs.declared.len_source.LenSource.{LenSource}
 use Rattle.ep_base.specs.declared.len_source.LenSource.TheVariants as source
 use Rattle.ep_link.specs.declared.link.ethernet2_header.Ethernet2Header.{Ethernet2Header}
-use Rattle.ep_link.specs.declared.link.linux_sll_protocol_type.LinuxSllProtocolType.{LinuxSllProtocolType}
 use Rattle.ep_link.specs.declared.link.link_header.LinkHeader.{LinkHeader}
 use Rattle.ep_link.specs.declared.link.link_header.LinkHeader.TheVariants as link
 use Rattle.ep_link.specs.Ethernet2.{ethernet2_header_len, IsEthernet2}
@@ -17,9 +16,12 @@ use Rattle.ep_link.specs.Ethernet2Slices.{ethernet2_slice_header, ethernet2_slic
 use Rattle.ep_link.specs.declared.link.ethernet2_slice.Ethernet2Slice.{Ethernet2Slice}
 use Rattle.ep_base.specs.declared.ether_payload_slice.EtherPayloadSlice.{EtherPayloadSlice}
 use Rattle.ep_link.specs.EtherPayloads.{EtherPayload, ether_payload_of}
-use Rattle.ep_link.specs.LinkSlices.{LinkLayer, ethernet2, linux_sll, ether_payload, linux_sll_payload, link_ether_payload, link_layer_payload, protocol_payload, whole_ether_payload}
+use Rattle.ep_link.specs.LinkSlices.{LinkLayer, ethernet2, linux_sll, ether_payload, linux_sll_payload, link_ether_payload, link_layer_payload, whole_ether_payload}
 use Rattle.ep_link.specs.LinkExtensions.{LinkExtension, vlan, macsec, extension_ether_payload, extension_header, extension_payload}
-use Rattle.ep_link.specs.LinuxSll.{protocol_ether_type}
+use Rattle.ep_link.specs.LinuxSll.{linux_sll_header_len, IsLinuxSll, protocol_ether_type}
+use Rattle.ep_link.specs.LinuxSllSlices.{linux_sll_slice_header, linux_sll_slice_parts, linux_sll_slice_payload}
+use Rattle.ep_link.specs.declared.link.linux_sll_header.LinuxSllHeader.{LinuxSllHeader}
+use Rattle.ep_link.specs.declared.link.linux_sll_slice.LinuxSllSlice.{LinuxSllSlice}
 use Rattle.ep_link.specs.Macsec.{unmodified, modified}
 use Rattle.ep_transport.specs.TransportParts.{TransportLayer}
 use Rattle.ep_transport.specs.declared.transport_header.TransportHeader.{TransportHeader}
@@ -27,15 +29,15 @@ use Rattle.ep_transport.specs.declared.transport_header.TransportHeader.TheVaria
 use Rattle.ep_packet.specs.declared.err.slice_error.SliceError.{SliceError}
 use Rattle.ep_packet.specs.declared.packet_headers.PacketHeaders.{PacketHeaders}
 use Rattle.ep_packet.specs.declared.entry.Entry.{Entry}
-use Rattle.ep_packet.specs.declared.entry.Entry.TheVariants.{Ethernet as ethernet, EtherType as ether_type, Ip as ip}
+use Rattle.ep_packet.specs.declared.entry.Entry.TheVariants.{Ethernet as ethernet, LinuxSll as cooked, EtherType as ether_type, Ip as ip}
 use Rattle.ep_packet.specs.Layers.{Layers, NetLayer, ipv4, ipv6, arp}
-use Rattle.ep_packet.specs.Frame.{any_ip, IsFrameIn, most_link_exts}
-use Rattle.ep_packet.specs.FrameBytes.{AreInOrder, inner_payload, last_payload, link_payload, payload_behind}
+use Rattle.ep_packet.specs.Frame.{any_ip, IsFrameIn, IsInside, most_link_exts}
+use Rattle.ep_packet.specs.FrameBytes.{inner_payload, last_payload, link_payload, payload_behind}
 use Rattle.ep_packet.specs.PacketHeaders.{Headers, LieIn, headers_in, headers_of, net_header_in, transport_header_in}
 use Rattle.ep_packet.specs.PayloadParts.{PayloadPart, empty, macsec_modified, behind_header, innermost_part, open_part, open_part_in, payload_part_bytes, payload_part_in, payload_part_of}
 use Rattle.ep_packet.specs.Payloads.{ether_payload_behind, ether_payload_of_parts, extensions_len_source}
 use Rattle.ep_packet.specs.Refusals.{RefusesFrameIn, RefusesInside}
-use Rattle.ep_packet.specs.HeadersWalk.{FillsInside, FillsNet, open_behind, with_net}
+use Rattle.ep_packet.specs.HeadersWalk.{FillsInside, FillsNet, begun, open_behind, with_net}
 use Rattle.ep_packet.proofs.FrameLemmas.{frames_decided}
 use Rattle.ep_packet.proofs.LayerLaws.{layer_laws}
 use Rattle.ep_packet.proofs.FrameBytesLemmas.{frame_in_order}
@@ -186,11 +188,11 @@ abbrev pub IsFilled : Entry → List ℕ → Headers → Type 0
 IsFilled entry bytes read = (layers : Layers) × IsFrameIn headers entry bytes layers × (read ≡ headers_in layers)
 
 -- behind an Ethernet II header
-pub ethernet_fills : (bytes : List ℕ) (frame : Parts Ethernet2Header) (old new : Headers) → IsEthernet2 bytes frame
-    → old ≡ link_alone (Some (link.Ethernet2 frame.header))
+pub ethernet_fills : (bytes : List ℕ) (frame : Parts Ethernet2Header) (base old new : Headers) → IsEthernet2 bytes frame
+    → old ≡ begun base (Some (link.Ethernet2 frame.header))
     → FillsInside most_link_exts (whole_ether_payload frame.payload frame.header.ether_type) old new
     → IsFilled ethernet bytes new
-ethernet_fills bytes frame old new is alone fills = (
+ethernet_fills bytes frame base old new is alone fills = (
   record {
     link = Some (ethernet2 frame.header frame.payload);
     link_exts = fills.extensions;
@@ -204,10 +206,65 @@ ethernet_fills bytes frame old new is alone fills = (
       (open_in_ethernet frame.header frame.payload fills.extensions),
 )
 
+open_in_sll : (frame : LinuxSllHeader) (type : EtherType) (payload : List ℕ) (extensions : List LinkExtension)
+    → protocol_ether_type frame.protocol_type ≡ Some type
+    → open_behind (whole_ether_payload payload type) extensions
+    ≡ open_part (ether_payload_of_parts (Some (linux_sll frame payload)) extensions)
+    (payload_behind (link_payload (Some (linux_sll frame payload))) extensions)
+open_in_sll frame type payload [] typed =
+    ap (λ (t : Option EtherType). open_part (option_map (whole_ether_payload payload) t) payload) (sym typed)
+open_in_sll frame type payload (extension ∷ others) typed = refl
+
+-- behind the header of a Linux cooked capture whose protocol is an ether type
+sll_fills : (bytes : List ℕ) (frame : Parts LinuxSllHeader) (type : EtherType) (base old new : Headers)
+    → IsLinuxSll bytes frame → protocol_ether_type frame.header.protocol_type ≡ Some type
+    → old ≡ begun base (Some (link.LinuxSll frame.header))
+    → FillsInside most_link_exts (whole_ether_payload frame.payload type) old new → IsFilled cooked bytes new
+sll_fills bytes frame type base old new is typed alone fills = (
+  record {
+    link = Some (linux_sll frame.header frame.payload);
+    link_exts = fills.extensions;
+    net = fills.net;
+    transport = fills.transport;
+  },
+  (
+    frame,
+    is,
+    refl,
+    subst (λ (t : Option EtherType). IsInside headers most_link_exts t frame.payload fills.extensions fills.net
+        fills.transport) (sym typed) fills.inside,
+  ),
+  fills.filled
+      ∙ ap (λ (h : Headers). filled_with h (open_behind (whole_ether_payload frame.payload type) fills.extensions) fills.extensions fills.net fills.transport) alone
+      ∙ ap (λ (p : PayloadPart). filled_with (link_alone (Some (link.LinuxSll frame.header))) p fills.extensions fills.net fills.transport)
+      (open_in_sll frame.header type frame.payload fills.extensions typed),
+)
+
+-- behind one whose protocol is none
+sll_open : (bytes : List ℕ) (frame : Parts LinuxSllHeader) (base old new : Headers) → IsLinuxSll bytes frame
+    → protocol_ether_type frame.header.protocol_type ≡ None → old ≡ begun base (Some (link.LinuxSll frame.header))
+    → new ≡ record old { net = None; transport = None; payload = macsec_modified frame.payload }
+    → IsFilled cooked bytes new
+sll_open bytes frame base old new is none alone filled = (
+  record { link = Some (linux_sll frame.header frame.payload); link_exts = []; net = None; transport = None },
+  (
+    frame,
+    is,
+    refl,
+    subst (λ (t : Option EtherType). IsInside headers most_link_exts t frame.payload [] None None) (sym none)
+        (refl, refl, refl),
+  ),
+  filled
+      ∙ ap (λ (h : Headers). record h { net = None; transport = None; payload = macsec_modified frame.payload }) alone
+      ∙ ap (λ (t : Option EtherType). record (link_alone (Some (link.LinuxSll frame.header))) {
+        payload = open_part (option_map (whole_ether_payload frame.payload) t) frame.payload;
+      }) (sym none),
+)
+
 -- in the payload of a link layer
-pub ether_payload_fills : (bytes : List ℕ) (type : EtherType) (old new : Headers) → old ≡ link_alone None
+pub ether_payload_fills : (bytes : List ℕ) (type : EtherType) (base old new : Headers) → old ≡ begun base None
     → FillsInside most_link_exts (whole_ether_payload bytes type) old new → IsFilled (ether_type type) bytes new
-ether_payload_fills bytes type old new alone fills = (
+ether_payload_fills bytes type base old new alone fills = (
   record {
     link = Some (ether_payload type source.Slice bytes);
     link_exts = fills.extensions;
@@ -222,9 +279,9 @@ ether_payload_fills bytes type old new alone fills = (
 )
 
 -- in an IP packet of its own
-pub ip_fills : (bytes : List ℕ) (old new : Headers) → old ≡ link_alone None
+pub ip_fills : (bytes : List ℕ) (base old new : Headers) → old ≡ begun base None
     → FillsNet (Some any_ip) bytes empty old new → IsFilled ip bytes new
-ip_fills bytes old new alone fills = (
+ip_fills bytes base old new alone fills = (
   record { link = None; link_exts = []; net = fills.net; transport = fills.transport },
   (refl, refl, fills.part),
   fills.filled
@@ -239,19 +296,19 @@ ip_fills bytes old new alone fills = (
 -- ---- from what the calls ensure
 
 -- before the first link extension there is room for all
-pub whole_room : (packet : PacketHeaders) (read : Option LinkHeader) → headers_of packet ≡ link_alone read
-    → most_link_exts - length packet.link_exts.items ≡ most_link_exts
-whole_room packet read alone = ap (λ (h : Headers). most_link_exts - length h.link_exts) alone
+pub whole_room : (packet : PacketHeaders) (base : Headers) (read : Option LinkHeader)
+    → headers_of packet ≡ begun base read → most_link_exts - length packet.link_exts.items ≡ most_link_exts
+whole_room packet base read alone = ap (λ (h : Headers). most_link_exts - length h.link_exts) alone
 
-pub ether_payload_filled : (bytes : List ℕ) (type : EtherType) (packet new : PacketHeaders)
-    → headers_of packet ≡ link_alone None
+pub ether_payload_filled : (bytes : List ℕ) (type : EtherType) (base : Headers) (packet new : PacketHeaders)
+    → headers_of packet ≡ begun base None
     → FillsInside (most_link_exts - length packet.link_exts.items) (whole_ether_payload bytes type) (headers_of packet)
     (headers_of new)
     → IsFilled (ether_type type) bytes (headers_of new)
-ether_payload_filled bytes type packet new alone fills =
-    ether_payload_fills bytes type (headers_of packet) (headers_of new) alone
+ether_payload_filled bytes type base packet new alone fills =
+    ether_payload_fills bytes type base (headers_of packet) (headers_of new) alone
     (subst (λ (n : ℕ). FillsInside n (whole_ether_payload bytes type) (headers_of packet) (headers_of new))
-    (whole_room packet None alone) fills)
+    (whole_room packet base None alone) fills)
 
 -- a slice shows a payload of this type and these bytes, whose end nothing but the end of the bytes sets
 whole_shown : (slice : EtherPayloadSlice) (type : EtherType) (bytes : List ℕ) → slice.ether_type ≡ type
@@ -261,32 +318,32 @@ whole_shown slice type bytes same_type whole same_bytes =
     λ i. record { ether_type = same_type i; len_source = whole i; bytes = same_bytes i }
 
 pub ethernet_filled : (bytes left : List ℕ) (frame : Ethernet2Slice) (read : Ethernet2Header) (payload : EtherPayloadSlice)
-    (packet new : PacketHeaders)
+    (base : Headers) (packet new : PacketHeaders)
     → IsEthernet2 bytes (ethernet2_slice_parts frame left) → read ≡ ethernet2_slice_header frame
     → payload.ether_type ≡ (ethernet2_slice_header frame).ether_type → payload.len_source ≡ source.Slice
     → payload.payload.now ≡ ethernet2_slice_payload frame
-    → headers_of packet ≡ link_alone (Some (link.Ethernet2 read))
+    → headers_of packet ≡ begun base (Some (link.Ethernet2 read))
     → FillsInside (most_link_exts - length packet.link_exts.items) (ether_payload_of payload) (headers_of packet)
     (headers_of new)
     → IsFilled ethernet bytes (headers_of new)
-ethernet_filled bytes left frame read payload packet new is header_is same_type whole same_bytes alone fills =
+ethernet_filled bytes left frame read payload base packet new is header_is same_type whole same_bytes alone fills =
     let parts = ethernet2_slice_parts frame left in
     let shown = whole_shown payload parts.header.ether_type parts.payload same_type whole same_bytes in
-    ethernet_fills bytes parts (headers_of packet) (headers_of new) is
-    (alone ∙ ap (λ (h : Ethernet2Header). link_alone (Some (link.Ethernet2 h))) header_is)
+    ethernet_fills bytes parts base (headers_of packet) (headers_of new) is
+    (alone ∙ ap (λ (h : Ethernet2Header). begun base (Some (link.Ethernet2 h))) header_is)
     (subst (λ (p : EtherPayload). FillsInside most_link_exts p (headers_of packet) (headers_of new)) shown
     (subst (λ (n : ℕ). FillsInside n (ether_payload_of payload) (headers_of packet) (headers_of new))
-    (whole_room packet (Some (link.Ethernet2 read)) alone) fills))
+    (whole_room packet base (Some (link.Ethernet2 read)) alone) fills))
 
 pub ethernet_behind_refused : (bytes left : List ℕ) (frame : Ethernet2Slice) (payload : EtherPayloadSlice)
-    (packet : PacketHeaders) (read : Option LinkHeader) (error : SliceError)
+    (base : Headers) (packet : PacketHeaders) (read : Option LinkHeader) (error : SliceError)
     → IsEthernet2 bytes (ethernet2_slice_parts frame left)
     → payload.ether_type ≡ (ethernet2_slice_header frame).ether_type
-    → payload.payload.now ≡ ethernet2_slice_payload frame → headers_of packet ≡ link_alone read
+    → payload.payload.now ≡ ethernet2_slice_payload frame → headers_of packet ≡ begun base read
     → RefusesInside headers (most_link_exts - length packet.link_exts.items) ethernet2_header_len
     (Some payload.ether_type) payload.payload.now error
     → RefusesFrameIn headers ethernet bytes error
-ethernet_behind_refused bytes left frame payload packet read error is same_type same_bytes alone refused =
+ethernet_behind_refused bytes left frame payload base packet read error is same_type same_bytes alone refused =
     let parts = ethernet2_slice_parts frame left in
     inr (
       parts,
@@ -296,5 +353,76 @@ ethernet_behind_refused bytes left frame payload packet read error is same_type 
           (subst (λ (t : EtherType). RefusesInside headers most_link_exts ethernet2_header_len (Some t) payload.payload.now error)
           same_type
           (subst (λ (n : ℕ). RefusesInside headers n ethernet2_header_len (Some payload.ether_type) payload.payload.now error)
-          (whole_room packet read alone) refused)),
+          (whole_room packet base read alone) refused)),
     )
+
+pub sll_filled : (bytes left shown : List ℕ) (frame : LinuxSllSlice) (read : LinuxSllHeader) (type : EtherType)
+    (payload : EtherPayloadSlice) (base : Headers) (packet new : PacketHeaders)
+    → IsLinuxSll bytes (linux_sll_slice_parts frame left) → read ≡ linux_sll_slice_header frame
+    → protocol_ether_type (linux_sll_slice_header frame).protocol_type ≡ Some type
+    → ether_payload_of payload ≡ whole_ether_payload shown type → shown ≡ linux_sll_slice_payload frame
+    → headers_of packet ≡ begun base (Some (link.LinuxSll read))
+    → FillsInside (most_link_exts - length packet.link_exts.items) (ether_payload_of payload) (headers_of packet)
+    (headers_of new)
+    → IsFilled cooked bytes (headers_of new)
+sll_filled bytes left shown frame read type payload base packet new is header_is typed whole same_bytes alone fills =
+    sll_fills bytes (linux_sll_slice_parts frame left) type base (headers_of packet) (headers_of new) is typed
+    (alone ∙ ap (λ (h : LinuxSllHeader). begun base (Some (link.LinuxSll h))) header_is)
+    (subst (λ (p : EtherPayload). FillsInside most_link_exts p (headers_of packet) (headers_of new))
+    (whole ∙ ap (λ (b : List ℕ). whole_ether_payload b type) same_bytes)
+    (subst (λ (n : ℕ). FillsInside n (ether_payload_of payload) (headers_of packet) (headers_of new))
+    (whole_room packet base (Some (link.LinuxSll read)) alone) fills))
+
+pub sll_left_open : (bytes left shown : List ℕ) (frame : LinuxSllSlice) (read : LinuxSllHeader) (base middle new : Headers)
+    → IsLinuxSll bytes (linux_sll_slice_parts frame left) → read ≡ linux_sll_slice_header frame
+    → protocol_ether_type (linux_sll_slice_header frame).protocol_type ≡ None → shown ≡ linux_sll_slice_payload frame
+    → middle ≡ begun base (Some (link.LinuxSll read))
+    → new ≡ record middle { net = None; transport = None; payload = macsec_modified shown }
+    → IsFilled cooked bytes new
+sll_left_open bytes left shown frame read base middle new is header_is none same_bytes alone filled =
+    sll_open bytes (linux_sll_slice_parts frame left) base middle new is none
+    (alone ∙ ap (λ (h : LinuxSllHeader). begun base (Some (link.LinuxSll h))) header_is)
+    (filled ∙ ap (λ (b : List ℕ). record middle { net = None; transport = None; payload = macsec_modified b }) same_bytes)
+
+pub sll_behind_refused : (bytes left shown : List ℕ) (frame : LinuxSllSlice) (type : EtherType)
+    (payload : EtherPayloadSlice) (base : Headers) (packet : PacketHeaders) (read : Option LinkHeader) (error : SliceError)
+    → IsLinuxSll bytes (linux_sll_slice_parts frame left)
+    → protocol_ether_type (linux_sll_slice_header frame).protocol_type ≡ Some type
+    → ether_payload_of payload ≡ whole_ether_payload shown type → shown ≡ linux_sll_slice_payload frame
+    → headers_of packet ≡ begun base read
+    → RefusesInside headers (most_link_exts - length packet.link_exts.items) linux_sll_header_len
+    (Some payload.ether_type) payload.payload.now error
+    → RefusesFrameIn headers cooked bytes error
+sll_behind_refused bytes left shown frame type payload base packet read error is typed whole same_bytes alone refused =
+    let parts = linux_sll_slice_parts frame left in
+    inr (
+      parts,
+      is,
+      subst (λ (t : Option EtherType). RefusesInside headers most_link_exts linux_sll_header_len t parts.payload error)
+          (sym typed)
+          (subst (λ (b : List ℕ). RefusesInside headers most_link_exts linux_sll_header_len (Some type) b error) same_bytes
+          (subst (λ (p : EtherPayload). RefusesInside headers most_link_exts linux_sll_header_len (Some p.ether_type) p.bytes error)
+          whole
+          (subst (λ (n : ℕ). RefusesInside headers n linux_sll_header_len (Some payload.ether_type) payload.payload.now error)
+          (whole_room packet base read alone) refused))),
+    )
+
+-- ---- what the entries answer
+
+-- where a frame was filled in or refused, each frame that there is was filled in
+pub filled_only : {A : Type 0} (entry : Entry) (bytes : List ℕ) → AreBytes bytes → (answer : Result A SliceError)
+    (new : PacketHeaders) → OnOk answer (IsFilled entry bytes (headers_of new))
+    → IfErr answer (RefusesFrameIn headers entry bytes)
+    → (layers : Layers) → IsFrameIn headers entry bytes layers
+    → IsOkAnd answer (λ _. headers_of new ≡ headers_in layers)
+filled_only entry bytes fits (Ok done) new ok err layers is =
+    ok.2 ∙ ap headers_in ((headers_law entry bytes fits).one_value ok.0 layers ok.1 is)
+filled_only entry bytes fits (Err error) new ok err layers is =
+    absurd ((headers_law entry bytes fits).not_both layers error is err)
+
+-- and its payload lies in the bytes
+pub filled_bytes : {A : Type 0} (entry : Entry) (bytes : List ℕ) (answer : Result A SliceError) (new : PacketHeaders)
+    → OnOk answer (IsFilled entry bytes (headers_of new))
+    → OnOk answer (LieIn (payload_part_bytes (payload_part_of new.payload)) bytes)
+filled_bytes entry bytes (Ok done) new ok = payload_lies entry bytes new ok.0 ok.1 ok.2
+filled_bytes entry bytes (Err error) new ok = tt

@@ -1,16 +1,16 @@
 -- That bytes are a frame of one list of layers, or are refused with one error, from the same of each layer.
-use Rattle.std.proofs.Common.{◌≡◌, ◌⊎◌, ℕ, List, [], Option, Some, None, refl, ap, ◌∙◌, inl, inr}
+use Rattle.std.proofs.Common.{◌≡◌, ℕ, List, [], Option, Some, None, refl, ap, ◌∙◌}
 use Rattle.ep_base.specs.Bytes.{AreBytes}
 use Rattle.ep_base.specs.Layer.{Reading}
-use Rattle.ep_base.specs.Tables.{IsDecided, Parts, RefusesAs}
+use Rattle.ep_base.specs.Tables.{IsDecided, Parts}
 use Rattle.ep_base.proofs.BytesLemmas.{AreBytes-payload}
 use Rattle.ep_base.proofs.DecidedLemmas.{same_image, decided_as, refused_as, IsBoth, RefusesEither, decided_then}
 use Rattle.ep_base.specs.declared.ether_type.EtherType.{EtherType}
 use Rattle.ep_base.specs.declared.len_source.LenSource.TheVariants as source
-use Rattle.ep_link.specs.Ethernet2.{ethernet2_bytes, ethernet2_header_len, IsEthernet2, RefusesEthernet2}
+use Rattle.ep_link.specs.Ethernet2.{ethernet2_bytes, ethernet2_header_len}
 use Rattle.ep_link.specs.LinkExtensions.{LinkExtension}
 use Rattle.ep_link.specs.LinkSlices.{LinkLayer, ethernet2, linux_sll as sll, ether_payload}
-use Rattle.ep_link.specs.LinuxSll.{linux_sll_bytes, linux_sll_header_len, IsLinuxSll, RefusesLinuxSll, protocol_ether_type}
+use Rattle.ep_link.specs.LinuxSll.{linux_sll_bytes, linux_sll_header_len, protocol_ether_type}
 use Rattle.ep_packet.specs.declared.err.slice_error.SliceError.{SliceError}
 use Rattle.ep_packet.specs.declared.err.slice_error.SliceError.TheVariants.{Len}
 use Rattle.ep_packet.specs.declared.entry.Entry.{Entry}

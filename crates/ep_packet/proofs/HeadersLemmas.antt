@@ -1,39 +1,39 @@
 -- What the walk over a frame fills in, one step after another, from what the layers' calls ensure.
-use Rattle.std.proofs.Common.{◌≡◌, ◌⊎◌, ℕ, zero, suc, ◌+◌, ◌-◌, ◌≤◌, ◌<◌, ◌==◌, if◌then◌else◌, Bool, List, [], ◌∷◌, ◌++◌, map, length, Option, Some, None, refl, sym, ap, subst, ◌∙◌, inl, inr, append_assoc, arith, length-append}
+use Rattle.std.proofs.Common.{◌≡◌, ◌⊎◌, ℕ, zero, suc, ◌+◌, ◌≤◌, ◌<◌, ◌==◌, if◌then◌else◌, Bool, List, [], ◌∷◌, ◌++◌, length, Option, Some, None, refl, sym, ap, subst, ◌∙◌, inl, inr, arith, length-append}
 use Rattle.std.specs.Option.{option_map}
 use Rattle.std.proofs.Math.Dec.{eqb-suc-zero}
 use Rattle.std.proofs.lemmas.List.{append-nil}
 use Rattle.ep_base.specs.IpPayload.{IpPayload, ip_payload_of}
-use Rattle.ep_base.specs.Layer.{Reading, headers}
+use Rattle.ep_base.specs.Layer.{headers}
 use Rattle.ep_base.specs.Tables.{RefusesAs}
 use Rattle.ep_base.specs.declared.err.ip.HeadersError.{HeadersError}
 use Rattle.ep_base.specs.declared.err.ip.HeadersSliceError.{HeadersSliceError}
 use Rattle.ep_base.specs.declared.err.ip.HeadersSliceError.TheVariants as headers_error
 use Rattle.ep_base.specs.declared.err.ip.SliceError.TheVariants as slice_error
 use Rattle.ep_base.specs.declared.ip_payload_slice.IpPayloadSlice.{IpPayloadSlice}
-use Rattle.ep_base.specs.declared.ether_type.EtherType.{EtherType}
 use Rattle.ep_link.specs.Arp.{Arp, IsArp}
 use Rattle.ep_link.specs.EtherPayloads.{EtherPayload}
 use Rattle.ep_link.specs.LinkSlices.{whole_ether_payload}
 use Rattle.ep_link.specs.Macsec.{unmodified, modified}
 use Rattle.ep_link.specs.declared.link_ext.link_ext_header.LinkExtHeader.{LinkExtHeader}
-use Rattle.ep_link.specs.LinkExtensions.{LinkExtension, vlan, macsec, BeginsLinkExtension, IsLinkExtension, extension_ether_payload, extension_header, extension_payload, extension_type}
+use Rattle.ep_link.specs.LinkExtensions.{LinkExtension, vlan, macsec, BeginsLinkExtension, extension_ether_payload, extension_payload, extension_type}
 use Rattle.ep_link.specs.declared.link_ext.single_vlan_header.SingleVlanHeader.{SingleVlanHeader}
-use Rattle.ep_ip.specs.IpPackets.{IpPart, ipv4_part, ipv6_part, IsIp, RefusesIp}
+use Rattle.ep_ip.specs.declared.ipv6_header.Ipv6Header.{Ipv6Header}
+use Rattle.ep_ip.specs.IpPackets.{IpPacket, IpPart, IsIp, IsIpv6, RefusesIp, ipv4_part, ipv6_part}
 use Rattle.ep_ip.proofs.IpBytesLemmas.{ipv4_packet_bytes, ipv6_len, ipv6_packet_bytes}
 use Rattle.ep_ip.specs.Ipv6.{ipv6_bytes}
 use Rattle.ep_transport.specs.TransportParts.{TransportLayer}
 use Rattle.ep_packet.specs.declared.err.slice_error.SliceError.{SliceError}
-use Rattle.ep_packet.specs.declared.ip_headers.IpHeaders.{IpHeaders}
+use Rattle.ep_packet.specs.declared.net_headers.NetHeaders.{NetHeaders}
 use Rattle.ep_packet.specs.Layers.{NetLayer, arp, ip_layer, net_payload}
-use Rattle.ep_packet.specs.Frame.{NetKind, any_ip, only_arp, net_kind, IsInside, IsNetLayer, IsNetPart, IsTransportBehind, IsTransportIn}
-use Rattle.ep_packet.specs.IpHeaders.{AreOfPart, ip_headers_of, ip_part_payload, of_slice_error}
+use Rattle.ep_packet.specs.Frame.{NetKind, any_ip, only_arp, net_kind, IsNetLayer, IsNetPart, IsTransportBehind, IsTransportIn}
+use Rattle.ep_packet.specs.IpHeaders.{ip_headers_of, ip_part_payload, of_slice_error}
 use Rattle.ep_packet.specs.NetHeaders.{net_headers_of}
 use Rattle.ep_packet.specs.PacketHeaders.{Headers, arp_packet, net_header_in, net_header_of, transport_header_in}
-use Rattle.ep_packet.specs.PayloadParts.{PayloadPart, empty, ether, ip, innermost_part, net_payload_part}
+use Rattle.ep_packet.specs.PayloadParts.{PayloadPart, empty, ether, ip, innermost_part}
 use Rattle.ep_packet.specs.Refusals.{RefusesNetLayer, RefusesNetPart, RefusesTransportBehind, RefusesTransportIn, ip_content_refusal, net_header_len}
 use Rattle.ep_packet.proofs.WalkLemmas.{ends_at}
-use Rattle.ep_packet.specs.HeadersWalk.{FillsInside, FillsNet, FillsTransport, LacksNet, content_end, open_behind, with_net}
+use Rattle.ep_packet.specs.HeadersWalk.{FillsInside, FillsNet, FillsIp, FillsTransport, content_end, with_net}
 
 -- ---- IP packets
 
@@ -55,19 +55,18 @@ part_innermost (ipv4_part packet) None = refl
 part_innermost (ipv6_part packet) None = refl
 part_innermost part (Some layer) = refl
 
--- headers with these headers of the net layer
-abbrev pub with_ip : Headers → IpHeaders → Headers
-with_ip old read = record old { net = Some (net_header_of (net_headers_of read)) }
-
 -- what was filled in of a packet and of its payload is the net layer
-pub fills_ip : (kind : NetKind) (bytes : List ℕ) (part : IpPart) (read : IpHeaders × IpPayloadSlice)
-    (old middle new : Headers)
-    → IsNetLayer headers kind bytes (ip_layer part) → AreOfPart part read → middle ≡ with_ip old read.0
-    → FillsTransport (ip_payload_of read.1) middle new → FillsNet (Some kind) bytes empty old new
-fills_ip kind bytes part read old middle new is are there fills =
+pub fills_ip : (kind : NetKind) (bytes : List ℕ) (part : IpPart) (net : Option NetHeaders) (payload : IpPayload)
+    (offset : ℕ) (old new : Headers)
+    → IsNetLayer headers kind bytes (ip_layer part) → FillsIp part bytes net payload offset
+    → FillsTransport payload (record old { net = option_map net_header_of net }) new
+    → FillsNet (Some kind) bytes empty old new
+fills_ip kind bytes part net payload offset old new is read fills =
     let layer = ip_layer part in
     let inside : IsTransportIn headers (ip_part_payload part) fills.transport =
-    subst (λ (p : IpPayload). IsTransportIn headers p fills.transport) are.1 fills.part in
+    subst (λ (p : IpPayload). IsTransportIn headers p fills.transport) read.same_payload fills.part in
+    let named : option_map net_header_of net ≡ Some (net_header_in layer) =
+    ap (option_map net_header_of) read.filled ∙ ap Some (part_headers part) in
     record {
       net = Some layer;
       transport = fills.transport;
@@ -78,30 +77,21 @@ fills_ip kind bytes part read old middle new is are there fills =
         subst (λ (p : Option IpPayload). IsTransportBehind headers p fills.transport) (sym (part_payload part)) inside,
       );
       filled = fills.filled
-          ∙ ap (λ (h : Headers). record h {
+          ∙ ap (λ n. record old {
+            net = n;
             transport = option_map transport_header_in fills.transport;
-            payload = innermost_part (ip (ip_payload_of read.1)) None fills.transport;
-          }) there
-          ∙ ap (λ (h : IpHeaders). record old {
-            net = Some (net_header_of (net_headers_of h));
-            transport = option_map transport_header_in fills.transport;
-            payload = innermost_part (ip (ip_payload_of read.1)) None fills.transport;
-          }) are.0
+            payload = innermost_part (ip payload) None fills.transport;
+          }) named
           ∙ ap (λ (p : IpPayload). record old {
-            net = Some (net_header_of (net_headers_of (ip_headers_of part)));
+            net = Some (net_header_in layer);
             transport = option_map transport_header_in fills.transport;
             payload = innermost_part (ip p) None fills.transport;
-          }) are.1
+          }) read.same_payload
           ∙ ap (λ (p : PayloadPart). record old {
-            net = Some (net_header_of (net_headers_of (ip_headers_of part)));
+            net = Some (net_header_in layer);
             transport = option_map transport_header_in fills.transport;
             payload = p;
-          }) (part_innermost part fills.transport)
-          ∙ ap (λ n. record old {
-            net = Some n;
-            transport = option_map transport_header_in fills.transport;
-            payload = innermost_part empty (Some layer) fills.transport;
-          }) (part_headers part);
+          }) (part_innermost part fills.transport);
     }
 
 -- ---- where the payload of a packet lies
@@ -179,40 +169,65 @@ part_within bytes (ipv6_part packet) is =
       length-append are.headers packet.payload.bytes,
     )
 
--- what was read of a packet: where its payload lies
-pub record LiesBehind (bytes : List ℕ) (part : IpPart) (end len : ℕ) : Type 0 where
-  pub within : end ≤ length bytes
-  pub behind : end ≡ net_header_len (ip_layer part) + len
+-- the content that the length field of IPv4 counts is the headers and the payload
+pub behind_headers : (bytes : List ℕ) (part : IpPart) (payload : IpPayloadSlice) → IsIp headers bytes part
+    → ip_payload_of payload ≡ ip_part_payload part
+    → content_end (ip_headers_of part) (length bytes) ≡ net_header_len (ip_layer part) + length payload.payload.now
+behind_headers bytes part payload is same =
+    part_content bytes part is ∙ ap (λ (p : IpPayload). net_header_len (ip_layer part) + length p.bytes) (sym same)
 
-pub lies_behind : (bytes : List ℕ) (part : IpPart) (read : IpHeaders × IpPayloadSlice) → IsIp headers bytes part
-    → AreOfPart part read
-    → LiesBehind bytes part (content_end read.0 (length bytes)) (length read.1.payload.now)
-lies_behind bytes part read is are =
-    let end : content_end read.0 (length bytes) ≡ content_end (ip_headers_of part) (length bytes) =
-    ap (λ (h : IpHeaders). content_end h (length bytes)) are.0 in
-    let len : length read.1.payload.now ≡ length (ip_part_payload part).bytes =
-    ap (λ (p : IpPayload). length p.bytes) are.1 in
-    let content = part_content bytes part is in
-    record {
-      within = omega (arith, end, content, part_within bytes part is);
-      behind = omega (arith, end, content, len);
-    }
+-- and so is what is behind the header of IPv6, with that header
+pub ipv6_content : (bytes : List ℕ) (packet : IpPacket Ipv6Header) (is : IsIpv6 headers bytes packet)
+    → 40 + length is.content ≡ net_header_len (ip_layer (ipv6_part packet)) + length packet.payload.bytes
+ipv6_content bytes packet is =
+    let are = ipv6_packet_bytes headers bytes packet is in
+    let cut = is.cut in
+    let front = ipv6_bytes packet.header in
+    let whole : length bytes ≡ (net_header_len (ip_layer (ipv6_part packet)) + length packet.payload.bytes) + length packet.left =
+    omega (
+      arith,
+      are.len_is,
+      ap length are.parts,
+      length-append (are.headers ++ packet.payload.bytes) packet.left,
+      length-append are.headers packet.payload.bytes,
+    ) in
+    let content : length bytes ≡ 40 + length is.content + length packet.left =
+    omega (
+      arith,
+      ipv6_len packet.header cut.fits,
+      ap length cut.parts,
+      length-append (front ++ is.content) packet.left,
+      length-append front is.content,
+    ) in
+    omega (arith, whole, content)
+
+-- what was read of a packet of bytes was filled in
+pub fills_read : (bytes : List ℕ) (part : IpPart) (net : Option NetHeaders) (payload : IpPayloadSlice) (offset : ℕ)
+    → IsIp headers bytes part → net ≡ Some (net_headers_of (ip_headers_of part))
+    → ip_payload_of payload ≡ ip_part_payload part → offset ≡ net_header_len (ip_layer part)
+    → FillsIp part bytes net (ip_payload_of payload) offset
+fills_read bytes part net payload offset is filled same place = record {
+  filled = filled;
+  same_payload = same;
+  place = place;
+  within = omega (arith, place, part_within bytes part is);
+}
 
 -- a refusal of the transport layer in a packet is one of the bytes
-pub ip_refused : (kind : NetKind) (bytes : List ℕ) (part : IpPart) (read : IpHeaders × IpPayloadSlice)
-    (offset at : ℕ) (error : SliceError)
-    → IsNetLayer headers kind bytes (ip_layer part) → AreOfPart part read
-    → at ≡ offset + net_header_len (ip_layer part)
-    → RefusesTransportIn headers at (ip_payload_of read.1) error
+pub ip_refused : (kind : NetKind) (bytes : List ℕ) (part : IpPart) (net : Option NetHeaders) (payload : IpPayload)
+    (offset at place : ℕ) (error : SliceError)
+    → IsNetLayer headers kind bytes (ip_layer part) → FillsIp part bytes net payload at → place ≡ offset + at
+    → RefusesTransportIn headers place payload error
     → RefusesNetPart headers offset (Some kind) bytes error
-ip_refused kind bytes part read offset at error is are there refused =
+ip_refused kind bytes part net payload offset at place error is read there refused =
     inr (
       ip_layer part,
       is,
       subst (λ (p : Option IpPayload). RefusesTransportBehind headers (offset + net_header_len (ip_layer part)) p error)
           (sym (part_payload part))
-          (subst (λ (n : ℕ). RefusesTransportIn headers n (ip_part_payload part) error) there
-          (subst (λ (p : IpPayload). RefusesTransportIn headers at p error) are.1 refused)),
+          (subst (λ (n : ℕ). RefusesTransportIn headers n (ip_part_payload part) error)
+          (there ∙ ap (λ (n : ℕ). offset + n) read.place)
+          (subst (λ (p : IpPayload). RefusesTransportIn headers place p error) read.same_payload refused)),
     )
 
 -- a refusal of what the headers say is one of the bytes
@@ -228,25 +243,23 @@ ip_content_refused bytes found error (slice_error.IpHeaders refusal, refused, sa
 
 -- bytes of no kind are a payload that is left open
 pub fills_open : (kind : Option NetKind) (bytes : List ℕ) (unread : PayloadPart) (old new : Headers) → kind ≡ None
-    → LacksNet old → new ≡ record old { payload = unread } → FillsNet kind bytes unread old new
-fills_open kind bytes unread old new none lacks filled = record {
+    → new ≡ record old { net = None; transport = None; payload = unread } → FillsNet kind bytes unread old new
+fills_open kind bytes unread old new none filled = record {
   net = None;
   transport = None;
   part = subst (λ (k : Option NetKind). IsNetPart headers k bytes None None) (sym none) (refl, refl);
-  filled = filled
-      ∙ ap (λ n. record old { net = n; payload = unread }) lacks.0
-      ∙ ap (λ t. record old { net = None; transport = t; payload = unread }) lacks.1;
+  filled = filled;
 }
 
 -- an ARP packet has no payload
-pub fills_arp : (bytes left : List ℕ) (packet : Arp) (old new : Headers) → IsArp bytes (packet, left) → LacksNet old
-    → new ≡ record old { net = Some (arp_packet packet); payload = empty }
+pub fills_arp : (bytes left : List ℕ) (packet : Arp) (old new : Headers) → IsArp bytes (packet, left)
+    → new ≡ record old { net = Some (arp_packet packet); transport = None; payload = empty }
     → FillsNet (Some only_arp) bytes empty old new
-fills_arp bytes left packet old new is lacks filled = record {
+fills_arp bytes left packet old new is filled = record {
   net = Some (arp packet);
   transport = None;
   part = (arp packet, ((packet, left), is, refl), refl, refl);
-  filled = filled ∙ ap (λ t. record old { net = Some (arp_packet packet); transport = t; payload = empty }) lacks.1;
+  filled = filled;
 }
 
 -- where a net layer stands, what would be left open does not matter

@@ -2,29 +2,25 @@
 use Rattle.std.proofs.Common.{◌≡◌, ℕ, zero, suc, ◌+◌, ◌||◌, nat_lt, if◌then◌else◌, Bool, true, false, List, [], ◌∷◌, ◌++◌, map, Option, Some, None, refl, sym, ap, subst, ◌∙◌, inr, append_assoc, arith}
 use Rattle.std.specs.Option.{option_map}
 use Rattle.std.proofs.lemmas.Bool.{lt-ltb}
-use Rattle.ep_base.specs.Layer.{headers}
+use Rattle.ep_base.specs.Layer.{headers, cut_by}
 use Rattle.ep_base.specs.declared.ether_type.EtherType.{EtherType}
 use Rattle.ep_base.specs.declared.len_source.LenSource.{LenSource}
 use Rattle.ep_base.specs.declared.len_source.LenSource.TheVariants as source
 use Rattle.ep_link.specs.EtherPayloads.{EtherPayload}
-use Rattle.ep_link.specs.LinkExtensions.{LinkExtension, vlan, macsec, IsLinkExtension, extension_ether_payload, extension_header, extension_payload, extension_type, link_ext_header_len}
+use Rattle.ep_link.specs.LinkExtensions.{LinkExtension, vlan, macsec, IsLinkExtension, extension_ether_payload, extension_header, extension_payload, link_ext_header_len}
 use Rattle.ep_link.specs.LinkSlices.{whole_ether_payload}
-use Rattle.ep_link.specs.Macsec.{MacsecPayload, unmodified, modified, macsec_len_source, macsec_payload, macsec_payload_bytes, payload_by}
+use Rattle.ep_link.specs.Macsec.{unmodified, modified, macsec_len_source, payload_by}
 use Rattle.ep_link.specs.declared.link_ext.link_ext_header.LinkExtHeader.{LinkExtHeader}
-use Rattle.ep_link.specs.declared.link_ext.macsec_header.MacsecHeader.{MacsecHeader}
 use Rattle.ep_link.specs.declared.link_ext.macsec_ptype.MacsecPType.{MacsecPType}
 use Rattle.ep_link.specs.declared.link_ext.macsec_ptype.MacsecPType.TheVariants as ptype
-use Rattle.ep_transport.specs.TransportParts.{TransportLayer}
-use Rattle.ep_packet.specs.Layers.{NetLayer}
 use Rattle.ep_packet.specs.Frame.{IsInside}
 use Rattle.ep_packet.specs.FrameBytes.{payload_behind}
-use Rattle.ep_packet.specs.PacketHeaders.{Headers, net_header_in, transport_header_in}
-use Rattle.ep_packet.specs.PayloadParts.{PayloadPart, macsec_modified, innermost_part, open_part}
+use Rattle.ep_packet.specs.PacketHeaders.{Headers}
+use Rattle.ep_packet.specs.PayloadParts.{PayloadPart, macsec_modified, open_part}
 use Rattle.ep_packet.specs.Payloads.{ether_payload_behind, has_short_len, have_short_len}
-use Rattle.ep_ip.specs.Ip.{cut_by}
 use Rattle.ep_packet.specs.declared.err.slice_error.SliceError.{SliceError}
 use Rattle.ep_packet.specs.Refusals.{RefusesInside}
-use Rattle.ep_packet.specs.HeadersWalk.{FillsInside, LacksNet, ending_by, open_behind, source_behind, with_net}
+use Rattle.ep_packet.specs.HeadersWalk.{FillsInside, ending_by, open_behind, source_behind, with_net}
 use Rattle.ep_packet.proofs.HeadersLemmas.{some_inside, typed_there, untyped_there}
 
 -- ---- what sets the end of a payload
@@ -148,10 +144,14 @@ fills_one room rest payload inside left found old middle new more is same there 
 pub fills_modified : (room rest : ℕ) (payload : EtherPayload) (left : List ℕ) (found : LinkExtension)
     (old new : Headers)
     → room ≡ suc rest → IsLinkExtension payload.ether_type payload.bytes (found, left)
-    → extension_ether_payload found ≡ None → LacksNet old
-    → new ≡ record (with_tag old found) { payload = macsec_modified (extension_payload found) }
+    → extension_ether_payload found ≡ None
+    → new ≡ record (with_tag old found) {
+      net = None;
+      transport = None;
+      payload = macsec_modified (extension_payload found);
+    }
     → FillsInside room payload old new
-fills_modified room rest payload left found old new more is none lacks filled = record {
+fills_modified room rest payload left found old new more is none filled = record {
   extensions = found ∷ [];
   net = None;
   transport = None;
@@ -161,8 +161,6 @@ fills_modified room rest payload left found old new more is none lacks filled = 
         (sym (untyped_there found none)) (refl, refl, refl),
   );
   filled = filled
-      ∙ ap (λ n. record (with_tag old found) { net = n; payload = macsec_modified (extension_payload found) }) lacks.0
-      ∙ ap (λ t. record (with_tag old found) { net = None; transport = t; payload = macsec_modified (extension_payload found) }) lacks.1
       ∙ ap (λ x. with_net (with_tag old found)
       (open_part (option_map (ending_by (source_behind payload.len_source (found ∷ []))) x) (extension_payload found)) None None)
       (sym none);

@@ -9,9 +9,11 @@ pub mod NetBytesLemmas
 pub mod PayloadLemmas
 pub mod TagLemmas
 pub mod WalkLemmas
+pub mod SliceWalkLemmas
 pub mod NetWalkLemmas
 pub mod IpHeadersLemmas
 pub mod ReadingLemmas
 pub mod HeadersLemmas
 pub mod InsideHeadersLemmas
 pub mod EntryHeadersLemmas
+pub mod NetFillLemmas

@@ -1,5 +1,5 @@
 -- That bytes have one net layer of a kind with one transport layer, or are refused with one error.
-use Rattle.std.proofs.Common.{◌≡◌, ℕ, ◌+◌, ◌++◌, List, [], Option, Some, None, refl, ap, subst, ◌∙◌}
+use Rattle.std.proofs.Common.{◌≡◌, ℕ, ◌+◌, List, [], Option, Some, None, refl, ap, subst, ◌∙◌}
 use Rattle.ep_base.specs.Bytes.{AreBytes}
 use Rattle.ep_base.specs.IpPayload.{IpPayload}
 use Rattle.ep_base.specs.Layer.{Reading}
@@ -10,8 +10,8 @@ use Rattle.ep_link.specs.Arp.{Arp}
 use Rattle.ep_transport.specs.TransportParts.{TransportLayer}
 use Rattle.ep_packet.specs.declared.err.slice_error.SliceError.{SliceError}
 use Rattle.ep_packet.specs.Layers.{NetLayer, arp, ipv4_layer, ipv6_layer, ip_layer, net_payload}
-use Rattle.ep_packet.specs.Frame.{NetKind, only_ipv4, only_ipv6, only_arp, any_ip, IsNetLayer, IsTransportIn, IsTransportBehind, IsNetPart}
-use Rattle.ep_packet.specs.Refusals.{RefusesNetLayer, RefusesTransportIn, RefusesTransportBehind, RefusesNetPart, net_header_len, transport_refusal, ipv4_refusal, ipv6_refusal, ip_refusal, len_refusal}
+use Rattle.ep_packet.specs.Frame.{NetKind, only_ipv4, only_ipv6, only_arp, any_ip, IsNetLayer, IsTransportBehind, IsNetPart}
+use Rattle.ep_packet.specs.Refusals.{RefusesNetLayer, RefusesTransportBehind, RefusesNetPart, net_header_len, transport_refusal, ipv4_refusal, ipv6_refusal, ip_refusal, len_refusal}
 use Rattle.ep_packet.specs.FrameBytes.{behind_net}
 use Rattle.ep_packet.proofs.Deciders.{Deciders}
 use Rattle.ep_packet.proofs.NetBytesLemmas.{behind_payload, layer_bytes}

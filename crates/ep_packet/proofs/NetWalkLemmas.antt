@@ -1,5 +1,5 @@
 -- The net layer in the walk over a frame, from what the calls of its slices ensure.
-use Rattle.std.proofs.Common.{◌≡◌, ℕ, ◌+◌, List, ◌++◌, length, Option, Some, refl, sym, ap, subst, ◌∙◌, inr, arith, length-append}
+use Rattle.std.proofs.Common.{◌≡◌, ℕ, ◌+◌, List, ◌++◌, length, Option, Some, refl, sym, ap, subst, inr, arith, length-append}
 use Rattle.std.specs.Option.{option_map}
 use Rattle.ep_base.specs.IpPayload.{IpPayload}
 use Rattle.ep_base.specs.Layer.{slices}

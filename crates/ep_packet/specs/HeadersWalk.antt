@@ -1,22 +1,27 @@
 -- What the walk over a frame has filled in, as the private calls of it say it.
-use Rattle.std.specs.Prelude.{◌≡◌, ℕ, ◌+◌, ◌==◌, if◌then◌else◌, List, [], ◌∷◌, ◌++◌, map, Option, Some, None}
+use Rattle.std.specs.Prelude.{◌≡◌, ℕ, ◌+◌, ◌≤◌, ◌==◌, if◌then◌else◌, List, [], ◌++◌, length, map, Option, Some, None}
 use Rattle.std.specs.Option.{option_map}
 use Rattle.ep_base.specs.IpPayload.{IpPayload}
 use Rattle.ep_base.specs.Layer.{headers}
-use Rattle.ep_base.specs.declared.ether_type.EtherType.{EtherType}
 use Rattle.ep_base.specs.declared.len_source.LenSource.{LenSource}
 use Rattle.ep_base.specs.declared.len_source.LenSource.TheVariants as source
 use Rattle.ep_link.specs.EtherPayloads.{EtherPayload}
 use Rattle.ep_link.specs.LinkExtensions.{LinkExtension, extension_header}
+use Rattle.ep_link.specs.declared.link.link_header.LinkHeader.{LinkHeader}
+use Rattle.ep_ip.specs.IpPackets.{IpPart}
 use Rattle.ep_transport.specs.TransportParts.{TransportLayer}
 use Rattle.ep_packet.specs.Frame.{NetKind, IsInside, IsNetPart, IsTransportIn}
 use Rattle.ep_packet.specs.FrameBytes.{payload_behind}
-use Rattle.ep_packet.specs.Layers.{NetLayer}
+use Rattle.ep_packet.specs.IpHeaders.{ip_headers_of, ip_part_payload}
+use Rattle.ep_packet.specs.Layers.{NetLayer, ip_layer}
+use Rattle.ep_packet.specs.NetHeaders.{net_headers_of}
 use Rattle.ep_packet.specs.PacketHeaders.{Headers, net_header_in, transport_header_in}
 use Rattle.ep_packet.specs.PayloadParts.{PayloadPart, ip, innermost_part, open_part}
 use Rattle.ep_packet.specs.Payloads.{ether_payload_behind, have_short_len}
 use Rattle.ep_packet.specs.declared.ip_headers.IpHeaders.{IpHeaders}
 use Rattle.ep_packet.specs.declared.ip_headers.IpHeaders.TheVariants as variant
+use Rattle.ep_packet.specs.declared.net_headers.NetHeaders.{NetHeaders}
+use Rattle.ep_packet.specs.Refusals.{net_header_len}
 
 -- what set the end of what lies behind some extensions, which lie in a payload whose end this set
 abbrev pub source_behind : LenSource → List LinkExtension → LenSource
@@ -40,9 +45,17 @@ with_net old unread net transport = record old {
   payload = innermost_part unread net transport;
 }
 
--- no net header and no transport header is filled in yet
-abbrev pub LacksNet : Headers → Type 0
-LacksNet old = (old.net ≡ None) × (old.transport ≡ None)
+-- these headers, of which the link layer is this one and no link extension is filled in yet
+abbrev pub begun : Headers → Option LinkHeader → Headers
+begun old link = record old { link = link; link_exts = [] }
+
+-- The IP headers of a packet that bytes begin with were filled in. This is its payload, which lies at this offset.
+pub record FillsIp (part : IpPart) (bytes : List ℕ) (net : Option NetHeaders) (payload : IpPayload)
+    (offset : ℕ) : Type 0 where
+  pub filled : net ≡ Some (net_headers_of (ip_headers_of part))
+  pub same_payload : payload ≡ ip_part_payload part
+  pub place : offset ≡ net_header_len (ip_layer part)
+  pub within : offset ≤ length bytes
 
 -- the transport layer of an IP payload was filled in, where it has one, and the payload of the last layer
 pub record FillsTransport (payload : IpPayload) (old new : Headers) : Type 0 where

@@ -71,3 +71,7 @@ ip_payload_in layers = option_and_then net_payload layers.net
 -- whether that payload is a fragment of a longer one
 abbrev pub carries_fragment : Layers → Bool
 carries_fragment layers = option_map_or (λ (payload : IpPayload). payload.fragmented) (ip_payload_in layers) false
+
+-- no layers
+abbrev pub no_layers : Layers
+no_layers = record { link = None; link_exts = []; net = None; transport = None }

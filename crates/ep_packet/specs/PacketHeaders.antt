@@ -6,7 +6,6 @@ use Rattle.ep_link.specs.ArpSlices.{arp_of}
 use Rattle.ep_link.specs.LinkExtensions.{extension_header}
 use Rattle.ep_link.specs.LinkSlices.{link_header_of}
 use Rattle.ep_link.specs.declared.link.link_header.LinkHeader.{LinkHeader}
-use Rattle.ep_link.specs.declared.link_ext.double_vlan_header.DoubleVlanHeader.{DoubleVlanHeader}
 use Rattle.ep_link.specs.declared.link_ext.link_ext_header.LinkExtHeader.{LinkExtHeader}
 use Rattle.ep_link.specs.declared.link_ext.link_ext_header.LinkExtHeader.TheVariants as tag
 use Rattle.ep_link.specs.declared.link_ext.single_vlan_header.SingleVlanHeader.{SingleVlanHeader}
@@ -17,7 +16,7 @@ use Rattle.ep_transport.specs.TransportParts.{TransportLayer}
 use Rattle.ep_transport.specs.declared.transport_header.TransportHeader.{TransportHeader}
 use Rattle.ep_packet.specs.IpHeaders.{ipv4_extensions_of}
 use Rattle.ep_packet.specs.Layers.{Layers, NetLayer, ipv4, ipv6, arp}
-use Rattle.ep_packet.specs.PayloadParts.{PayloadPart, payload_part_of, payload_part_in}
+use Rattle.ep_packet.specs.PayloadParts.{PayloadPart, empty, payload_part_of, payload_part_in}
 use Rattle.ep_packet.specs.declared.ip_headers.IpHeaders.{IpHeaders}
 use Rattle.ep_packet.specs.declared.ip_headers.IpHeaders.TheVariants as ip
 use Rattle.ep_packet.specs.declared.net_headers.NetHeaders.{NetHeaders}
@@ -52,6 +51,10 @@ pub record Headers : Type 0 where
   pub net : Option NetHeader
   pub transport : Option TransportHeader
   pub payload : PayloadPart
+
+-- those of a packet without layers
+abbrev pub no_headers : Headers
+no_headers = record { link = None; link_exts = []; net = None; transport = None; payload = empty }
 
 -- those that a packet holds
 abbrev pub headers_of : PacketHeaders → Headers

@@ -1,6 +1,6 @@
 -- Why bytes are no frame: some layers stand, and the bytes of the next one meet a row of its refusal table.
-use Rattle.std.specs.Prelude.{◌≡◌, ℕ, zero, suc, ◌+◌, ◌⊎◌, List, Option, Some, None}
-use Rattle.ep_base.specs.Layer.{Reading, slices}
+use Rattle.std.specs.Prelude.{ℕ, zero, suc, ◌+◌, ◌⊎◌, List, Option, Some, None}
+use Rattle.ep_base.specs.Layer.{Reading, slices, cut_by}
 use Rattle.ep_base.specs.Tables.{Parts, RefusesAs}
 use Rattle.ep_base.specs.declared.ether_type.EtherType.{EtherType}
 use Rattle.ep_base.specs.declared.err.len_error.LenError.{LenError}
@@ -26,7 +26,6 @@ use Rattle.ep_link.specs.Ethernet2.{ethernet2_header_len, IsEthernet2, RefusesEt
 use Rattle.ep_link.specs.LinuxSll.{linux_sll_header_len, IsLinuxSll, RefusesLinuxSll, protocol_ether_type}
 use Rattle.ep_link.specs.LinkExtensions.{LinkExtension, BeginsLinkExtension, IsLinkExtension, RefusesLinkExtension, extension_header, extension_payload, extension_type, link_ext_header_len}
 use Rattle.ep_base.specs.IpPayload.{IpPayload}
-use Rattle.ep_ip.specs.Ip.{cut_by}
 use Rattle.ep_ip.specs.IpBytes.{ipv4_headers_len, ipv6_headers_len}
 use Rattle.ep_ip.specs.IpPackets.{RefusesIpv4, RefusesIpv6, RefusesIp}
 use Rattle.ep_transport.specs.TransportParts.{RefusesTransportPart}

@@ -1,6 +1,6 @@
 -- What the walk over a frame has found, as the private calls of it say it.
-use Rattle.std.specs.Prelude.{◌≡◌, ℕ, ◌+◌, length, List, ◌++◌, map, Option, Some}
-use Rattle.std.specs.Option.{option_map}
+use Rattle.std.specs.Prelude.{◌≡◌, ◌≤◌, ℕ, ◌+◌, length, List, map, Option, Some}
+use Rattle.std.specs.Option.{option_and_then, option_map}
 use Rattle.ep_base.specs.Layer.{slices}
 use Rattle.ep_base.specs.declared.ether_type.EtherType.{EtherType}
 use Rattle.ep_link.specs.declared.link.link_slice.LinkSlice.{LinkSlice}
@@ -8,12 +8,15 @@ use Rattle.ep_link.specs.declared.link_ext.link_ext_slice.LinkExtSlice.{LinkExtS
 use Rattle.ep_link.specs.LinkExtensions.{link_extension_of}
 use Rattle.ep_transport.specs.declared.transport_slice.TransportSlice.{TransportSlice}
 use Rattle.ep_transport.specs.TransportParts.{transport_layer_of}
+use Rattle.ep_packet.specs.declared.err.slice_error.SliceError.{SliceError}
+use Rattle.ep_packet.specs.declared.entry.Entry.{Entry}
 use Rattle.ep_packet.specs.declared.net_slice.NetSlice.{NetSlice}
 use Rattle.ep_packet.specs.declared.sliced_packet.SlicedPacket.{SlicedPacket}
-use Rattle.ep_packet.specs.Layers.{net_layer_of}
-use Rattle.ep_packet.specs.Frame.{NetKind, IsInside, IsNetPart, most_link_exts}
-use Rattle.ep_packet.specs.Refusals.{net_header_len}
-use Rattle.ep_packet.specs.ShownBytes.{ShowsInside, ShowsNet, net_slice_bytes, net_slice_payload}
+use Rattle.ep_packet.specs.declared.sliced_packet_walk.LinkPart.{LinkPart}
+use Rattle.ep_packet.specs.Layers.{layers_of, net_layer_of}
+use Rattle.ep_packet.specs.Frame.{NetKind, IsFrame, IsInside, IsNetPart, most_link_exts, net_kind}
+use Rattle.ep_packet.specs.Refusals.{RefusesFrame, RefusesInside, RefusesNetPart, net_header_len}
+use Rattle.ep_packet.specs.ShownBytes.{ShowsBytes, ShowsInside, ShowsNet, net_slice_bytes, net_slice_payload}
 
 -- the slices are the net layer of a kind that bytes are and the transport layer in it, and show these bytes
 pub record HoldsNet (kind : Option NetKind) (bytes : List ℕ) (net : Option NetSlice)
@@ -21,7 +24,7 @@ pub record HoldsNet (kind : Option NetKind) (bytes : List ℕ) (net : Option Net
   pub part : IsNetPart slices kind bytes (option_map net_layer_of net) (option_map transport_layer_of transport)
   pub shows : ShowsNet bytes net transport
 
--- the bytes that a slice of an IP packet shows are those of its headers and of its payload
+-- a slice of an IP packet shows as many bytes as its headers and its payload have
 abbrev pub HasHeaders : NetSlice → Type 0
 HasHeaders net =
     length (net_slice_bytes net) ≡ net_header_len (net_layer_of net) + length (net_slice_payload net)
@@ -33,11 +36,32 @@ pub record HoldsBehind (link : LinkSlice) (type : Option EtherType) (bytes : Lis
       (option_map net_layer_of packet.net) (option_map transport_layer_of packet.transport)
   pub shows : ShowsInside bytes packet.link_exts.items packet.net packet.transport
 
--- what bytes of a type hold, where at most so many link extensions are taken, was appended
-pub record AppendsInside (room : ℕ) (type : Option EtherType) (bytes : List ℕ) (old new : List LinkExtSlice)
+-- The link extensions, the net layer and the transport layer are what bytes of a type hold, and show these bytes.
+pub record HoldsInside (type : Option EtherType) (bytes : List ℕ) (extensions : List LinkExtSlice)
     (net : Option NetSlice) (transport : Option TransportSlice) : Type 0 where
-  pub extensions : List LinkExtSlice
-  pub appended : new ≡ old ++ extensions
-  pub inside : IsInside slices room type bytes (map link_extension_of extensions)
+  pub inside : IsInside slices most_link_exts type bytes (map link_extension_of extensions)
       (option_map net_layer_of net) (option_map transport_layer_of transport)
   pub shows : ShowsInside bytes extensions net transport
+
+-- the kind of net layer that bytes of a type are, where it is known
+abbrev pub net_kind_in : Option EtherType → Option NetKind
+net_kind_in = option_and_then net_kind
+
+-- Bytes of a type, `offset` bytes behind the packet's start, hold these link extensions and no further one that is
+-- taken: the net part of the bytes behind them is theirs, and so is its refusal.
+pub record HasExtensions (offset : ℕ) (type : Option EtherType) (bytes : List ℕ) (extensions : List LinkExtSlice)
+    (rest_offset : ℕ) (rest_type : Option EtherType) (rest : List ℕ) : Type 0 where
+  pub place : rest_offset + length rest ≤ offset + length bytes
+  pub holds : (net : Option NetSlice) (transport : Option TransportSlice)
+      → HoldsNet (net_kind_in rest_type) rest net transport → HoldsInside type bytes extensions net transport
+  pub refused : (error : SliceError) → RefusesNetPart slices rest_offset (net_kind_in rest_type) rest error
+      → RefusesInside slices most_link_exts offset type bytes error
+
+-- The bytes begin with this link layer, as an entry says: the packet is the link layer and what its payload holds, and
+-- its refusal is that of the payload.
+pub record BeginsPacket (entry : Entry) (bytes : List ℕ) (part : LinkPart) : Type 0 where
+  pub holds : (packet : SlicedPacket) → HoldsBehind part.link part.ether_type part.slice.now packet
+      → IsFrame entry bytes (layers_of packet) × ShowsBytes bytes packet
+  pub refused : (error : SliceError)
+      → RefusesInside slices most_link_exts part.offset part.ether_type part.slice.now error
+      → RefusesFrame entry bytes error

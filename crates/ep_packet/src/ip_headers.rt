@@ -22,8 +22,8 @@ pub enum IpHeaders {
 }
 
 impl IpHeaders {
-    ghost use Rattle.std.specs.Prelude.{◌≡◌, ◌≤◌, ◌+◌, ◌++◌, ◌↔◌, ℕ, List, Err, IfOk, IfErr, OnOk, OnErr, IsOkAnd};
-    ghost use Rattle.std.specs.Prelude.{MatchResult};
+    ghost use Rattle.std.specs.Prelude.{◌≡◌, ◌<◌, ◌≤◌, ◌+◌, ◌++◌, ◌↔◌, ℕ, List, length, Err, IfOk, IfErr, OnOk, OnErr};
+    ghost use Rattle.std.specs.Prelude.{IsOkAnd, MatchResult, vec_len, vec_capacity};
     ghost use Rattle.std.specs.Option.{option_map};
     ghost use Rattle.ep_base.specs.Tables.{Refuses};
     ghost use Rattle.ep_base.specs.declared.err.ip_exts.ExtsWalkError.{ExtsWalkError};
@@ -33,6 +33,7 @@ impl IpHeaders {
     ghost use Rattle.ep_packet.specs.IpHeaders.{headers_fragment, linked_headers, with_payload_len, payload_len_rows};
     ghost use Rattle.ep_packet.specs.IpHeaders.{FitsIpHeader, ip_extensions_len, most_behind_header, ip_header_bytes};
     ghost use Rattle.ep_packet.specs.IpHeaders.{with_checksum, written_headers, LeadThrough, RefusesLeading};
+    ghost use Rattle.ep_packet.specs.declared.err.headers_write_error.HeadersWriteError.TheVariants as write_error;
 
     /// The number of bytes of the longest headers, which are of IPv6.
     pub const MAX_LEN: usize = 9268;
@@ -159,7 +160,8 @@ impl IpHeaders {
 
     /// Appends the headers' bytes: the header, with its checksum as it is computed, and the extension headers in the
     /// order in which the numbers lead to them. That the numbers lead to each is looked at first. A refusal leaves the
-    /// buffer as it was. Each field of what is written fits its place.
+    /// buffer as it was, and want of memory comes only where the buffer would have to grow. Each field of what is
+    /// written fits its place.
     pub fn write(&self, buf: &mut Vec<u8>) -> Result<(), HeadersWriteError>
         ensures ok { OnOk result ((parts : List ExtensionPart) × (last : ℕ) × LeadThrough self.now parts last
             × FitParts parts × (buf.new.items ≡ buf.old.items ++ written_headers self.now parts)) }
@@ -167,6 +169,10 @@ impl IpHeaders {
         ensures fits { OnOk result (FitsIpHeader self.now) }
         ensures leading { (error : ExtsWalkError)
             → RefusesLeading self.now error ↔ (result ≡ Err (of_walk_error error)) }
+        ensures full { result ≡ Err write_error.OutOfMemory
+            → (parts : List ExtensionPart) × (last : ℕ) × LeadThrough self.now parts last
+            × (vec_capacity buf.old < vec_len buf.old + length (written_headers self.now parts)) }
+        ensures capacity { vec_capacity buf.old ≤ vec_capacity buf.new }
     {
         if let Err(error) = self.next_header() {
             return Err(of_walk_error(error));
@@ -184,11 +190,15 @@ impl IpHeaders {
         }
     }
 
-    /// Appends the header's bytes, with its checksum as it is computed. A refusal leaves the buffer as it was.
+    /// Appends the header's bytes, with its checksum as it is computed. A refusal leaves the buffer as it was, and
+    /// comes only where the buffer would have to grow.
     fn write_header(&self, buf: &mut Vec<u8>) -> Result<(), AllocError>
         ensures ok { OnOk result (buf.new.items ≡ buf.old.items ++ ip_header_bytes (with_checksum self.now)) }
         ensures err { OnErr result (buf.new.items ≡ buf.old.items) }
         ensures fits { FitsIpHeader self.now }
+        ensures full { OnErr result (vec_capacity buf.old < vec_len buf.old
+            + length (ip_header_bytes (with_checksum self.now))) }
+        ensures capacity { vec_capacity buf.old ≤ vec_capacity buf.new }
     {
         match self {
             IpHeaders::Ipv4(header, _) => header.write(buf),
@@ -197,13 +207,17 @@ impl IpHeaders {
     }
 
     /// Appends the extension headers' bytes in the order in which the numbers lead to them, where they lead to each. A
-    /// refusal leaves the buffer as it was.
+    /// refusal leaves the buffer as it was, and want of memory comes only where the buffer would have to grow.
     fn write_extensions(&self, buf: &mut Vec<u8>) -> Result<(), HeadersWriteError>
         ensures ok { OnOk result ((parts : List ExtensionPart) × (last : ℕ) × LeadThrough self.now parts last
             × FitParts parts × (buf.new.items ≡ buf.old.items ++ parts_bytes parts)) }
         ensures err { OnErr result (buf.new.items ≡ buf.old.items) }
         ensures leading { (error : ExtsWalkError)
             → RefusesLeading self.now error ↔ (result ≡ Err (of_walk_error error)) }
+        ensures full { result ≡ Err write_error.OutOfMemory
+            → (parts : List ExtensionPart) × (last : ℕ) × LeadThrough self.now parts last
+            × (vec_capacity buf.old < vec_len buf.old + length (parts_bytes parts)) }
+        ensures capacity { vec_capacity buf.old ≤ vec_capacity buf.new }
     {
         match self {
             IpHeaders::Ipv4(header, extensions) => {

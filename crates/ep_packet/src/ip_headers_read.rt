@@ -11,16 +11,21 @@ ghost use Rattle.ep_ip.specs.declared.ipv6_header.Ipv6Header.{Ipv6Header};
 ghost use Rattle.ep_ip.specs.IpPackets.{IpPacket, IpPart, IsIp, IsIpv4, IsIpv6, RefusesIp, RefusesIpv4, RefusesIpv6};
 ghost use Rattle.ep_ip.specs.IpPackets.{ipv4_part, ipv6_part, of_ipv4_error, of_ipv6_error};
 ghost use Rattle.ep_ip.specs.Ipv6.{IsIpv6Packet, RefusesIpv6Packet, ipv6_payload_source};
-ghost use Rattle.ep_ext.specs.Ipv4Chains.{ipv4_parts, ipv4_slice_parts};
+ghost use Rattle.ep_base.specs.IpPayload.{ip_payload_of};
+ghost use Rattle.ep_base.specs.Layer.{len_error};
+ghost use Rattle.ep_base.specs.declared.err.layer.Layer.TheVariants as layer;
+ghost use Rattle.ep_base.specs.declared.len_source.LenSource.TheVariants as source;
+ghost use Rattle.ep_ext.specs.Chains.{is_ipv6_extension};
+ghost use Rattle.ep_ext.specs.Ipv6Chains.{no_ipv6_extensions};
+ghost use Rattle.ep_ip.specs.Ipv4Slices.{ipv4_slice_packet, ipv4_slice_payload};
 ghost use Rattle.ep_packet.specs.IpHeaders.{AreOfPart, of_slice_error};
 
 use crate::ip_headers::IpHeaders;
-use crate::limits::refusal_in;
 use ep_base::err::ip::{HeaderError, HeadersError, HeadersSliceError};
 use ep_base::err::{Layer, LenError, ipv4, ipv6, ipv6_exts};
-use ep_base::{IpNumber, IpPayloadSlice, LenSource};
-use ep_ext::{Ipv4Extensions, Ipv4ExtensionsSlice, Ipv6Extensions};
-use ep_ip::{Ipv4Slice, Ipv6Header};
+use ep_base::{IpNumber, IpPayloadSlice, LenSource, ip_number};
+use ep_ext::{Ipv4Extensions, Ipv6Extensions};
+use ep_ip::{Ipv4Slice, Ipv6Header, Ipv6HeaderSlice};
 
 impl IpHeaders {
     ghost use Rattle.std.specs.Prelude.{◌≡◌, IfOk, IfErr, IsOkAnd};
@@ -35,7 +40,7 @@ impl IpHeaders {
 
     /// The headers at the front of the slice, of the version that its first byte says, and the payload behind them,
     /// which the header's length field cuts. A second extension header of a kind belongs to the payload.
-    #[inline]
+    #[inline(always)]
     pub fn from_slice(slice: &[u8]) -> Result<(IpHeaders, IpPayloadSlice<'_>), HeadersSliceError>
         ensures ok { IfOk result (λ read. (part : IpPart) × IsIp headers slice.now part × AreOfPart part read) }
         ensures only { (part : IpPart) → IsIp headers slice.now part → IsOkAnd result (AreOfPart part) }
@@ -45,7 +50,7 @@ impl IpHeaders {
     }
 
     /// What [`IpHeaders::from_slice`] answers, of the payload its number and its bytes.
-    #[inline]
+    #[inline(always)]
     pub fn read_from_slice(slice: &[u8]) -> Result<(IpHeaders, IpNumber, &[u8]), HeadersSliceError>
         ensures ok { IfOk result (λ read. (part : IpPart) × IsIp headers slice.now part
             × HasBytes part (read.0, read.1, read.2.now)) }
@@ -60,7 +65,7 @@ impl IpHeaders {
     }
 
     /// The headers of IPv4 at the front of the slice, and the payload behind them, which the total length cuts.
-    #[inline]
+    #[inline(always)]
     pub fn from_ipv4_slice(
         slice: &[u8],
     ) -> Result<(IpHeaders, IpPayloadSlice<'_>), ipv4::SliceError>
@@ -75,7 +80,7 @@ impl IpHeaders {
 
     /// The headers of IPv6 at the front of the slice, and the payload behind them, which the payload length cuts; the
     /// number 0 takes all bytes. A second extension header of a kind belongs to the payload.
-    #[inline]
+    #[inline(always)]
     pub fn from_ipv6_slice(
         slice: &[u8],
     ) -> Result<(IpHeaders, IpPayloadSlice<'_>), ipv6::SliceError>
@@ -89,24 +94,20 @@ impl IpHeaders {
     }
 }
 
-/// The headers of either version at the front of the slice, and the payload behind them.
-#[inline]
+/// The headers of either version at the front of the slice, and the payload behind them. Each answer is built where it
+/// is given, since headers are large and a call that is not inlined copies them.
+#[inline(always)]
 fn read_ip(slice: &[u8]) -> Result<(IpHeaders, IpPayloadSlice<'_>), HeadersSliceError>
     ensures ok { IfOk result (λ read. (part : IpPart) × IsIp headers slice.now part × AreOfPart part read) }
     ensures err { IfErr result (RefusesAs of_slice_error (RefusesIp headers slice.now)) }
 {
     if slice.len() == 0 {
-        return Err(HeadersSliceError::Len(LenError::at_start(
-            1,
-            0,
-            LenSource::Slice,
-            Layer::IpHeader,
-        )));
+        return Err(no_version());
     }
     let version_number = slice[0] >> 4;
     if version_number == 4 {
-        return match read_ipv4(slice) {
-            Ok(read) => Ok(read),
+        return match Ipv4Slice::from_slice(slice) {
+            Ok(packet) => Ok(value_of_ipv4(&packet)),
             Err(error) => Err(of_ipv4_error(error)),
         };
     }
@@ -120,54 +121,74 @@ fn read_ip(slice: &[u8]) -> Result<(IpHeaders, IpPayloadSlice<'_>), HeadersSlice
 }
 
 /// The headers of IPv4 at the front of the slice, and the payload behind them.
-#[inline]
+#[inline(always)]
 fn read_ipv4(slice: &[u8]) -> Result<(IpHeaders, IpPayloadSlice<'_>), ipv4::SliceError>
     ensures ok { IfOk result (λ read. (packet : IpPacket Ipv4Header) × IsIpv4 headers slice.now packet
         × AreOfPart (ipv4_part packet) read) }
     ensures err { IfErr result (RefusesIpv4 headers slice.now) }
 {
     match Ipv4Slice::from_slice(slice) {
-        Ok(packet) => {
-            let header = packet.header().to_header();
-            let extensions = by_value(&packet.extensions());
-            let shown = packet.payload();
-            let payload = IpPayloadSlice {
-                ip_number: shown.ip_number,
-                fragmented: shown.fragmented,
-                len_source: shown.len_source,
-                payload: shown.payload,
-            };
-            Ok((IpHeaders::Ipv4(header, extensions), payload))
-        }
+        Ok(packet) => Ok(value_of_ipv4(&packet)),
         Err(error) => Err(error),
     }
 }
 
-/// The authentication header by value, where there is one.
-#[inline]
-fn by_value(extensions: &Ipv4ExtensionsSlice) -> Ipv4Extensions
-    ensures { ipv4_parts result ≡ ipv4_slice_parts extensions.now }
+/// The headers of an IPv4 packet, and its payload.
+#[inline(always)]
+fn value_of_ipv4<'a>(packet: &Ipv4Slice<'a>) -> (IpHeaders, IpPayloadSlice<'a>)
+    ensures { (left : List ℕ) → AreOfPart (ipv4_part (ipv4_slice_packet packet.now left)) result }
 {
-    match &extensions.auth {
-        Some(header) => Ipv4Extensions {
-            auth: Some(header.to_header()),
-        },
-        None => Ipv4Extensions { auth: None },
+    let header = packet.header().to_header();
+    match packet.extensions().auth {
+        Some(auth) => {
+            let auth = Some(auth.to_header());
+            (
+                IpHeaders::Ipv4(header, Ipv4Extensions { auth }),
+                payload_of_ipv4(packet),
+            )
+        }
+        None => (
+            IpHeaders::Ipv4(header, Ipv4Extensions { auth: None }),
+            payload_of_ipv4(packet),
+        ),
     }
 }
 
-/// The headers of IPv6 at the front of the slice, and the payload behind them.
+/// The payload of an IPv4 packet.
 #[inline]
+pub(crate) fn payload_of_ipv4<'a>(packet: &Ipv4Slice<'a>) -> IpPayloadSlice<'a>
+    ensures { ip_payload_of result ≡ ipv4_slice_payload packet.now }
+{
+    let shown = packet.payload();
+    IpPayloadSlice {
+        ip_number: shown.ip_number,
+        fragmented: shown.fragmented,
+        len_source: shown.len_source,
+        payload: shown.payload,
+    }
+}
+
+/// The headers of IPv6 at the front of the slice, and the payload behind them. Without extension headers, no room for
+/// them is read.
+#[inline(always)]
 fn read_ipv6(slice: &[u8]) -> Result<(IpHeaders, IpPayloadSlice<'_>), ipv6::SliceError>
     ensures ok { IfOk result (λ read. (packet : IpPacket Ipv6Header) × IsIpv6 headers slice.now packet
         × AreOfPart (ipv6_part packet) read) }
     ensures err { IfErr result (RefusesIpv6 headers slice.now) }
 {
-    let (header, content) = match cut(slice) {
+    let (header, content, len_source) = match cut(slice) {
         Ok(cut) => cut,
         Err(error) => return Err(error),
     };
-    let len_source = payload_source(&header, content);
+    if !is_extension(header.next_header) {
+        let payload = IpPayloadSlice {
+            ip_number: header.next_header,
+            fragmented: false,
+            len_source,
+            payload: content,
+        };
+        return Ok((IpHeaders::Ipv6(header, no_extensions()), payload));
+    }
     match Ipv6Extensions::from_slice(header.next_header, content) {
         Ok((extensions, ip_number, payload)) => {
             let payload = IpPayloadSlice {
@@ -179,54 +200,63 @@ fn read_ipv6(slice: &[u8]) -> Result<(IpHeaders, IpPayloadSlice<'_>), ipv6::Slic
             Ok((IpHeaders::Ipv6(header, extensions), payload))
         }
         Err(ipv6_exts::HeaderSliceError::Len(error)) => {
-            Err(ipv6::SliceError::Len(refusal_in(error, Ipv6Header::LEN, len_source)))
+            Err(ipv6::SliceError::Len(error.behind_header(Ipv6Header::LEN, len_source)))
         }
         Err(ipv6_exts::HeaderSliceError::Content(error)) => Err(ipv6::SliceError::Exts(error)),
     }
 }
 
-/// The header of IPv6 at the front of the slice, and the bytes behind it, which its payload length cuts.
-fn cut(slice: &[u8]) -> Result<(Ipv6Header, &[u8]), ipv6::SliceError>
+/// No extension headers.
+#[inline(always)]
+pub(crate) fn no_extensions() -> Ipv6Extensions
+    ensures { result ≡ no_ipv6_extensions }
+{
+    Ipv6Extensions {
+        hop_by_hop_options: None,
+        destination_options: None,
+        routing: None,
+        fragment: None,
+        auth: None,
+    }
+}
+
+/// Whether the number is that of an extension header of IPv6.
+#[inline]
+pub(crate) fn is_extension(number: IpNumber) -> bool
+    ensures { result ≡ is_ipv6_extension number.0 }
+{
+    number == ip_number::IPV6_HEADER_HOP_BY_HOP
+        || number == ip_number::IPV6_ROUTE_HEADER
+        || number == ip_number::IPV6_FRAGMENTATION_HEADER
+        || number == ip_number::AUTHENTICATION_HEADER
+        || number == ip_number::IPV6_DESTINATION_OPTIONS
+}
+
+/// The header of IPv6 at the front of the slice, the bytes behind it, which its payload length cuts, and what set their
+/// end.
+pub(crate) fn cut(slice: &[u8]) -> Result<(Ipv6Header, &[u8], LenSource), ipv6::SliceError>
     ensures ok { IfOk result (λ read. (left : List ℕ)
         × IsIpv6Packet slice.now (parts_of read.0 read.1.now left)) }
+    ensures source { IfOk result (λ read. read.2 ≡ ipv6_payload_source read.0 read.1.now) }
     ensures within { IfOk result (λ read. 40 + length read.1.now ≤ length slice.now) }
     ensures err { IfErr result (RefusesIpv6Packet slice.now) }
 {
-    let (header, behind) = match Ipv6Header::from_slice(slice) {
+    let (header, content, len_source) = match Ipv6HeaderSlice::from_packet_slice(slice) {
         Ok(read) => read,
-        Err(ipv6::HeaderSliceError::Len(error)) => return Err(ipv6::SliceError::Len(error)),
-        Err(ipv6::HeaderSliceError::Content(error)) => {
-            return Err(ipv6::SliceError::Header(error));
-        }
+        Err(error) => return Err(error),
     };
-    let payload_length = header.payload_length as usize;
-    if payload_length == 0 {
-        return Ok((header, behind));
-    }
-    if behind.len() < payload_length {
-        return Err(ipv6::SliceError::Len(LenError::at_start(
-            Ipv6Header::LEN + payload_length,
-            slice.len(),
-            LenSource::Slice,
-            Layer::Ipv6Packet,
-        )));
-    }
-    Ok((header, &behind[..payload_length]))
+    Ok((header.to_header(), content, len_source))
 }
 
-/// What set the end of the bytes behind the header: those at hand, where the payload length is 0 and took some.
-fn payload_source(header: &Ipv6Header, content: &[u8]) -> LenSource
-    ensures { result ≡ ipv6_payload_source header.now content.now }
+/// The refusal of no bytes, which have no version.
+pub(crate) fn no_version() -> HeadersSliceError
+    ensures { result ≡ headers_slice_error.Len (len_error 1 0 source.Slice layer.IpHeader) }
 {
-    if header.payload_length == 0 && content.len() > 0 {
-        LenSource::Slice
-    } else {
-        LenSource::Ipv6HeaderPayloadLen
-    }
+    HeadersSliceError::Len(LenError::at_start(1, 0, LenSource::Slice, Layer::IpHeader))
 }
 
 /// The refusal of a version.
-fn unsupported(version_number: u8) -> HeadersSliceError
+pub(crate) fn unsupported(version_number: u8) -> HeadersSliceError
     ensures { result ≡ headers_slice_error.Content (headers_error.Ip (content.UnsupportedIpVersion version_number)) }
 {
     HeadersSliceError::Content(HeadersError::Ip(HeaderError::UnsupportedIpVersion {
@@ -235,7 +265,7 @@ fn unsupported(version_number: u8) -> HeadersSliceError
 }
 
 /// A refusal of the headers of IPv4 among those of either version.
-fn of_ipv4_error(error: ipv4::SliceError) -> HeadersSliceError
+pub(crate) fn of_ipv4_error(error: ipv4::SliceError) -> HeadersSliceError
     ensures { result ≡ of_slice_error (of_ipv4_error error) }
 {
     match error {
@@ -253,7 +283,7 @@ fn of_ipv4_error(error: ipv4::SliceError) -> HeadersSliceError
 }
 
 /// A refusal of the headers of IPv6 among those of either version.
-fn of_ipv6_error(error: ipv6::SliceError) -> HeadersSliceError
+pub(crate) fn of_ipv6_error(error: ipv6::SliceError) -> HeadersSliceError
     ensures { result ≡ of_slice_error (of_ipv6_error error) }
 {
     match error {

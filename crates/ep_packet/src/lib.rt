@@ -6,13 +6,14 @@ pub mod err;
 mod ip_headers;
 mod ip_headers_read;
 pub mod laws;
-mod limits;
 mod net_headers;
+mod net_headers_fill;
 mod net_slice;
 mod packet_headers;
 mod payload_slice;
 mod sliced_packet;
 mod sliced_packet_payload;
+mod sliced_packet_walk;
 
 pub use arrayvec::ArrayVec;
 pub use entry::Entry;

@@ -4,24 +4,26 @@ ghost use Rattle.std.specs.Prelude.{◌≡◌, ◌+◌, ◌-◌, ◌<◌, ◌≤
 ghost use Rattle.ep_base.specs.Layer.{headers};
 ghost use Rattle.ep_base.specs.IpPayload.{ip_payload_of};
 ghost use Rattle.ep_link.specs.EtherPayloads.{ether_payload_of};
+ghost use Rattle.ep_link.specs.LinkSlices.{whole_ether_payload};
 ghost use Rattle.ep_packet.specs.Frame.{most_link_exts, only_ipv4, only_ipv6, only_arp, any_ip, net_kind};
 ghost use Rattle.ep_packet.specs.PacketHeaders.{headers_of};
 ghost use Rattle.ep_packet.specs.PayloadParts.{ether, empty};
 ghost use Rattle.ep_packet.specs.Refusals.{RefusesInside, RefusesNetPart, RefusesTransportIn};
-ghost use Rattle.ep_packet.specs.HeadersWalk.{FillsInside, FillsNet, FillsTransport, LacksNet, content_end};
+ghost use Rattle.ep_packet.specs.HeadersWalk.{FillsInside, FillsNet, FillsTransport, begun};
 
+use crate::entry::Entry;
 use crate::err::SliceError;
-use crate::ip_headers::IpHeaders;
-use crate::limits::{limit_in, refusal_in};
 use crate::net_headers::NetHeaders;
+use crate::net_headers_fill::{fill_ip, fill_ipv4, fill_ipv6};
 use crate::payload_slice::PayloadSlice;
 use arrayvec::ArrayVec;
-use ep_base::err::{ip, ipv4, ipv6, macsec, tcp};
+use ep_base::err::{ip, ipv4, ipv6, linux_sll, macsec, tcp};
 use ep_base::{EtherPayloadSlice, EtherType, IpPayloadSlice, LenSource, VlanId, ether_type};
-use ep_ip::Ipv6Header;
+use ep_ext::Ipv4Extensions;
+use ep_ip::Ipv4Header;
 use ep_link::{
     ArpPacketSlice, DoubleVlanHeader, Ethernet2Header, Ethernet2Slice, LinkExtHeader, LinkExtSlice,
-    LinkHeader, VlanHeader,
+    LinkHeader, LinuxSllHeader, LinuxSllSlice, VlanHeader,
 };
 use ep_transport::TransportHeader;
 
@@ -43,18 +45,57 @@ pub struct PacketHeaders<'a> {
 }
 
 impl<'a> PacketHeaders<'a> {
-    ghost use Rattle.std.specs.Prelude.{IsOkAnd, [], None};
-    ghost use Rattle.ep_packet.specs.declared.entry.Entry.TheVariants.{Ethernet as ethernet, EtherType as of_type, Ip as ip};
+    ghost use Rattle.std.specs.Prelude.{IsOkAnd, OnOk, OnErr, None};
+    ghost use Rattle.ep_packet.specs.declared.entry.Entry.TheVariants.{Ethernet as ethernet, LinuxSll as linux_sll};
+    ghost use Rattle.ep_packet.specs.declared.entry.Entry.TheVariants.{EtherType as of_type, Ip as ip};
     ghost use Rattle.ep_packet.specs.Layers.{Layers};
     ghost use Rattle.ep_packet.specs.Frame.{IsFrameIn};
-    ghost use Rattle.ep_packet.specs.PacketHeaders.{LieIn, headers_in, header_vlan_ids, outer_headers, vlan_headers};
+    ghost use Rattle.ep_packet.specs.PacketHeaders.{LieIn, headers_in, header_vlan_ids, no_headers, outer_headers};
+    ghost use Rattle.ep_packet.specs.PacketHeaders.{vlan_headers};
     ghost use Rattle.ep_packet.specs.PayloadParts.{payload_part_bytes, payload_part_of};
     ghost use Rattle.ep_packet.specs.Refusals.{RefusesFrameIn};
 
     /// The greatest number of link extensions that are taken. A further one is left as payload.
     pub const LINK_EXTS_CAP: usize = 3;
 
+    /// A packet without layers, whose payload is `Empty`.
+    pub fn new() -> PacketHeaders<'a>
+        ensures { headers_of result ≡ no_headers }
+    {
+        PacketHeaders {
+            link: None,
+            link_exts: ArrayVec::new(),
+            net: None,
+            transport: None,
+            payload: PayloadSlice::Empty,
+        }
+    }
+
+    /// Reads the packet that begins with what `entry` says into the value, for a caller in a loop that keeps one packet:
+    /// where the packet before was of the same version of IP, and this one has no extension headers of IPv6, room for
+    /// headers that are not there is not touched. A refusal leaves a packet without layers. The payload of a cooked packet whose protocol is no ether type is `MacsecMod`,
+    /// as other bytes are whose type is not known.
+    pub fn read_into(&mut self, entry: Entry, bytes: &'a [u8]) -> Result<(), SliceError>
+        ensures ok { OnOk result ((layers : Layers) × IsFrameIn headers entry bytes.now layers
+            × (headers_of self.new ≡ headers_in layers)) }
+        ensures only { (layers : Layers) → IsFrameIn headers entry bytes.now layers
+            → IsOkAnd result (λ _. headers_of self.new ≡ headers_in layers) }
+        ensures bytes { OnOk result (LieIn (payload_part_bytes (payload_part_of self.new.payload)) bytes.now) }
+        ensures err { IfErr result (RefusesFrameIn headers entry bytes.now) }
+        ensures none { OnErr result (headers_of self.new ≡ no_headers) }
+    {
+        match self.fill(entry, bytes) {
+            Ok(()) => Ok(()),
+            Err(error) => {
+                self.begin(None);
+                self.end(PayloadSlice::Empty);
+                Err(error)
+            }
+        }
+    }
+
     /// The headers of the packet that begins with an Ethernet II header.
+    #[inline(always)]
     pub fn from_ethernet_slice(slice: &'a [u8]) -> Result<PacketHeaders<'a>, SliceError>
         ensures ok { IfOk result (λ packet. (layers : Layers) × IsFrameIn headers ethernet slice.now layers
             × (headers_of packet ≡ headers_in layers)) }
@@ -63,16 +104,15 @@ impl<'a> PacketHeaders<'a> {
         ensures bytes { IfOk result (λ packet. LieIn (payload_part_bytes (payload_part_of packet.payload)) slice.now) }
         ensures err { IfErr result (RefusesFrameIn headers ethernet slice.now) }
     {
-        let frame = match Ethernet2Slice::from_slice_without_fcs(slice) {
-            Ok(frame) => frame,
-            Err(error) => return Err(SliceError::Len(error)),
-        };
-        let mut packet = PacketHeaders::behind(Some(LinkHeader::Ethernet2(frame.to_header())));
-        packet.fill_inside(Ethernet2Header::LEN, frame.payload())?;
-        Ok(packet)
+        let mut packet = PacketHeaders::room();
+        match packet.fill(Entry::Ethernet, slice) {
+            Ok(()) => Ok(packet),
+            Err(error) => Err(error),
+        }
     }
 
     /// The headers of the packet that is the payload of a link layer, with the type that the link layer gives.
+    #[inline(always)]
     pub fn from_ether_type(
         ether_type: EtherType,
         slice: &'a [u8],
@@ -84,17 +124,15 @@ impl<'a> PacketHeaders<'a> {
         ensures bytes { IfOk result (λ packet. LieIn (payload_part_bytes (payload_part_of packet.payload)) slice.now) }
         ensures err { IfErr result (RefusesFrameIn headers (of_type ether_type) slice.now) }
     {
-        let payload = EtherPayloadSlice {
-            ether_type,
-            len_source: LenSource::Slice,
-            payload: slice,
-        };
-        let mut packet = PacketHeaders::behind(None);
-        packet.fill_inside(0, payload)?;
-        Ok(packet)
+        let mut packet = PacketHeaders::room();
+        match packet.fill(Entry::EtherType(ether_type), slice) {
+            Ok(()) => Ok(packet),
+            Err(error) => Err(error),
+        }
     }
 
     /// The headers of the packet that is an IP packet of either version, which has no link layer.
+    #[inline(always)]
     pub fn from_ip_slice(slice: &'a [u8]) -> Result<PacketHeaders<'a>, SliceError>
         ensures ok { IfOk result (λ packet. (layers : Layers) × IsFrameIn headers ip slice.now layers
             × (headers_of packet ≡ headers_in layers)) }
@@ -103,9 +141,11 @@ impl<'a> PacketHeaders<'a> {
         ensures bytes { IfOk result (λ packet. LieIn (payload_part_bytes (payload_part_of packet.payload)) slice.now) }
         ensures err { IfErr result (RefusesFrameIn headers ip slice.now) }
     {
-        let mut packet = PacketHeaders::behind(None);
-        packet.fill_ip(slice)?;
-        Ok(packet)
+        let mut packet = PacketHeaders::room();
+        match packet.fill(Entry::Ip, slice) {
+            Ok(()) => Ok(packet),
+            Err(error) => Err(error),
+        }
     }
 
     /// The outermost VLAN tag, or the outermost two.
@@ -140,24 +180,116 @@ impl<'a> PacketHeaders<'a> {
         ids
     }
 
-    /// A packet of which the link header alone is filled in, where there is one.
-    #[inline]
-    fn behind(link: Option<LinkHeader>) -> PacketHeaders<'a>
-        ensures { headers_of result ≡ record {
-          link = link;
-          link_exts = [];
-          net = None;
-          transport = None;
-          payload = empty;
-        } }
-    {
+    /// A packet that is to be filled in: its net headers are of IPv4, as those of most packets, so that their room is
+    /// made once.
+    #[inline(always)]
+    fn room() -> PacketHeaders<'a> {
         PacketHeaders {
-            link,
+            link: None,
             link_exts: ArrayVec::new(),
-            net: None,
+            net: Some(NetHeaders::Ipv4(Ipv4Header::default(), Ipv4Extensions { auth: None })),
             transport: None,
             payload: PayloadSlice::Empty,
         }
+    }
+
+    /// Fills in the packet that begins with this, whatever the value held. A refusal leaves what was filled in so far.
+    fn fill(&mut self, entry: Entry, bytes: &'a [u8]) -> Result<(), SliceError>
+        ensures ok { OnOk result ((layers : Layers) × IsFrameIn headers entry bytes.now layers
+            × (headers_of self.new ≡ headers_in layers)) }
+        ensures only { (layers : Layers) → IsFrameIn headers entry bytes.now layers
+            → IsOkAnd result (λ _. headers_of self.new ≡ headers_in layers) }
+        ensures bytes { OnOk result (LieIn (payload_part_bytes (payload_part_of self.new.payload)) bytes.now) }
+        ensures err { IfErr result (RefusesFrameIn headers entry bytes.now) }
+    {
+        self.fill_frame(entry, bytes)
+    }
+
+    /// What [`PacketHeaders::fill`] does, without the clauses that follow from these.
+    #[inline(always)]
+    fn fill_frame(&mut self, entry: Entry, bytes: &'a [u8]) -> Result<(), SliceError>
+        ensures ok { OnOk result ((layers : Layers) × IsFrameIn headers entry bytes.now layers
+            × (headers_of self.new ≡ headers_in layers)) }
+        ensures err { IfErr result (RefusesFrameIn headers entry bytes.now) }
+    {
+        match entry {
+            Entry::Ethernet => self.fill_ethernet(bytes),
+            Entry::LinuxSll => self.fill_linux_sll(bytes),
+            Entry::EtherType(ether_type) => {
+                self.begin(None);
+                self.fill_inside(0, whole_payload(ether_type, bytes))
+            }
+            Entry::Ip => {
+                self.begin(None);
+                self.fill_ip(bytes)
+            }
+        }
+    }
+
+    /// Fills in the packet that begins with an Ethernet II header.
+    #[inline]
+    fn fill_ethernet(&mut self, bytes: &'a [u8]) -> Result<(), SliceError>
+        ensures ok { OnOk result ((layers : Layers) × IsFrameIn headers ethernet bytes.now layers
+            × (headers_of self.new ≡ headers_in layers)) }
+        ensures err { IfErr result (RefusesFrameIn headers ethernet bytes.now) }
+    {
+        let frame = match Ethernet2Slice::from_slice_without_fcs(bytes) {
+            Ok(frame) => frame,
+            Err(error) => return Err(SliceError::Len(error)),
+        };
+        self.begin(Some(LinkHeader::Ethernet2(frame.to_header())));
+        self.fill_inside(Ethernet2Header::LEN, frame.payload())
+    }
+
+    /// Fills in the packet that begins with the header of a Linux cooked capture.
+    fn fill_linux_sll(&mut self, bytes: &'a [u8]) -> Result<(), SliceError>
+        ensures ok { OnOk result ((layers : Layers) × IsFrameIn headers linux_sll bytes.now layers
+            × (headers_of self.new ≡ headers_in layers)) }
+        ensures err { IfErr result (RefusesFrameIn headers linux_sll bytes.now) }
+    {
+        let frame = match LinuxSllSlice::from_slice(bytes) {
+            Ok(frame) => frame,
+            Err(linux_sll::HeaderSliceError::Len(error)) => return Err(SliceError::Len(error)),
+            Err(linux_sll::HeaderSliceError::Content(error)) => {
+                return Err(SliceError::LinuxSll(error));
+            }
+        };
+        self.begin(Some(LinkHeader::LinuxSll(frame.to_header())));
+        let payload = frame.payload_slice();
+        match frame.protocol_type().ether_type() {
+            Some(ether_type) => {
+                self.fill_inside(LinuxSllHeader::LEN, whole_payload(ether_type, payload))
+            }
+            None => {
+                self.end(PayloadSlice::MacsecMod(payload));
+                Ok(())
+            }
+        }
+    }
+
+    /// Fills in the link header, where there is one, and no link extension.
+    #[inline]
+    fn begin(&mut self, link: Option<LinkHeader>)
+        ensures { headers_of self.new ≡ begun (headers_of self.old) link }
+    {
+        self.link = link;
+        self.link_exts.clear();
+    }
+
+    /// Fills in a payload in which no net layer is read.
+    #[inline]
+    fn end(&mut self, payload: PayloadSlice<'a>)
+        ensures { headers_of self.new ≡ record (headers_of self.old) {
+          net = None;
+          transport = None;
+          payload = payload_part_of payload.entry;
+        } }
+    {
+        if self.net.is_some() {
+            self.net = None;
+        }
+        self.transport = None;
+        self.payload = payload;
     }
 
     /// Fills in what a payload with a type holds: the tags of the link extensions, as many as there is room for, and
@@ -168,7 +300,6 @@ impl<'a> PacketHeaders<'a> {
         payload: EtherPayloadSlice<'a>,
     ) -> Result<(), SliceError>
         requires place { offset + length payload.payload.now < 2 ^ 64 }
-        requires lacks { LacksNet (headers_of self.old) }
         ensures ok { IfOk result (λ _. FillsInside (most_link_exts - length self.old.link_exts.items)
             (ether_payload_of payload.entry) (headers_of self.old) (headers_of self.new)) }
         ensures err { IfErr result (RefusesInside headers (most_link_exts - length self.old.link_exts.items) offset
@@ -191,12 +322,12 @@ impl<'a> PacketHeaders<'a> {
             Some(inside) => self.fill_inside(
                 offset,
                 EtherPayloadSlice {
-                    len_source: limit_in(payload.len_source, inside.len_source),
+                    len_source: inside.len_source.cut_by(payload.len_source),
                     ..inside
                 },
             ),
             None => {
-                self.payload = PayloadSlice::MacsecMod(extension.payload_slice());
+                self.end(PayloadSlice::MacsecMod(extension.payload_slice()));
                 Ok(())
             }
         }
@@ -206,7 +337,6 @@ impl<'a> PacketHeaders<'a> {
     /// the packet's start.
     fn fill_net(&mut self, offset: usize, payload: EtherPayloadSlice<'a>) -> Result<(), SliceError>
         requires place { offset + length payload.payload.now < 2 ^ 64 }
-        requires lacks { LacksNet (headers_of self.old) }
         ensures ok { IfOk result (λ _. FillsNet (net_kind payload.entry.ether_type) payload.entry.payload.now
             (ether (ether_payload_of payload.entry)) (headers_of self.old) (headers_of self.new)) }
         ensures err { IfErr result
@@ -217,7 +347,7 @@ impl<'a> PacketHeaders<'a> {
             ether_type::IPV6 => self.fill_ipv6(offset, payload.payload),
             ether_type::ARP => self.fill_arp(offset, payload.payload),
             _ => {
-                self.payload = PayloadSlice::Ether(payload);
+                self.end(PayloadSlice::Ether(payload));
                 Ok(())
             }
         }
@@ -226,12 +356,11 @@ impl<'a> PacketHeaders<'a> {
     /// Fills in the IPv4 packet that bytes are. They lie `offset` bytes behind the packet's start.
     fn fill_ipv4(&mut self, offset: usize, slice: &'a [u8]) -> Result<(), SliceError>
         requires place { offset + length slice.now < 2 ^ 64 }
-        requires lacks { LacksNet (headers_of self.old) }
         ensures ok { IfOk result (λ _.
             FillsNet (Some only_ipv4) slice.now empty (headers_of self.old) (headers_of self.new)) }
         ensures err { IfErr result (RefusesNetPart headers offset (Some only_ipv4) slice.now) }
     {
-        let (headers, payload) = match IpHeaders::from_ipv4_slice(slice) {
+        let (payload, payload_offset) = match fill_ipv4(&mut self.net, slice) {
             Ok(read) => read,
             Err(ipv4::SliceError::Len(error)) => {
                 return Err(SliceError::Len(error.add_offset(offset)));
@@ -239,20 +368,17 @@ impl<'a> PacketHeaders<'a> {
             Err(ipv4::SliceError::Header(error)) => return Err(SliceError::Ipv4(error)),
             Err(ipv4::SliceError::Exts(error)) => return Err(SliceError::Ipv4Exts(error)),
         };
-        let content_end = content_end(&headers, slice);
-        self.net = Some(NetHeaders::from(headers));
-        self.fill_transport(offset + (content_end - payload.payload.len()), payload)
+        self.fill_transport(offset + payload_offset, payload)
     }
 
     /// Fills in the IPv6 packet that bytes are. They lie `offset` bytes behind the packet's start.
     fn fill_ipv6(&mut self, offset: usize, slice: &'a [u8]) -> Result<(), SliceError>
         requires place { offset + length slice.now < 2 ^ 64 }
-        requires lacks { LacksNet (headers_of self.old) }
         ensures ok { IfOk result (λ _.
             FillsNet (Some only_ipv6) slice.now empty (headers_of self.old) (headers_of self.new)) }
         ensures err { IfErr result (RefusesNetPart headers offset (Some only_ipv6) slice.now) }
     {
-        let (headers, payload) = match IpHeaders::from_ipv6_slice(slice) {
+        let (payload, payload_offset) = match fill_ipv6(&mut self.net, slice) {
             Ok(read) => read,
             Err(ipv6::SliceError::Len(error)) => {
                 return Err(SliceError::Len(error.add_offset(offset)));
@@ -260,19 +386,16 @@ impl<'a> PacketHeaders<'a> {
             Err(ipv6::SliceError::Header(error)) => return Err(SliceError::Ipv6(error)),
             Err(ipv6::SliceError::Exts(error)) => return Err(SliceError::Ipv6Exts(error)),
         };
-        let content_end = content_end(&headers, slice);
-        self.net = Some(NetHeaders::from(headers));
-        self.fill_transport(offset + (content_end - payload.payload.len()), payload)
+        self.fill_transport(offset + payload_offset, payload)
     }
 
     /// Fills in the IP packet of either version that bytes are, with which the packet begins.
     fn fill_ip(&mut self, slice: &'a [u8]) -> Result<(), SliceError>
-        requires { LacksNet (headers_of self.old) }
         ensures ok { IfOk result (λ _.
             FillsNet (Some any_ip) slice.now empty (headers_of self.old) (headers_of self.new)) }
         ensures err { IfErr result (RefusesNetPart headers 0 (Some any_ip) slice.now) }
     {
-        let (headers, payload) = match IpHeaders::from_slice(slice) {
+        let (payload, payload_offset) = match fill_ip(&mut self.net, slice) {
             Ok(read) => read,
             Err(ip::HeadersSliceError::Len(error)) => return Err(SliceError::Len(error)),
             Err(ip::HeadersSliceError::Content(error)) => return Err(match error {
@@ -281,16 +404,13 @@ impl<'a> PacketHeaders<'a> {
                 ip::HeadersError::Ipv6Ext(error) => SliceError::Ipv6Exts(error),
             }),
         };
-        let content_end = content_end(&headers, slice);
-        self.net = Some(NetHeaders::from(headers));
-        self.fill_transport(content_end - payload.payload.len(), payload)
+        self.fill_transport(payload_offset, payload)
     }
 
     /// Fills in the ARP packet that bytes are, behind which nothing is left. They lie `offset` bytes behind the
     /// packet's start.
     fn fill_arp(&mut self, offset: usize, slice: &'a [u8]) -> Result<(), SliceError>
         requires place { offset + length slice.now < 2 ^ 64 }
-        requires lacks { LacksNet (headers_of self.old) }
         ensures ok { IfOk result (λ _.
             FillsNet (Some only_arp) slice.now empty (headers_of self.old) (headers_of self.new)) }
         ensures err { IfErr result (RefusesNetPart headers offset (Some only_arp) slice.now) }
@@ -298,6 +418,7 @@ impl<'a> PacketHeaders<'a> {
         match ArpPacketSlice::from_slice(slice) {
             Ok(packet) => {
                 self.net = Some(NetHeaders::Arp(packet.to_header()));
+                self.transport = None;
                 self.payload = PayloadSlice::Empty;
                 Ok(())
             }
@@ -313,7 +434,6 @@ impl<'a> PacketHeaders<'a> {
         payload: IpPayloadSlice<'a>,
     ) -> Result<(), SliceError>
         requires place { offset < 2 ^ 64 }
-        requires lacks { self.old.transport ≡ None }
         ensures ok { IfOk result (λ _.
             FillsTransport (ip_payload_of payload.entry) (headers_of self.old) (headers_of self.new)) }
         ensures err { IfErr result (RefusesTransportIn headers offset (ip_payload_of payload.entry)) }
@@ -334,30 +454,26 @@ impl<'a> PacketHeaders<'a> {
                 Ok(())
             }
             Ok(None) => {
+                self.transport = None;
                 self.payload = PayloadSlice::Ip(payload);
                 Ok(())
             }
             Err(tcp::HeaderSliceError::Len(error)) => {
-                Err(SliceError::Len(refusal_in(error, offset, payload.len_source)))
+                Err(SliceError::Len(error.behind_header(offset, payload.len_source)))
             }
             Err(tcp::HeaderSliceError::Content(error)) => Err(SliceError::Tcp(error)),
         }
     }
 }
 
-/// Where the content ends that the length field counts, from the header's first byte on.
+/// These bytes as the payload of a link layer, with its type.
 #[inline]
-fn content_end(headers: &IpHeaders, slice: &[u8]) -> usize
-    ensures { result ≡ content_end headers.now (length slice.now) }
+fn whole_payload<'a>(ether_type: EtherType, payload: &'a [u8]) -> EtherPayloadSlice<'a>
+    ensures { ether_payload_of result ≡ whole_ether_payload payload.now ether_type }
 {
-    match headers {
-        IpHeaders::Ipv4(header, _) => header.total_len as usize,
-        IpHeaders::Ipv6(header, _) => {
-            if header.payload_length == 0 {
-                slice.len()
-            } else {
-                Ipv6Header::LEN + header.payload_length as usize
-            }
-        }
+    EtherPayloadSlice {
+        ether_type,
+        len_source: LenSource::Slice,
+        payload,
     }
 }

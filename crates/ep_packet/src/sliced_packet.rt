@@ -1,31 +1,18 @@
 //! A packet, sliced into its layers.
 
-ghost use Rattle.std.specs.Prelude.{◌≡◌, ◌+◌, ◌-◌, ◌<◌, ◌^◌, length, IfOk, IfErr, Some};
-ghost use Rattle.std.specs.Option.{option_map};
+ghost use Rattle.std.specs.Prelude.{◌≡◌, ◌+◌, ◌<◌, ◌^◌, length, IfOk, IfErr};
 ghost use Rattle.ep_base.specs.Layer.{slices};
-ghost use Rattle.ep_base.specs.IpPayload.{ip_payload_of};
-ghost use Rattle.ep_ext.specs.Ipv4Chains.{ipv4_slice_bytes};
-ghost use Rattle.ep_transport.specs.TransportParts.{transport_layer_of};
-ghost use Rattle.ep_packet.specs.Frame.{IsTransportBehind, IsTransportIn, most_link_exts};
-ghost use Rattle.ep_packet.specs.Frame.{only_ipv4, only_ipv6, only_arp, any_ip, net_kind};
-ghost use Rattle.ep_packet.specs.Layers.{net_layer_of, net_payload};
-ghost use Rattle.ep_packet.specs.Refusals.{RefusesInside, RefusesNetPart, RefusesTransportBehind, RefusesTransportIn};
-ghost use Rattle.ep_packet.specs.Refusals.{net_header_len};
-ghost use Rattle.ep_packet.specs.ShownBytes.{ShowsTransport, net_slice_bytes, net_slice_payload};
-ghost use Rattle.ep_packet.specs.Walk.{AppendsInside, HasHeaders, HoldsBehind, HoldsNet};
+ghost use Rattle.ep_packet.specs.Frame.{most_link_exts};
+ghost use Rattle.ep_packet.specs.Refusals.{RefusesInside};
+ghost use Rattle.ep_packet.specs.Walk.{HoldsBehind};
 
+use crate::entry::Entry;
 use crate::err::SliceError;
-use crate::limits::refusal_in;
 use crate::net_slice::NetSlice;
+use crate::sliced_packet_walk::{LinkPart, fill_inside, fill_ip};
 use arrayvec::ArrayVec;
-use ep_base::err::{ip, ipv4, ipv6, linux_sll, macsec, tcp};
-use ep_base::{EtherPayloadSlice, EtherType, IpPayloadSlice, LenSource, VlanId, ether_type};
-use ep_ext::Ipv4ExtensionsSlice;
-use ep_ip::{IpSlice, Ipv4Slice, Ipv6Header, Ipv6Slice};
-use ep_link::{
-    ArpPacketSlice, DoubleVlanSlice, Ethernet2Header, Ethernet2Slice, LinkExtSlice, LinkSlice,
-    LinuxSllHeader, LinuxSllSlice, VlanSlice,
-};
+use ep_base::{EtherPayloadSlice, EtherType, IpPayloadSlice, LenSource, VlanId};
+use ep_link::{DoubleVlanSlice, LinkExtSlice, LinkSlice, VlanSlice};
 use ep_transport::TransportSlice;
 
 /// A packet, sliced into its layers from the outside in. A layer that is no part of the packet, or whose protocol is
@@ -43,22 +30,38 @@ pub struct SlicedPacket<'a> {
 }
 
 impl<'a> SlicedPacket<'a> {
-    ghost use Rattle.std.specs.Prelude.{◌≡◌, IfOk, IfErr, IsOkAnd};
+    ghost use Rattle.std.specs.Prelude.{◌≡◌, ◌+◌, ◌<◌, ◌^◌, [], length, IfOk, IfErr, IsOkAnd};
     ghost use Rattle.std.specs.Option.{option_copied, option_map};
     ghost use Rattle.ep_base.specs.IpPayload.{ip_payload_of};
     ghost use Rattle.ep_packet.specs.declared.entry.Entry.TheVariants.{Ethernet as ethernet, LinuxSll as linux_sll, EtherType as of_type, Ip as ip};
-    ghost use Rattle.ep_packet.specs.Layers.{Layers, layers_of, ip_payload_in, carries_fragment};
+    ghost use Rattle.ep_base.specs.Layer.{slices};
+    ghost use Rattle.ep_packet.specs.Layers.{Layers, layers_of, no_layers, ip_payload_in, carries_fragment};
     ghost use Rattle.ep_link.specs.EtherPayloads.{ether_payload_of};
-    ghost use Rattle.ep_packet.specs.Frame.{IsFrame};
+    ghost use Rattle.ep_packet.specs.Frame.{IsFrame, most_link_exts};
     ghost use Rattle.ep_packet.specs.Payloads.{ether_payload_in, extensions_len_source, payload_ether_type_in};
     ghost use Rattle.ep_packet.specs.VlanTags.{outer_tags, vlan_ids_in, vlan_slices};
-    ghost use Rattle.ep_packet.specs.Refusals.{RefusesFrame};
+    ghost use Rattle.ep_packet.specs.Refusals.{RefusesFrame, RefusesInside};
     ghost use Rattle.ep_packet.specs.ShownBytes.{ShowsBytes};
+    ghost use Rattle.ep_packet.specs.Walk.{HoldsBehind};
 
     /// The greatest number of link extensions that are taken. A further one is left as payload.
     pub const LINK_EXTS_CAP: usize = 3;
 
+    /// A packet without layers, for [`SlicedPacket::slice_into`] to fill in.
+    #[inline]
+    pub fn new() -> SlicedPacket<'a>
+        ensures { layers_of result ≡ no_layers }
+    {
+        SlicedPacket {
+            link: None,
+            link_exts: ArrayVec::new(),
+            net: None,
+            transport: None,
+        }
+    }
+
     /// The packet that begins with an Ethernet II header.
+    #[inline(always)]
     pub fn from_ethernet(slice: &'a [u8]) -> Result<SlicedPacket<'a>, SliceError>
         ensures ok { IfOk result (λ packet. IsFrame ethernet slice.now (layers_of packet)) }
         ensures only { (layers : Layers) → IsFrame ethernet slice.now layers
@@ -66,21 +69,14 @@ impl<'a> SlicedPacket<'a> {
         ensures bytes { IfOk result (ShowsBytes slice.now) }
         ensures err { IfErr result (RefusesFrame ethernet slice.now) }
     {
-        let frame = match Ethernet2Slice::from_slice_without_fcs(slice) {
-            Ok(frame) => frame,
-            Err(error) => return Err(SliceError::Len(error)),
-        };
-        let ether_type = frame.ether_type();
-        let payload = frame.payload_slice();
-        slice_behind(
-            LinkSlice::Ethernet2(frame),
-            Ethernet2Header::LEN,
-            Some(ether_type),
-            payload,
-        )
+        match LinkPart::ethernet(slice) {
+            Ok(part) => slice_behind(part),
+            Err(error) => Err(error),
+        }
     }
 
     /// The packet that begins with the header of a Linux cooked capture (SLL v1).
+    #[inline(always)]
     pub fn from_linux_sll(slice: &'a [u8]) -> Result<SlicedPacket<'a>, SliceError>
         ensures ok { IfOk result (λ packet. IsFrame linux_sll slice.now (layers_of packet)) }
         ensures only { (layers : Layers) → IsFrame linux_sll slice.now layers
@@ -88,24 +84,14 @@ impl<'a> SlicedPacket<'a> {
         ensures bytes { IfOk result (ShowsBytes slice.now) }
         ensures err { IfErr result (RefusesFrame linux_sll slice.now) }
     {
-        let frame = match LinuxSllSlice::from_slice(slice) {
-            Ok(frame) => frame,
-            Err(linux_sll::HeaderSliceError::Len(error)) => return Err(SliceError::Len(error)),
-            Err(linux_sll::HeaderSliceError::Content(error)) => return Err(SliceError::LinuxSll(
-                error,
-            )),
-        };
-        let ether_type = frame.protocol_type().ether_type();
-        let payload = frame.payload_slice();
-        slice_behind(
-            LinkSlice::LinuxSll(frame),
-            LinuxSllHeader::LEN,
-            ether_type,
-            payload,
-        )
+        match LinkPart::linux_sll(slice) {
+            Ok(part) => slice_behind(part),
+            Err(error) => Err(error),
+        }
     }
 
     /// The packet that is the payload of a link layer, with the type that the link layer gives.
+    #[inline(always)]
     pub fn from_ether_type(
         ether_type: EtherType,
         slice: &'a [u8],
@@ -116,15 +102,11 @@ impl<'a> SlicedPacket<'a> {
         ensures bytes { IfOk result (ShowsBytes slice.now) }
         ensures err { IfErr result (RefusesFrame (of_type ether_type) slice.now) }
     {
-        let link = LinkSlice::EtherPayload(EtherPayloadSlice {
-            ether_type,
-            len_source: LenSource::Slice,
-            payload: slice,
-        });
-        slice_behind(link, 0, Some(ether_type), slice)
+        slice_behind(LinkPart::ether_type(ether_type, slice))
     }
 
     /// The packet that is an IP packet of either version, which has no link layer.
+    #[inline(always)]
     pub fn from_ip(slice: &'a [u8]) -> Result<SlicedPacket<'a>, SliceError>
         ensures ok { IfOk result (λ packet. IsFrame ip slice.now (layers_of packet)) }
         ensures only { (layers : Layers) → IsFrame ip slice.now layers
@@ -132,13 +114,146 @@ impl<'a> SlicedPacket<'a> {
         ensures bytes { IfOk result (ShowsBytes slice.now) }
         ensures err { IfErr result (RefusesFrame ip slice.now) }
     {
-        let (net, transport) = slice_ip(slice)?;
-        Ok(SlicedPacket {
-            link: None,
-            link_exts: ArrayVec::new(),
-            net,
-            transport,
-        })
+        let mut net = None;
+        let mut transport = None;
+        match fill_ip(&mut net, &mut transport, slice) {
+            Ok(()) => Ok(SlicedPacket {
+                link: None,
+                link_exts: ArrayVec::new(),
+                net,
+                transport,
+            }),
+            Err(error) => Err(error),
+        }
+    }
+
+    /// The packet that begins with what `entry` says.
+    #[inline]
+    pub fn from_entry(entry: Entry, slice: &'a [u8]) -> Result<SlicedPacket<'a>, SliceError>
+        ensures ok { IfOk result (λ packet. IsFrame entry slice.now (layers_of packet)) }
+        ensures only { (layers : Layers) → IsFrame entry slice.now layers
+            → IsOkAnd result (λ packet. layers_of packet ≡ layers) }
+        ensures bytes { IfOk result (ShowsBytes slice.now) }
+        ensures err { IfErr result (RefusesFrame entry slice.now) }
+    {
+        match entry {
+            Entry::Ethernet => SlicedPacket::from_ethernet(slice),
+            Entry::LinuxSll => SlicedPacket::from_linux_sll(slice),
+            Entry::EtherType(ether_type) => SlicedPacket::from_ether_type(ether_type, slice),
+            Entry::Ip => SlicedPacket::from_ip(slice),
+        }
+    }
+
+    /// Slices the packet that begins with what `entry` says into this one, whatever it held: for a caller in a loop,
+    /// which reuses one packet, and so moves none. At `Err` this one is left without layers.
+    #[inline(always)]
+    pub fn slice_into(&mut self, entry: Entry, bytes: &'a [u8]) -> Result<(), SliceError>
+        ensures ok { IfOk result (λ _. IsFrame entry bytes.now (layers_of self.new)) }
+        ensures only { (layers : Layers) → IsFrame entry bytes.now layers
+            → IsOkAnd result (λ _. layers_of self.new ≡ layers) }
+        ensures bytes { IfOk result (λ _. ShowsBytes bytes.now self.new) }
+        ensures err { IfErr result (RefusesFrame entry bytes.now) }
+        ensures none { IfErr result (λ _. layers_of self.new ≡ no_layers) }
+    {
+        if !self.link_exts.is_empty() {
+            self.link_exts.clear();
+        }
+        match self.fill(entry, bytes) {
+            Ok(()) => Ok(()),
+            Err(error) => {
+                self.link = None;
+                self.link_exts.clear();
+                self.net = None;
+                self.transport = None;
+                Err(error)
+            }
+        }
+    }
+
+    /// Fills in the layers of the packet that begins with what `entry` says, whatever net and transport layer there
+    /// were. At `Err` it may hold some of them. Ethernet alone becomes one piece with the caller: with the walks of all
+    /// entries in it, the piece would be too large.
+    #[inline(always)]
+    fn fill(&mut self, entry: Entry, slice: &'a [u8]) -> Result<(), SliceError>
+        requires { self.old.link_exts.items ≡ [] }
+        ensures ok { IfOk result (λ _. IsFrame entry slice.now (layers_of self.new)) }
+        ensures bytes { IfOk result (λ _. ShowsBytes slice.now self.new) }
+        ensures err { IfErr result (RefusesFrame entry slice.now) }
+    {
+        match entry {
+            Entry::Ethernet => self.fill_ethernet(slice),
+            Entry::LinuxSll => self.fill_linux_sll(slice),
+            Entry::EtherType(ether_type) => self.fill_ether_type(ether_type, slice),
+            Entry::Ip => self.fill_ip(slice),
+        }
+    }
+
+    /// Fills in the layers of the packet that begins with an Ethernet II header.
+    #[inline(always)]
+    fn fill_ethernet(&mut self, slice: &'a [u8]) -> Result<(), SliceError>
+        requires { self.old.link_exts.items ≡ [] }
+        ensures ok { IfOk result (λ _. IsFrame ethernet slice.now (layers_of self.new)) }
+        ensures bytes { IfOk result (λ _. ShowsBytes slice.now self.new) }
+        ensures err { IfErr result (RefusesFrame ethernet slice.now) }
+    {
+        match LinkPart::ethernet(slice) {
+            Ok(part) => self.fill_behind(part),
+            Err(error) => Err(error),
+        }
+    }
+
+    /// Fills in the layers of the packet that begins with the header of a Linux cooked capture.
+    fn fill_linux_sll(&mut self, slice: &'a [u8]) -> Result<(), SliceError>
+        requires { self.old.link_exts.items ≡ [] }
+        ensures ok { IfOk result (λ _. IsFrame linux_sll slice.now (layers_of self.new)) }
+        ensures bytes { IfOk result (λ _. ShowsBytes slice.now self.new) }
+        ensures err { IfErr result (RefusesFrame linux_sll slice.now) }
+    {
+        match LinkPart::linux_sll(slice) {
+            Ok(part) => self.fill_behind(part),
+            Err(error) => Err(error),
+        }
+    }
+
+    /// Fills in the layers of the packet that is the payload of a link layer, with its type.
+    fn fill_ether_type(&mut self, ether_type: EtherType, slice: &'a [u8]) -> Result<(), SliceError>
+        requires { self.old.link_exts.items ≡ [] }
+        ensures ok { IfOk result (λ _. IsFrame (of_type ether_type) slice.now (layers_of self.new)) }
+        ensures bytes { IfOk result (λ _. ShowsBytes slice.now self.new) }
+        ensures err { IfErr result (RefusesFrame (of_type ether_type) slice.now) }
+    {
+        self.fill_behind(LinkPart::ether_type(ether_type, slice))
+    }
+
+    /// Fills in the layers of the packet that is an IP packet of either version.
+    fn fill_ip(&mut self, slice: &'a [u8]) -> Result<(), SliceError>
+        requires { self.old.link_exts.items ≡ [] }
+        ensures ok { IfOk result (λ _. IsFrame ip slice.now (layers_of self.new)) }
+        ensures bytes { IfOk result (λ _. ShowsBytes slice.now self.new) }
+        ensures err { IfErr result (RefusesFrame ip slice.now) }
+    {
+        self.link = None;
+        fill_ip(&mut self.net, &mut self.transport, slice)
+    }
+
+    /// Fills in a link layer and the layers in its payload.
+    #[inline(always)]
+    fn fill_behind(&mut self, part: LinkPart<'a>) -> Result<(), SliceError>
+        requires place { part.offset + length part.slice.now < 2 ^ 64 }
+        requires empty { self.old.link_exts.items ≡ [] }
+        ensures ok { IfOk result (λ _. HoldsBehind part.entry.link part.entry.ether_type part.entry.slice.now self.new) }
+        ensures err { IfErr result
+            (RefusesInside slices most_link_exts part.entry.offset part.entry.ether_type part.entry.slice.now) }
+    {
+        self.link = Some(part.link);
+        fill_inside(
+            &mut self.link_exts,
+            &mut self.net,
+            &mut self.transport,
+            part.offset,
+            part.ether_type,
+            part.slice,
+        )
     }
 
     /// The type of the bytes behind the link layer and its extensions, if no layer in them is read. It is not known
@@ -236,211 +351,32 @@ impl<'a> SlicedPacket<'a> {
     }
 }
 
-/// The packet of a link layer, whose payload has this type, where it is known, and lies `offset` bytes behind the packet's
-/// start.
-fn slice_behind<'a>(
-    link: LinkSlice<'a>,
-    offset: usize,
-    ether_type: Option<EtherType>,
-    slice: &'a [u8],
-) -> Result<SlicedPacket<'a>, SliceError>
-    requires { offset + length slice.now < 2 ^ 64 }
-    ensures ok { IfOk result (HoldsBehind link.entry ether_type slice.now) }
-    ensures err { IfErr result (RefusesInside slices most_link_exts offset ether_type slice.now) }
+/// The packet of a link layer and what lies in it. It has variables of its own for each part, since one packet that is
+/// filled in place is moved out whole.
+#[inline(always)]
+fn slice_behind(part: LinkPart<'_>) -> Result<SlicedPacket<'_>, SliceError>
+    requires { part.offset + length part.slice.now < 2 ^ 64 }
+    ensures ok { IfOk result (HoldsBehind part.entry.link part.entry.ether_type part.entry.slice.now) }
+    ensures err { IfErr result
+        (RefusesInside slices most_link_exts part.entry.offset part.entry.ether_type part.entry.slice.now) }
 {
     let mut link_exts = ArrayVec::new();
-    let (net, transport) = slice_inside(&mut link_exts, offset, ether_type, slice)?;
-    Ok(SlicedPacket {
-        link: Some(link),
-        link_exts,
-        net,
-        transport,
-    })
-}
-
-/// The net layer and the transport layer in bytes of a type, where it is known. The link extensions before them are
-/// appended, as many as there is room for. The bytes lie `offset` bytes behind the packet's start.
-fn slice_inside<'a>(
-    link_exts: &mut ArrayVec<LinkExtSlice<'a>, 3>,
-    offset: usize,
-    ether_type: Option<EtherType>,
-    slice: &'a [u8],
-) -> Result<(Option<NetSlice<'a>>, Option<TransportSlice<'a>>), SliceError>
-    requires { offset + length slice.now < 2 ^ 64 }
-    ensures ok { IfOk result (λ parts.
-        AppendsInside (most_link_exts - length link_exts.old.items) ether_type slice.now
-        link_exts.old.items link_exts.new.items parts.0 parts.1) }
-    ensures err { IfErr result
-        (RefusesInside slices (most_link_exts - length link_exts.old.items) offset ether_type slice.now) }
-{
-    let Some(ether_type) = ether_type else {
-        return Ok((None, None));
-    };
-    if link_exts.is_full() {
-        return slice_net(offset, ether_type, slice);
-    }
-    let extension = match LinkExtSlice::from_ether_type(ether_type, slice) {
-        Ok(Some(extension)) => extension,
-        Ok(None) => return slice_net(offset, ether_type, slice),
-        Err(macsec::HeaderSliceError::Len(error)) => return Err(SliceError::Len(error.add_offset(
-            offset,
-        ))),
-        Err(macsec::HeaderSliceError::Content(error)) => return Err(SliceError::Macsec(error)),
-    };
-    let offset = offset + extension.header_len();
-    let ether_type = extension.next_ether_type();
-    let payload = extension.payload_slice();
-    link_exts.push(extension);
-    slice_inside(link_exts, offset, ether_type, payload)
-}
-
-/// The net layer that bytes of a type are, and the transport layer in it. The bytes lie `offset` bytes behind the
-/// packet's start.
-fn slice_net(
-    offset: usize,
-    ether_type: EtherType,
-    slice: &[u8],
-) -> Result<(Option<NetSlice<'_>>, Option<TransportSlice<'_>>), SliceError>
-    requires { offset + length slice.now < 2 ^ 64 }
-    ensures ok { IfOk result (λ parts. HoldsNet (net_kind ether_type) slice.now parts.0 parts.1) }
-    ensures err { IfErr result (RefusesNetPart slices offset (net_kind ether_type) slice.now) }
-{
-    match ether_type {
-        ether_type::IPV4 => slice_ipv4(offset, slice),
-        ether_type::IPV6 => slice_ipv6(offset, slice),
-        ether_type::ARP => slice_arp(offset, slice),
-        _ => Ok((None, None)),
-    }
-}
-
-/// The IPv4 packet that bytes are, and the transport layer in it. The bytes lie `offset` bytes behind the packet's start.
-fn slice_ipv4(
-    offset: usize,
-    slice: &[u8],
-) -> Result<(Option<NetSlice<'_>>, Option<TransportSlice<'_>>), SliceError>
-    requires { offset + length slice.now < 2 ^ 64 }
-    ensures ok { IfOk result (λ parts. HoldsNet (Some only_ipv4) slice.now parts.0 parts.1) }
-    ensures err { IfErr result (RefusesNetPart slices offset (Some only_ipv4) slice.now) }
-{
-    let packet = match Ipv4Slice::from_slice(slice) {
-        Ok(packet) => packet,
-        Err(ipv4::SliceError::Len(error)) => return Err(SliceError::Len(error.add_offset(offset))),
-        Err(ipv4::SliceError::Header(error)) => return Err(SliceError::Ipv4(error)),
-        Err(ipv4::SliceError::Exts(error)) => return Err(SliceError::Ipv4Exts(error)),
-    };
-    let net = NetSlice::Ipv4(packet);
-    let transport = slice_transport_in(offset, &net)?;
-    Ok((Some(net), transport))
-}
-
-/// The IPv6 packet that bytes are, and the transport layer in it. The bytes lie `offset` bytes behind the packet's start.
-fn slice_ipv6(
-    offset: usize,
-    slice: &[u8],
-) -> Result<(Option<NetSlice<'_>>, Option<TransportSlice<'_>>), SliceError>
-    requires { offset + length slice.now < 2 ^ 64 }
-    ensures ok { IfOk result (λ parts. HoldsNet (Some only_ipv6) slice.now parts.0 parts.1) }
-    ensures err { IfErr result (RefusesNetPart slices offset (Some only_ipv6) slice.now) }
-{
-    let packet = match Ipv6Slice::from_slice(slice) {
-        Ok(packet) => packet,
-        Err(ipv6::SliceError::Len(error)) => return Err(SliceError::Len(error.add_offset(offset))),
-        Err(ipv6::SliceError::Header(error)) => return Err(SliceError::Ipv6(error)),
-        Err(ipv6::SliceError::Exts(error)) => return Err(SliceError::Ipv6Exts(error)),
-    };
-    let net = NetSlice::Ipv6(packet);
-    let transport = slice_transport_in(offset, &net)?;
-    Ok((Some(net), transport))
-}
-
-/// The IP packet of either version that bytes are, with which the packet begins, and the transport layer in it.
-fn slice_ip(slice: &[u8]) -> Result<(Option<NetSlice<'_>>, Option<TransportSlice<'_>>), SliceError>
-    ensures ok { IfOk result (λ parts. HoldsNet (Some any_ip) slice.now parts.0 parts.1) }
-    ensures err { IfErr result (RefusesNetPart slices 0 (Some any_ip) slice.now) }
-{
-    let packet = match IpSlice::from_slice(slice) {
-        Ok(packet) => packet,
-        Err(ip::SliceError::Len(error)) => return Err(SliceError::Len(error)),
-        Err(ip::SliceError::IpHeaders(error)) => return Err(match error {
-            ip::HeadersError::Ip(error) => SliceError::Ip(error),
-            ip::HeadersError::Ipv4Ext(error) => SliceError::Ipv4Exts(error),
-            ip::HeadersError::Ipv6Ext(error) => SliceError::Ipv6Exts(error),
+    let mut net = None;
+    let mut transport = None;
+    match fill_inside(
+        &mut link_exts,
+        &mut net,
+        &mut transport,
+        part.offset,
+        part.ether_type,
+        part.slice,
+    ) {
+        Ok(()) => Ok(SlicedPacket {
+            link: Some(part.link),
+            link_exts,
+            net,
+            transport,
         }),
-    };
-    let net = NetSlice::from(packet);
-    let transport = slice_transport_in(0, &net)?;
-    Ok((Some(net), transport))
-}
-
-/// The ARP packet that bytes are. The bytes lie `offset` bytes behind the packet's start.
-fn slice_arp(
-    offset: usize,
-    slice: &[u8],
-) -> Result<(Option<NetSlice<'_>>, Option<TransportSlice<'_>>), SliceError>
-    requires { offset + length slice.now < 2 ^ 64 }
-    ensures ok { IfOk result (λ parts. HoldsNet (Some only_arp) slice.now parts.0 parts.1) }
-    ensures err { IfErr result (RefusesNetPart slices offset (Some only_arp) slice.now) }
-{
-    match ArpPacketSlice::from_slice(slice) {
-        Ok(packet) => Ok((Some(NetSlice::Arp(packet)), None)),
-        Err(error) => Err(SliceError::Len(error.add_offset(offset))),
-    }
-}
-
-/// The transport layer in the payload of a net layer, where it has one. The net layer begins `offset` bytes behind the
-/// packet's start.
-fn slice_transport_in<'a>(
-    offset: usize,
-    net: &NetSlice<'a>,
-) -> Result<Option<TransportSlice<'a>>, SliceError>
-    requires place { offset + length (net_slice_bytes net.now) < 2 ^ 64 }
-    requires headers { HasHeaders net.now }
-    ensures ok { IfOk result (λ transport.
-        IsTransportBehind slices (net_payload (net_layer_of net.now)) (option_map transport_layer_of transport)) }
-    ensures bytes { IfOk result (ShowsTransport (net_slice_payload net.now)) }
-    ensures err { IfErr result (RefusesTransportBehind slices (offset + net_header_len (net_layer_of net.now))
-        (net_payload (net_layer_of net.now))) }
-{
-    match net {
-        NetSlice::Ipv4(packet) => {
-            let extensions_len = ipv4_extensions_len(&packet.extensions());
-            let headers_len = packet.header().header_len() + extensions_len;
-            slice_transport(offset + headers_len, packet.payload())
-        }
-        NetSlice::Ipv6(packet) => {
-            let headers_len = Ipv6Header::LEN + packet.extensions().slice().len();
-            slice_transport(offset + headers_len, packet.payload())
-        }
-        NetSlice::Arp(_) => Ok(None),
-    }
-}
-
-/// The number of bytes of the extension headers of an IPv4 packet.
-fn ipv4_extensions_len(extensions: &Ipv4ExtensionsSlice<'_>) -> usize
-    ensures { result ≡ length (ipv4_slice_bytes extensions.now) }
-{
-    match &extensions.auth {
-        Some(header) => header.slice().len(),
-        None => 0,
-    }
-}
-
-/// The transport layer of an IP payload, where it has one. The payload lies `offset` bytes behind the packet's start.
-fn slice_transport<'a>(
-    offset: usize,
-    payload: &IpPayloadSlice<'a>,
-) -> Result<Option<TransportSlice<'a>>, SliceError>
-    requires { offset < 2 ^ 64 }
-    ensures ok { IfOk result (λ transport.
-        IsTransportIn slices (ip_payload_of payload.now) (option_map transport_layer_of transport)) }
-    ensures bytes { IfOk result (ShowsTransport payload.now.payload.now) }
-    ensures err { IfErr result (RefusesTransportIn slices offset (ip_payload_of payload.now)) }
-{
-    match TransportSlice::from_ip_number(payload.ip_number, payload.fragmented, payload.payload) {
-        Ok(transport) => Ok(transport),
-        Err(tcp::HeaderSliceError::Len(error)) => {
-            Err(SliceError::Len(refusal_in(error, offset, payload.len_source)))
-        }
-        Err(tcp::HeaderSliceError::Content(error)) => Err(SliceError::Tcp(error)),
+        Err(error) => Err(error),
     }
 }

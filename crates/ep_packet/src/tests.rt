@@ -17,6 +17,7 @@ mod ip_headers;
 mod link_layers;
 mod net_layers;
 mod packet_headers;
+mod slice_into;
 
 /// An Ethernet II frame with the UDP payload 1 to 8 (192.168.1.1, port 21 to 192.168.1.2, port 1234).
 const FRAME: [u8; 50] = [

@@ -29,6 +29,7 @@ impl<'a> TransportSlice<'a> {
 
     /// The transport layer at the front of an IP payload of this protocol number. There is none in a fragment, nor
     /// where the number is none whose header is read.
+    #[inline(always)]
     pub fn from_ip_number(
         number: IpNumber,
         fragmented: bool,
@@ -46,7 +47,7 @@ impl<'a> TransportSlice<'a> {
     }
 
     /// What `from_ip_number` answers.
-    #[inline]
+    #[inline(always)]
     fn part_of(
         number: IpNumber,
         fragmented: bool,

@@ -3,8 +3,8 @@
 ghost use Rattle.std.specs.Prelude.{ℕ, List, ◌≡◌, ◌⊎◌, ◌<◌, ◌∷◌, ◌++◌, ◌+◌, ◌↔◌, [], false};
 ghost use Rattle.std.specs.Prelude.{true, length, IfNone, IfOk, IfSome, OnErr, OnOk};
 ghost use Rattle.std.specs.Io.KnownBytes.{IsAtEnd};
-ghost use Rattle.frame_bench.specs.Answers.{AnswersAfter, AnswersTo, BeginsAnswersTo};
-ghost use Rattle.frame_bench.specs.Lines.{IsWithinLine};
+ghost use Rattle.frame_bench.specs.Answers.{IsAnswer, AnswersAfter, AnswersTo, BeginsAnswersTo};
+ghost use Rattle.frame_bench.specs.Lines.{IsWithinLine, line_feed};
 ghost use Rattle.frame_bench.specs.PoolCalls.{HoldsLines};
 ghost use Rattle.frame_bench.specs.Streams.{AdvancesTo, BeginsAnswers, Transfers};
 ghost use Rattle.frame_bench.specs.WatchedWords.{KeepsReads, has_ended, has_failed, inner_of, is_at_end, reads_left};
@@ -107,17 +107,34 @@ impl Session {
         self.output.clear();
         let mut rest = piece;
         'lines: while let Some((end, behind)) = split_at_first(rest, b'\n') {
-            self.line.extend_from_slice(end)?;
-            push_line(
-                &mut self.output,
-                &mut self.pool,
-                self.line.as_slice(),
-                &mut self.bytes,
-            )?;
-            self.line.clear();
+            self.end_line(end)?;
             rest = behind;
         }
         self.line.extend_from_slice(rest)?;
+        Ok(())
+    }
+
+    /// Puts together the answer to the line that ends so. One that lies within the piece is not copied.
+    fn end_line(&mut self, end: &[u8]) -> Result<(), AllocError>
+        ensures line { OnOk result (self.new.line.items ≡ []) }
+        ensures answer { OnOk result ((before : List (List ℕ)) → HoldsLines before self.old.pool → (answer : List ℕ)
+            × IsAnswer before (self.old.line.items ++ end.now) answer
+            × (self.new.output.items ≡ self.old.output.items ++ (answer ++ line_feed ∷ []))) }
+        ensures holds { OnOk result ((before : List (List ℕ)) → HoldsLines before self.old.pool →
+            HoldsLines (before ++ (self.old.line.items ++ end.now) ∷ []) self.new.pool) }
+    {
+        if self.line.is_empty() {
+            push_line(&mut self.output, &mut self.pool, end, &mut self.bytes)?;
+            return Ok(());
+        }
+        self.line.extend_from_slice(end)?;
+        push_line(
+            &mut self.output,
+            &mut self.pool,
+            self.line.as_slice(),
+            &mut self.bytes,
+        )?;
+        self.line.clear();
         Ok(())
     }
 

@@ -14,6 +14,7 @@
 //! Any other line is answered `err line`.
 #![tactic(auto)]
 
+mod decimals;
 pub mod ending;
 pub mod engine;
 mod fragments;

@@ -1,22 +1,23 @@
 //! The reply about a fragment and a drop.
 
 ghost use Rattle.std.specs.Prelude.{◌≡◌, ◌∷◌, ◌++◌, [], nat_le, ℕ, IsFalse, List, OnOk};
+ghost use Rattle.std.specs.Fmt.{decimal};
 ghost use Rattle.ep_defrag.specs.Calls.{drops_streams, payload_handed_out};
 ghost use Rattle.ep_defrag.specs.Pools.{plain_frame_answer, plain_payload, wants_memory};
 ghost use Rattle.ep_defrag.specs.Refusals.{is_want_of_memory};
 ghost use Rattle.ep_defrag.specs.declared.ip_defrag_error.IpDefragError.TheVariants.{SegmentTooBig};
 ghost use Rattle.ep_packet.specs.Layers.{layers_of};
+ghost use Rattle.frame_bench.specs.Lines.{space};
 ghost use Rattle.frame_bench.specs.PoolCalls.{NumberCall, AreRequestCalls, HoldsCalls, frame_call};
 ghost use Rattle.frame_bench.specs.PoolReplies.{IsFragmentReply, call_reply, pool_answer_text, pool_error_text};
 ghost use Rattle.frame_bench.specs.declared.requests.Request.TheVariants as request;
 
-use crate::hex_text;
 use crate::requests::Entry;
 use crate::slicing::{push_refusal, slice_at};
+use crate::{decimals, hex_text};
 use ep_defrag::{IpDefragError, IpDefragPayloadVec, IpDefragPool};
 use ep_packet::SlicedPacket;
 use std::alloc::AllocError;
-use std::io::Write;
 
 /// Hands the frame to the pool and appends what it answers, or appends why the bytes are no frame. A payload that is
 /// handed out goes back to the pool.
@@ -106,7 +107,8 @@ fn push_payload(output: &mut Vec<u8>, payload: &IpDefragPayloadVec) -> Result<()
         ≡ output.old.items ++ pool_answer_text (payload_handed_out (plain_payload payload.now))) }
 {
     let number = payload.ip_number.0;
-    write!(output, "payload {number} ").map_err(|_| AllocError)?;
+    decimals::push_behind(output, b"payload ", u64::from(number))?;
+    output.push(b' ')?;
     hex_text::push(output, payload.payload.as_slice())
 }
 
@@ -126,13 +128,23 @@ fn push_pool_error(output: &mut Vec<u8>, error: &IpDefragError) -> Result<(), Al
             payload_len,
         } => {
             let offset = offset.value();
-            write!(output, "err unaligned {offset} {payload_len}").map_err(|_| AllocError)
+            push_pair(
+                output,
+                b"err unaligned ",
+                u64::from(offset),
+                *payload_len as u64,
+            )
         }
         IpDefragError::ConflictingEnd {
             previous_end,
             conflicting_end,
         } => {
-            write!(output, "err conflict {previous_end} {conflicting_end}").map_err(|_| AllocError)
+            push_pair(
+                output,
+                b"err conflict ",
+                u64::from(*previous_end),
+                u64::from(*conflicting_end),
+            )
         }
         IpDefragError::AllocationFailure { .. } => Err(AllocError),
     }
@@ -148,5 +160,20 @@ fn push_too_big(
     ensures { OnOk result (output.new.items
         ≡ output.old.items ++ pool_error_text (SegmentTooBig offset payload_len max)) }
 {
-    write!(output, "err too-big {offset} {payload_len} {max}").map_err(|_| AllocError)
+    push_pair(
+        output,
+        b"err too-big ",
+        u64::from(offset),
+        payload_len as u64,
+    )?;
+    decimals::push_behind(output, b" ", u64::from(max))
+}
+
+/// Appends a text and two numbers with a space between them.
+fn push_pair(output: &mut Vec<u8>, text: &[u8], first: u64, second: u64) -> Result<(), AllocError>
+    ensures { OnOk result (output.new.items
+        ≡ output.old.items ++ (text.now ++ (decimal first ++ space ∷ decimal second))) }
+{
+    decimals::push_behind(output, text, first)?;
+    decimals::push_behind(output, b" ", second)
 }

@@ -1,6 +1,6 @@
 //! The reply about a frame.
 
-ghost use Rattle.std.specs.Prelude.{◌≡◌, ◌++◌, ℕ, List, IfErr, IfOk, OnOk, map};
+ghost use Rattle.std.specs.Prelude.{◌≡◌, ◌∷◌, ◌++◌, [], ℕ, List, IfErr, IfOk, OnOk, map};
 ghost use Rattle.std.specs.Option.{option_map};
 ghost use Rattle.ep_link.specs.LinkExtensions.{link_extension_of};
 ghost use Rattle.ep_link.specs.LinkSlices.{link_layer_of};
@@ -8,19 +8,19 @@ ghost use Rattle.ep_packet.specs.Frame.{IsFrame};
 ghost use Rattle.ep_packet.specs.Layers.{layers_of, net_layer_of};
 ghost use Rattle.ep_packet.specs.Refusals.{RefusesFrame};
 ghost use Rattle.ep_transport.specs.TransportParts.{transport_layer_of};
+ghost use Rattle.frame_bench.specs.Lines.{space};
 ghost use Rattle.frame_bench.specs.Requests.{frame_entry};
 ghost use Rattle.frame_bench.specs.SliceReplies.{IsSliceReply, extension_text, extensions_word};
 ghost use Rattle.frame_bench.specs.SliceReplies.{layers_text, link_word, net_word, refusal_text, transport_word};
 
-use crate::hex_text;
 use crate::requests::Entry;
+use crate::{decimals, hex_text};
 use ep_base::err::{LenError, ip, ip_auth, ipv4, ipv6, ipv6_exts, linux_sll, macsec, tcp};
 use ep_link::{LinkExtSlice, LinkSlice};
 use ep_packet::err::SliceError;
 use ep_packet::{NetSlice, SlicedPacket};
 use ep_transport::TransportSlice;
 use std::alloc::AllocError;
-use std::io::Write;
 
 /// Appends the text of the frame's layers, or why the bytes are no frame.
 pub fn push_slice(output: &mut Vec<u8>, entry: Entry, bytes: &[u8]) -> Result<(), AllocError>
@@ -52,10 +52,22 @@ fn push_layers(output: &mut Vec<u8>, packet: &SlicedPacket<'_>) -> Result<(), Al
     let link = link_word(&packet.link);
     let net = net_word(&packet.net);
     let transport = transport_word(&packet.transport);
-    write!(output, "ok {link} ").map_err(|_| AllocError)?;
+    output.extend_from_slice(b"ok ")?;
+    push_word(output, link)?;
     push_extensions(output, packet.link_exts.as_slice())?;
-    write!(output, " {net} {transport} ").map_err(|_| AllocError)?;
+    output.push(b' ')?;
+    push_word(output, net)?;
+    push_word(output, transport)?;
     hex_text::push(output, packet.payload())
+}
+
+/// Appends a word and a space.
+fn push_word(output: &mut Vec<u8>, word: &str) -> Result<(), AllocError>
+    ensures { OnOk result (output.new.items ≡ output.old.items ++ (word.now ++ space ∷ [])) }
+{
+    output.extend_from_slice(word.as_bytes())?;
+    output.push(b' ')?;
+    Ok(())
 }
 
 /// The word for a link layer.
@@ -92,7 +104,7 @@ fn push_extension(output: &mut Vec<u8>, extension: &LinkExtSlice<'_>) -> Result<
     match extension {
         LinkExtSlice::Vlan(tag) => {
             let vlan_id = tag.vlan_identifier().value();
-            write!(output, "vlan:{vlan_id}").map_err(|_| AllocError)
+            decimals::push_behind(output, b"vlan:", u64::from(vlan_id))
         }
         LinkExtSlice::Macsec(_) => output.extend_from_slice(b"macsec"),
     }
@@ -130,10 +142,16 @@ pub fn push_refusal(output: &mut Vec<u8>, error: &SliceError) -> Result<(), Allo
     match error {
         SliceError::Len(error) => push_len_error(output, error),
         SliceError::LinuxSll(linux_sll::HeaderError::UnsupportedPacketTypeField { packet_type }) =>
-            { write!(output, "err sll-packet-type {packet_type}").map_err(|_| AllocError) }
+            { decimals::push_behind(output, b"err sll-packet-type ", u64::from(*packet_type)) }
         SliceError::LinuxSll(
             linux_sll::HeaderError::UnsupportedArpHardwareId { arp_hardware_type },
-        ) => { write!(output, "err sll-arp-hardware {arp_hardware_type}").map_err(|_| AllocError) }
+        ) => {
+            decimals::push_behind(
+                output,
+                b"err sll-arp-hardware ",
+                u64::from(*arp_hardware_type),
+            )
+        }
         SliceError::Macsec(macsec::HeaderError::UnexpectedVersion) => {
             output.extend_from_slice(b"err macsec-version")
         }
@@ -141,19 +159,19 @@ pub fn push_refusal(output: &mut Vec<u8>, error: &SliceError) -> Result<(), Allo
             output.extend_from_slice(b"err macsec-short-length")
         }
         SliceError::Ip(ip::HeaderError::UnsupportedIpVersion { version_number }) => {
-            write!(output, "err ip-version {version_number}").map_err(|_| AllocError)
+            decimals::push_behind(output, b"err ip-version ", u64::from(*version_number))
         }
         SliceError::Ip(ip::HeaderError::Ipv4HeaderLengthSmallerThanHeader { ihl }) => {
-            write!(output, "err ip-ihl {ihl}").map_err(|_| AllocError)
+            decimals::push_behind(output, b"err ip-ihl ", u64::from(*ihl))
         }
         SliceError::Ipv4(ipv4::HeaderError::UnexpectedVersion { version_number }) => {
-            write!(output, "err ipv4-version {version_number}").map_err(|_| AllocError)
+            decimals::push_behind(output, b"err ipv4-version ", u64::from(*version_number))
         }
         SliceError::Ipv4(ipv4::HeaderError::HeaderLengthSmallerThanHeader { ihl }) => {
-            write!(output, "err ipv4-ihl {ihl}").map_err(|_| AllocError)
+            decimals::push_behind(output, b"err ipv4-ihl ", u64::from(*ihl))
         }
         SliceError::Ipv6(ipv6::HeaderError::UnexpectedVersion { version_number }) => {
-            write!(output, "err ipv6-version {version_number}").map_err(|_| AllocError)
+            decimals::push_behind(output, b"err ipv6-version ", u64::from(*version_number))
         }
         SliceError::Ipv4Exts(ip_auth::HeaderError::ZeroPayloadLen) => {
             output.extend_from_slice(b"err ipv4-auth-zero")
@@ -165,7 +183,7 @@ pub fn push_refusal(output: &mut Vec<u8>, error: &SliceError) -> Result<(), Allo
             ipv6_exts::HeaderError::IpAuth(ip_auth::HeaderError::ZeroPayloadLen),
         ) => output.extend_from_slice(b"err ipv6-auth-zero"),
         SliceError::Tcp(tcp::HeaderError::DataOffsetTooSmall { data_offset }) => {
-            write!(output, "err tcp-data-offset {data_offset}").map_err(|_| AllocError)
+            decimals::push_behind(output, b"err tcp-data-offset ", u64::from(*data_offset))
         }
     }
 }
@@ -174,14 +192,11 @@ pub fn push_refusal(output: &mut Vec<u8>, error: &SliceError) -> Result<(), Allo
 fn push_len_error(output: &mut Vec<u8>, error: &LenError) -> Result<(), AllocError>
     ensures { OnOk result (output.new.items ≡ output.old.items ++ refusal_text (SliceError.Len error.now)) }
 {
-    let required_len = error.required_len;
-    let len = error.len;
-    let source = error.len_source.name();
-    let layer = error.layer.name();
     let offset = error.layer_start_offset;
-    write!(
-        output,
-        "err len {required_len} {len} {source} {layer} {offset}"
-    )
-    .map_err(|_| AllocError)
+    decimals::push_behind(output, b"err len ", error.required_len as u64)?;
+    decimals::push_behind(output, b" ", error.len as u64)?;
+    output.push(b' ')?;
+    push_word(output, error.len_source.name())?;
+    push_word(output, error.layer.name())?;
+    decimals::push(output, offset as u64)
 }

@@ -1,6 +1,7 @@
 //! What no contract says: answers from outside, and readers and writers that move little or fail.
 
 mod cuts;
+mod decimals;
 mod fragments;
 mod frames;
 mod ip;

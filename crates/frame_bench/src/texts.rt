@@ -1,17 +1,71 @@
 //! Taking texts apart.
 
-ghost use Rattle.std.specs.Prelude.{◌≡◌, ◌≢◌, ◌∷◌, ◌++◌, ℕ, List, IfNone, IfSome};
-ghost use Rattle.std.specs.List.{All};
+ghost use Rattle.std.specs.Prelude.{◌≡◌, ◌≢◌, ◌==◌, ◌<◌, ◌≤◌, ◌+◌, ◌∷◌, ◌++◌, ℕ, List, IfNone, IfSome};
+ghost use Rattle.std.specs.Prelude.{length, not, slice_index, take};
+ghost use Rattle.std.specs.List.{All, prefix_len};
+ghost use Rattle.std.specs.Simd.Lanes.{chunk};
 ghost use Rattle.frame_bench.specs.Lines.{space};
 
-/// What stands in front of the first of these bytes, and behind it.
+use std::simd::prelude::*;
+
+/// What stands in front of the first byte `mark`, and behind it.
 pub fn split_at_first(text: &[u8], mark: u8) -> Option<(&[u8], &[u8])>
     ensures some { IfSome result (λ parts. All (λ byte. byte ≢ mark) parts.0.now
         × (text.now ≡ parts.0.now ++ mark ∷ parts.1.now)) }
     ensures none { IfNone result (All (λ byte. byte ≢ mark) text.now) }
 {
-    let end = text.iter().position(|byte| *byte == mark)?;
+    let end = len_before(text, mark);
+    if end == text.len() {
+        return None;
+    }
     Some((&text[..end], &text[end + 1..]))
+}
+
+/// How many bytes are looked at in one step.
+const STEP: usize = 16;
+
+/// How many bytes stand in front of the first byte `mark`; all of them where there is none.
+fn len_before(text: &[u8], mark: u8) -> usize
+    ensures within { result ≤ length text.now }
+    ensures front { All (λ byte. byte ≢ mark) (take result text.now) }
+    ensures found { result < length text.now → slice_index text.now result ≡ mark }
+{
+    'steps: for step in 0..text.len() / STEP {
+        let start = STEP * step;
+        let len = len_in_step(text, start, mark);
+        if len < STEP {
+            return start + len;
+        }
+    }
+    let start = text.len() / STEP * STEP;
+    start + len_before_by_one(&text[start..], mark)
+}
+
+/// The same, one byte after the other.
+fn len_before_by_one(text: &[u8], mark: u8) -> usize
+    ensures within { result ≤ length text.now }
+    ensures front { All (λ byte. byte ≢ mark) (take result text.now) }
+    ensures found { result < length text.now → slice_index text.now result ≡ mark }
+{
+    match text.iter().position(|byte| *byte == mark) {
+        Some(len) => len,
+        None => text.len(),
+    }
+}
+
+/// The same of the bytes of one step, all compared at once.
+fn len_in_step(text: &[u8], start: usize, mark: u8) -> usize
+    requires { start + 16 ≤ length text.now }
+    ensures { result ≡ prefix_len (λ byte. not (byte == mark)) (chunk start 16 text.now) }
+{
+    let found = u8x16::from_slice(&text[start..])
+        .simd_eq(u8x16::splat(mark))
+        .to_bitmask();
+    if found == 0 {
+        STEP
+    } else {
+        found.trailing_zeros() as usize
+    }
 }
 
 /// What stands behind a word and a space at the front of a text.

@@ -2,3 +2,4 @@ mod FileLemmas
 mod SumLemmas
 mod FrameLists
 mod HandedOut
+mod BuildingLemmas

@@ -24,12 +24,12 @@ pub kept-push : (numbers : List ℕ) (number : ℕ)
 kept-push numbers number =
     mod-add-mod (sum numbers) (2 ^ 64) number ∙ ap kept_sum (sym (sum-push numbers number))
 
--- the total of some bytes and of one more
-pub total-push : (Gives : List ℕ → ℕ → Type 0) (frames : List (List ℕ)) (total : ℕ) (frame : List ℕ) (number : ℕ)
-    → IsTotal Gives frames total → Gives frame number
-    → IsTotal Gives (frames ++ frame ∷ []) (kept_sum (total + number))
-total-push Gives frames total frame number before one = (
+-- the total of some items and of one more
+pub total-push : {A : Type 0} (Gives : A → ℕ → Type 0) (items : List A) (total : ℕ) (item : A) (number : ℕ)
+    → IsTotal Gives items total → Gives item number
+    → IsTotal Gives (items ++ item ∷ []) (kept_sum (total + number))
+total-push Gives items total item number before one = (
   before.0 ++ number ∷ [],
-  all_zip-push Gives frames before.0 frame number before.1 one,
+  all_zip-push Gives items before.0 item number before.1 one,
   ap (λ t. kept_sum (t + number)) before.2 ∙ kept-push before.0 number,
 )

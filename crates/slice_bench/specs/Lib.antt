@@ -3,4 +3,6 @@ pub mod Sums
 pub mod Refusals
 pub mod Corpora
 pub mod Reassembly
+pub mod Building
 pub mod Rounds
+pub mod Texts

@@ -97,6 +97,6 @@ GivesIpHeaders bytes number =
 
 -- ---- a list of them
 
--- this is the sum of the numbers that these bytes give
-abbrev pub IsTotal : (List ℕ → ℕ → Type 0) → List (List ℕ) → ℕ → Type 0
-IsTotal Gives frames total = (numbers : List ℕ) × AllZip Gives frames numbers × (total ≡ kept_sum (sum numbers))
+-- this is the sum of the numbers that these give
+abbrev pub IsTotal : {A : Type 0} → (A → ℕ → Type 0) → List A → ℕ → Type 0
+IsTotal Gives items total = (numbers : List ℕ) × AllZip Gives items numbers × (total ≡ kept_sum (sum numbers))

@@ -1,6 +1,7 @@
 //! Why nothing was measured.
 
 ghost use Rattle.std.specs.Prelude.{◌≡◌};
+ghost use Rattle.slice_bench.specs.Texts.{error_line, error_status};
 ghost use Rattle.slice_bench.specs.declared.bench_error.BenchError.TheVariants.{OutOfMemory};
 
 use std::alloc::AllocError;
@@ -26,7 +27,9 @@ pub enum BenchError {
 
 impl BenchError {
     /// The line for standard error, without its line feed.
-    pub fn text(&self) -> &'static str {
+    pub fn text(&self) -> &'static str
+        ensures { result.now ≡ error_line self.now }
+    {
         match self {
             BenchError::Usage => "usage: slice_bench FILE [ROUNDS [MEASUREMENT]]",
             BenchError::File => "slice_bench: the file can't be read",
@@ -39,7 +42,9 @@ impl BenchError {
     }
 
     /// The status of the process: 2 where the call itself is wrong, and else 1.
-    pub fn status(&self) -> u8 {
+    pub fn status(&self) -> u8
+        ensures { result ≡ error_status self.now }
+    {
         match self {
             BenchError::Usage => 2,
             _ => 1,

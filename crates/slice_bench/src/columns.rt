@@ -11,36 +11,45 @@ ghost use Rattle.slice_bench.specs.Sums.{headers_sum, kept_sum, layers_sum, link
 
 use ep_ip::Ipv4Slice;
 use ep_link::{LinkHeader, LinkSlice};
-use ep_packet::{IpHeaders, NetHeaders, NetSlice, PacketHeaders, SlicedPacket};
+use ep_packet::{Entry, IpHeaders, NetHeaders, NetSlice, PacketHeaders, SlicedPacket};
 use ep_transport::{TransportHeader, TransportSlice};
 
-/// Something that is done with each frame, or with each IP packet, alone.
-pub trait Column {
+/// Something that is done with each frame, or with each IP packet, in turn.
+pub trait Column<'a> {
     ghost gives: { List ℕ → ℕ → Type 0 };
 
-    /// What is summed of it; 0 where it is refused.
-    fn number(bytes: &[u8]) -> u64
+    /// What is kept from one to the next, before the first.
+    fn new() -> Self;
+
+    /// What is summed of one; 0 where it is refused.
+    fn number(&mut self, bytes: &'a [u8]) -> u64
         ensures { Self.gives bytes.now result };
 }
 
 /// The sum over all of them.
-pub fn total<C: Column>(frames: &[&[u8]]) -> u64
+pub fn total<'a, C: Column<'a> + Drop>(frames: &[&'a [u8]]) -> u64
     ensures { IsTotal C.gives (map (λ frame. frame.now) frames.now) result }
 {
+    let mut column = C::new();
     let mut total: u64 = 0;
     for frame in frames {
-        total = total.wrapping_add(C::number(frame));
+        total = total.wrapping_add(column.number(frame));
     }
     total
 }
 
 /// `SlicedPacket::from_ethernet`.
+#[derive(Drop)]
 pub struct Slicing;
 
-impl Column for Slicing {
+impl<'a> Column<'a> for Slicing {
     ghost gives = { GivesSliced };
 
-    fn number(bytes: &[u8]) -> u64 {
+    fn new() -> Slicing {
+        Slicing
+    }
+
+    fn number(&mut self, bytes: &'a [u8]) -> u64 {
         match SlicedPacket::from_ethernet(bytes) {
             Ok(packet) => layers_number(&packet),
             Err(_) => 0,
@@ -48,13 +57,41 @@ impl Column for Slicing {
     }
 }
 
+/// `SlicedPacket::slice_into`, with one packet that is reused.
+#[derive(Drop)]
+pub struct Filling<'a> {
+    packet: SlicedPacket<'a>,
+}
+
+impl<'a> Column<'a> for Filling<'a> {
+    ghost gives = { GivesSliced };
+
+    fn new() -> Filling<'a> {
+        Filling {
+            packet: SlicedPacket::new(),
+        }
+    }
+
+    fn number(&mut self, bytes: &'a [u8]) -> u64 {
+        match self.packet.slice_into(Entry::Ethernet, bytes) {
+            Ok(()) => layers_number(&self.packet),
+            Err(_) => 0,
+        }
+    }
+}
+
 /// `PacketHeaders::from_ethernet_slice`.
+#[derive(Drop)]
 pub struct Decoding;
 
-impl Column for Decoding {
+impl<'a> Column<'a> for Decoding {
     ghost gives = { GivesDecoded };
 
-    fn number(bytes: &[u8]) -> u64 {
+    fn new() -> Decoding {
+        Decoding
+    }
+
+    fn number(&mut self, bytes: &'a [u8]) -> u64 {
         match PacketHeaders::from_ethernet_slice(bytes) {
             Ok(packet) => headers_number(&packet),
             Err(_) => 0,
@@ -62,13 +99,41 @@ impl Column for Decoding {
     }
 }
 
+/// `PacketHeaders::read_into`, with one packet that is reused.
+#[derive(Drop)]
+pub struct Rereading<'a> {
+    packet: PacketHeaders<'a>,
+}
+
+impl<'a> Column<'a> for Rereading<'a> {
+    ghost gives = { GivesDecoded };
+
+    fn new() -> Rereading<'a> {
+        Rereading {
+            packet: PacketHeaders::new(),
+        }
+    }
+
+    fn number(&mut self, bytes: &'a [u8]) -> u64 {
+        match self.packet.read_into(Entry::Ethernet, bytes) {
+            Ok(()) => headers_number(&self.packet),
+            Err(_) => 0,
+        }
+    }
+}
+
 /// `Ipv4Slice::from_slice`.
+#[derive(Drop)]
 pub struct SlicingIpv4;
 
-impl Column for SlicingIpv4 {
+impl<'a> Column<'a> for SlicingIpv4 {
     ghost gives = { GivesIpv4 };
 
-    fn number(bytes: &[u8]) -> u64 {
+    fn new() -> SlicingIpv4 {
+        SlicingIpv4
+    }
+
+    fn number(&mut self, bytes: &'a [u8]) -> u64 {
         match Ipv4Slice::from_slice(bytes) {
             Ok(packet) => {
                 let protocol = packet.header().protocol();
@@ -80,12 +145,17 @@ impl Column for SlicingIpv4 {
 }
 
 /// `IpHeaders::from_slice`.
+#[derive(Drop)]
 pub struct ReadingIpHeaders;
 
-impl Column for ReadingIpHeaders {
+impl<'a> Column<'a> for ReadingIpHeaders {
     ghost gives = { GivesIpHeaders };
 
-    fn number(bytes: &[u8]) -> u64 {
+    fn new() -> ReadingIpHeaders {
+        ReadingIpHeaders
+    }
+
+    fn number(&mut self, bytes: &'a [u8]) -> u64 {
         match IpHeaders::from_slice(bytes) {
             Ok((headers, payload)) => {
                 let protocol = match &headers {

@@ -7,6 +7,7 @@
 #![tactic(auto)]
 
 mod bench_error;
+mod building;
 mod columns;
 mod corpus;
 mod files;
@@ -16,6 +17,7 @@ mod reassembly;
 mod tests;
 
 use crate::bench_error::BenchError;
+use crate::building::datagrams_of;
 use crate::corpus::ip_packets_of;
 use crate::files::frames_of;
 use crate::measure::{Corpus, Measurement, mean_tenths, measure};
@@ -55,7 +57,12 @@ fn run<R: Files + Env + Clock + Print + AllocGlobal>(rt: &R) -> Result<(), Bench
     };
     let frames = frames_of(rt.alloc(), bytes.as_slice())?;
     let ip_packets = ip_packets_of(rt.alloc(), frames.as_slice())?;
-    let corpus = Corpus { frames, ip_packets };
+    let datagrams = datagrams_of(rt.alloc(), frames.as_slice())?;
+    let corpus = Corpus {
+        frames,
+        ip_packets,
+        datagrams,
+    };
     print_heading(rt)?;
     for measurement in Measurement::ALL {
         if only.is_none_or(|wanted| wanted == measurement) {
@@ -100,7 +107,7 @@ fn print_measured<R: Clock + Print + AllocGlobal>(
     rounds: Option<u64>,
 ) -> Result<(), BenchError> {
     let name = measurement.name();
-    let items = measurement.items(corpus).len() as u64;
+    let items = measurement.count(corpus) as u64;
     if items == 0 {
         return println!(rt; "{name:<12} {items:>9}").map_err(|_| BenchError::Output);
     }

@@ -1,69 +1,89 @@
 //! Rounds over frames, and how long they take.
 
-ghost use Rattle.std.specs.Prelude.{◌≡◌, ◌*◌, ◌/◌, ◌<◌, ◌^◌, IfOk, MatchOption};
-ghost use Rattle.slice_bench.specs.Rounds.{IsRoundSum};
+ghost use Rattle.std.specs.Prelude.{◌≡◌, ◌*◌, ◌/◌, ◌<◌, ◌^◌, IfOk};
+ghost use Rattle.slice_bench.specs.Rounds.{IsRoundSum, measurement_name, round_count};
 
 use crate::bench_error::BenchError;
-use crate::columns::{Decoding, ReadingIpHeaders, Slicing, SlicingIpv4, total};
+use crate::building::{Datagram, built};
+use crate::columns::{Decoding, Filling, ReadingIpHeaders, Rereading, Slicing, SlicingIpv4, total};
 use crate::reassembly::handed_out;
 use std::alloc::Global;
 use std::rt::Clock;
 use std::time::Instant;
 
-/// The frames of a file, and the IP packets in them.
+/// The frames of a file, the IP packets in them, and what some of them are built from.
 #[derive(Drop)]
 pub struct Corpus<'a> {
     /// The frames.
     pub frames: Vec<&'a [u8]>,
     /// The IP packets in them.
     pub ip_packets: Vec<&'a [u8]>,
+    /// What those of them that are of Ethernet II, IPv4 and UDP are built from.
+    pub datagrams: Vec<Datagram<'a>>,
 }
 
-/// What is done with each frame of a file, or with each IP packet in them.
+/// What is done with each frame of a file, with each IP packet in them, or with what some of them are built from.
 #[derive(Clone, Copy, Debug, PartialEq, Eq)]
 pub enum Measurement {
     /// A frame is sliced.
     Slicing,
+    /// A frame is sliced into one packet that is reused.
+    Filling,
     /// The headers of a frame are decoded.
     Decoding,
+    /// The headers of a frame are decoded into one value that is reused.
+    Rereading,
     /// An IP packet is sliced as one of IPv4.
     SlicingIpv4,
     /// The headers of an IP packet are read.
     ReadingIpHeaders,
+    /// A frame of Ethernet II, IPv4 and UDP is built from addresses, ports and payload, and else the builder's defaults.
+    Building,
     /// A frame is sliced and given to a pool, which is new in each round.
     Reassembly,
 }
 
 impl Measurement {
     /// Each of them, in the order in which they are made.
-    pub const ALL: [Measurement; 5] = [
+    pub const ALL: [Measurement; 8] = [
         Measurement::Slicing,
+        Measurement::Filling,
         Measurement::Decoding,
+        Measurement::Rereading,
         Measurement::SlicingIpv4,
         Measurement::ReadingIpHeaders,
+        Measurement::Building,
         Measurement::Reassembly,
     ];
 
     /// Its name, as an argument and in the output.
-    pub fn name(&self) -> &'static str {
+    pub fn name(&self) -> &'static str
+        ensures { result.now ≡ measurement_name self.now }
+    {
         match self {
             Measurement::Slicing => "slicing",
+            Measurement::Filling => "filling",
             Measurement::Decoding => "decoding",
+            Measurement::Rereading => "rereading",
             Measurement::SlicingIpv4 => "ipv4-slice",
             Measurement::ReadingIpHeaders => "ip-headers",
+            Measurement::Building => "building",
             Measurement::Reassembly => "reassembly",
         }
     }
 
-    /// What a round goes over.
-    pub fn items<'a, 'b>(&self, corpus: &'b Corpus<'a>) -> &'b [&'a [u8]] {
+    /// How many a round goes over.
+    pub fn count(&self, corpus: &Corpus<'_>) -> usize
+        ensures { result ≡ round_count self.now corpus.now }
+    {
         match self {
-            Measurement::Slicing | Measurement::Decoding | Measurement::Reassembly => {
-                corpus.frames.as_slice()
-            }
-            Measurement::SlicingIpv4 | Measurement::ReadingIpHeaders => {
-                corpus.ip_packets.as_slice()
-            }
+            Measurement::Slicing
+            | Measurement::Filling
+            | Measurement::Decoding
+            | Measurement::Rereading
+            | Measurement::Reassembly => corpus.frames.len(),
+            Measurement::SlicingIpv4 | Measurement::ReadingIpHeaders => corpus.ip_packets.len(),
+            Measurement::Building => corpus.datagrams.len(),
         }
     }
 
@@ -73,11 +93,14 @@ impl Measurement {
     {
         match self {
             Measurement::Slicing => Ok(total::<Slicing>(corpus.frames.as_slice())),
+            Measurement::Filling => Ok(total::<Filling>(corpus.frames.as_slice())),
             Measurement::Decoding => Ok(total::<Decoding>(corpus.frames.as_slice())),
+            Measurement::Rereading => Ok(total::<Rereading>(corpus.frames.as_slice())),
             Measurement::SlicingIpv4 => Ok(total::<SlicingIpv4>(corpus.ip_packets.as_slice())),
             Measurement::ReadingIpHeaders => Ok(total::<ReadingIpHeaders>(
                 corpus.ip_packets.as_slice(),
             )),
+            Measurement::Building => built(alloc, corpus.datagrams.as_slice()),
             Measurement::Reassembly => handed_out(alloc, corpus.frames.as_slice()),
         }
     }

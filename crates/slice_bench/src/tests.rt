@@ -1,6 +1,7 @@
 //! What no contract says: files and sums from outside, and that calls which take memory succeed where there is memory.
 
 use crate::bench_error::BenchError;
+use crate::building::datagrams_of;
 use crate::corpus::ip_packets_of;
 use crate::files::frames_of;
 use crate::measure::{Corpus, Measurement, measure};
@@ -57,13 +58,17 @@ const DATAGRAM: &[u8] = b"\x07\x08\x09\x0a\x0b\x0c\x01\x02\x03\x04\x05\x06\x08\x
 const CUT: &[u8] = b"\x07\x08\x09\x0a\x0b\x0c\x01\x02\x03\x04\x05\x06\x08\x00\x45";
 
 /// What is summed of them: the ether type, the protocol and the total length, the ports, and the payload's length.
-const SUMS: [(Measurement, u64); 5] = [
+const SUMS: [(Measurement, u64); 8] = [
     // Twice 2048, 17, 28 and 8, and then 2048, 17, 36, 21, 1234 and 8.
     (Measurement::Slicing, 7566),
+    (Measurement::Filling, 7566),
     (Measurement::Decoding, 7566),
+    (Measurement::Rereading, 7566),
     // Twice 17 and 8, and then 17 and 16.
     (Measurement::SlicingIpv4, 83),
     (Measurement::ReadingIpHeaders, 83),
+    // The checksums 0xe375 and 0x677f, and 50 bytes.
+    (Measurement::Building, 84_774),
     (Measurement::Reassembly, 16),
 ];
 
@@ -72,7 +77,13 @@ fn sums_frames(rt: HostRuntime) -> Result<(), Fail> {
     let frames = vec![in rt.alloc(); FIRST, DATAGRAM, CUT, SECOND]?;
     let ip_packets = ip_packets_of(rt.alloc(), frames.as_slice()).expect(&rt, "ample memory");
     assert_eq!(rt; ip_packets.len(), 3);
-    let corpus = Corpus { frames, ip_packets };
+    let datagrams = datagrams_of(rt.alloc(), frames.as_slice()).expect(&rt, "ample memory");
+    assert_eq!(rt; datagrams.len(), 1);
+    let corpus = Corpus {
+        frames,
+        ip_packets,
+        datagrams,
+    };
     for (measurement, sum) in SUMS {
         let measured = measure(&rt, rt.alloc(), measurement, &corpus, Some(2)).expect(
             &rt,

@@ -1,6 +1,6 @@
 //! The step of an ARP packet.
 
-ghost use Rattle.std.specs.Prelude.{◌≡◌, ◌++◌, [], length, IfErr, OnOk, OnErr};
+ghost use Rattle.std.specs.Prelude.{◌≡◌, ◌+◌, ◌<◌, ◌++◌, [], length, IfErr, OnOk, OnErr, vec_len, vec_capacity};
 ghost use Rattle.ep_build.specs.BuiltFrames.{built_frame, built_size};
 ghost use Rattle.ep_build.specs.Steps.{ArpStepReadsBack, arp_held};
 
@@ -11,12 +11,14 @@ use crate::writing::write_arp;
 use ep_link::ArpPacket;
 
 impl PacketBuilderStep<ArpPacket> {
-    /// Appends the frame of the headers and the packet. Where there is no memory, the buffer is as it was.
+    /// Appends the frame of the headers and the packet. Where there is no memory, which comes only where the buffer
+    /// would have to grow, it is as it was.
     pub fn write(self, buf: &mut Vec<u8>) -> Result<(), BuildWriteError>
         ensures ok { OnOk result (buf.new.items ≡ buf.old.items ++ built_frame (arp_held self) []) }
         ensures err { OnErr result (buf.new.items ≡ buf.old.items) }
         ensures refused { IfErr result (λ error. error ≡ BuildWriteError.OutOfMemory) }
         ensures read_back { OnOk result (ArpStepReadsBack self) }
+        ensures full { OnErr result (vec_capacity buf.old < vec_len buf.old + built_size (arp_held self) 0) }
     {
         write_arp(&self.before, &self.last, buf)
     }

@@ -1,13 +1,16 @@
 //! Which headers a step holds.
 
-ghost use Rattle.std.specs.Prelude.{◌≡◌};
+ghost use Rattle.std.specs.Prelude.{◌≡◌, ◌≤◌, length};
+ghost use Rattle.ep_transport.specs.TransportHeaders.{transport_bytes, transport_header_len};
+ghost use Rattle.ep_transport.specs.declared.transport_header.TransportHeader.TheVariants as transport;
 ghost use Rattle.ep_build.specs.Steps.{ethernet2_link, linux_sll_link, vlan_link};
 
 use super::PacketBuilderStep;
+use crate::facts::{icmpv4_fits, icmpv6_fits};
 use crate::link_part::LinkPart;
 use ep_link::{ArpPacket, Ethernet2Header, LinuxSllHeader, VlanHeader};
 use ep_packet::IpHeaders;
-use ep_transport::{Icmpv4Header, Icmpv6Header, TcpHeader, UdpHeader};
+use ep_transport::{Icmpv4Header, Icmpv6Header, TcpHeader, TransportHeader, UdpHeader};
 
 /// A header that may be the last of a step, with the headers that the step then holds before it. No other crate can
 /// name this trait, so these are all steps.
@@ -95,5 +98,109 @@ impl CarriesNet for VlanHeader {
         ensures { result ≡ vlan_link step }
     {
         LinkPart::Tagged(step.before, step.last)
+    }
+}
+
+/// A transport header. No other crate can name this trait either.
+pub trait IsTransport: HoldsHeaders {
+    ghost use Rattle.ep_transport.specs.declared.transport_header.TransportHeader.{TransportHeader};
+
+    /// What it is among the transport headers.
+    ghost kind: { Self → TransportHeader };
+
+    /// The header, as one of the transport headers.
+    fn into_transport(self) -> TransportHeader
+        ensures { result ≡ kind self };
+
+    /// The number of bytes of the header.
+    fn transport_len(&self) -> usize
+        ensures value { result ≡ transport_header_len (kind self.now) }
+        ensures bytes { length (transport_bytes (kind self.now)) ≡ transport_header_len (kind self.now) }
+        ensures bound { result ≤ 60 };
+}
+
+impl IsTransport for UdpHeader {
+    ghost kind = { transport.Udp };
+
+    #[inline]
+    fn into_transport(self) -> TransportHeader
+        ensures { result ≡ transport.Udp self }
+    {
+        TransportHeader::Udp(self)
+    }
+
+    #[inline]
+    fn transport_len(&self) -> usize
+        ensures value { result ≡ transport_header_len (transport.Udp self.now) }
+        ensures bytes { length (transport_bytes (transport.Udp self.now))
+            ≡ transport_header_len (transport.Udp self.now) }
+        ensures bound { result ≤ 60 }
+    {
+        self.header_len()
+    }
+}
+
+impl IsTransport for TcpHeader {
+    ghost kind = { transport.Tcp };
+
+    #[inline]
+    fn into_transport(self) -> TransportHeader
+        ensures { result ≡ transport.Tcp self }
+    {
+        TransportHeader::Tcp(self)
+    }
+
+    #[inline]
+    fn transport_len(&self) -> usize
+        ensures value { result ≡ transport_header_len (transport.Tcp self.now) }
+        ensures bytes { length (transport_bytes (transport.Tcp self.now))
+            ≡ transport_header_len (transport.Tcp self.now) }
+        ensures bound { result ≤ 60 }
+    {
+        self.header_len()
+    }
+}
+
+impl IsTransport for Icmpv4Header {
+    ghost kind = { transport.Icmpv4 };
+
+    #[inline]
+    fn into_transport(self) -> TransportHeader
+        ensures { result ≡ transport.Icmpv4 self }
+    {
+        TransportHeader::Icmpv4(self)
+    }
+
+    #[inline]
+    fn transport_len(&self) -> usize
+        ensures value { result ≡ transport_header_len (transport.Icmpv4 self.now) }
+        ensures bytes { length (transport_bytes (transport.Icmpv4 self.now))
+            ≡ transport_header_len (transport.Icmpv4 self.now) }
+        ensures bound { result ≤ 60 }
+    {
+        icmpv4_fits(self);
+        self.header_len()
+    }
+}
+
+impl IsTransport for Icmpv6Header {
+    ghost kind = { transport.Icmpv6 };
+
+    #[inline]
+    fn into_transport(self) -> TransportHeader
+        ensures { result ≡ transport.Icmpv6 self }
+    {
+        TransportHeader::Icmpv6(self)
+    }
+
+    #[inline]
+    fn transport_len(&self) -> usize
+        ensures value { result ≡ transport_header_len (transport.Icmpv6 self.now) }
+        ensures bytes { length (transport_bytes (transport.Icmpv6 self.now))
+            ≡ transport_header_len (transport.Icmpv6 self.now) }
+        ensures bound { result ≤ 60 }
+    {
+        icmpv6_fits(self);
+        self.header_len()
     }
 }

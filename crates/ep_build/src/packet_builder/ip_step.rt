@@ -1,14 +1,14 @@
 //! The step of IP headers: the transport header behind them, or a payload of another protocol.
 
-ghost use Rattle.std.specs.Prelude.{◌≡◌, ◌<◌, ◌^◌, ◌++◌, ℕ, List, length, IfErr, OnOk, OnErr};
+ghost use Rattle.std.specs.Prelude.{◌≡◌, ◌+◌, ◌<◌, ◌^◌, ◌++◌, ℕ, List, length, Err, IfErr, OnOk, OnErr, vec_len, vec_capacity};
 ghost use Rattle.ep_transport.specs.Tcp.{default_tcp_header};
 ghost use Rattle.ep_transport.specs.declared.icmpv4_type.Icmpv4Type.TheVariants as v4;
 ghost use Rattle.ep_transport.specs.declared.icmpv6_type.Icmpv6Type.TheVariants as v6;
 ghost use Rattle.ep_transport.specs.declared.transport_header.TransportHeader.TheVariants as transport;
 ghost use Rattle.ep_base.specs.declared.ip_number.IpNumber.{IpNumber};
 ghost use Rattle.ep_build.specs.BuildErrors.{IsBuildable, IsBuildError};
-ghost use Rattle.ep_build.specs.BuiltFrames.{built_frame};
-ghost use Rattle.ep_build.specs.Steps.{held_behind, ip_held, ip_step_size, transport_held};
+ghost use Rattle.ep_build.specs.BuiltFrames.{built_frame, built_size};
+ghost use Rattle.ep_build.specs.Steps.{IpStepReadsBack, held_behind, ip_held, ip_step_size, transport_held};
 
 use super::PacketBuilderStep;
 use super::holds_headers::HoldsHeaders;
@@ -172,7 +172,9 @@ impl PacketBuilderStep<IpHeaders> {
 
     /// Appends the frame of the headers and this payload, in which the headers lead to this number. A refusal leaves
     /// the buffer as it was: the payload and the extension headers are longer than the length field can count, or there
-    /// is no memory.
+    /// is no memory, which comes only where the buffer would have to grow. Where the headers say that the payload is a
+    /// fragment (RFC 791, 3.2; RFC 8200, 4.5), and the number is none of an extension header, the frame is read back as
+    /// that fragment.
     pub fn write(
         mut self,
         buf: &mut Vec<u8>,
@@ -185,6 +187,9 @@ impl PacketBuilderStep<IpHeaders> {
         ensures err { OnErr result (buf.new.items ≡ buf.old.items) }
         ensures refused { IfErr result
             (IsBuildError (ip_held self last_next_header_ip_number) (length payload.now)) }
+        ensures fragment { OnOk result (IpStepReadsBack self last_next_header_ip_number payload.now) }
+        ensures full { result ≡ Err BuildWriteError.OutOfMemory → vec_capacity buf.old
+            < vec_len buf.old + built_size (ip_held self last_next_header_ip_number) (length payload.now) }
     {
         write_ip(
             &self.before,

@@ -1,18 +1,12 @@
-//! The step of a TCP header, with its flags and options.
+//! The flags and the options of the step of a TCP header.
 
-ghost use Rattle.std.specs.Prelude.{◌≡◌, ◌<◌, ◌^◌, ◌++◌, ℕ, List, length, true, min, ◌≤◌, ◌-◌, MatchResult, IfErr, OnOk, OnErr};
-ghost use Rattle.ep_transport.specs.declared.transport_header.TransportHeader.TheVariants as transport;
+ghost use Rattle.std.specs.Prelude.{◌≡◌, ◌<◌, ◌≤◌, ◌^◌, ◌-◌, length, min, true, MatchResult};
 ghost use Rattle.ep_transport.specs.TcpOptionBytes.{in_words, options_bytes};
 ghost use Rattle.ep_transport.specs.declared.tcp_options.TcpOptionWriteError.TheVariants.{NotEnoughSpace};
-ghost use Rattle.ep_build.specs.BuildErrors.{IsBuildable, IsBuildError};
-ghost use Rattle.ep_build.specs.BuiltFrames.{built_frame, built_size};
-ghost use Rattle.ep_build.specs.Steps.{StepReadsBack, transport_held, transport_header, with_header};
+ghost use Rattle.ep_build.specs.Steps.{transport_header, with_header};
 
 use super::PacketBuilderStep;
-use crate::err::BuildWriteError;
-use crate::facts::{ip_header_fits, link_fits};
-use crate::writing::write_transport;
-use ep_transport::{TcpHeader, TcpOptionElement, TcpOptionWriteError, TransportHeader};
+use ep_transport::{TcpHeader, TcpOptionElement, TcpOptionWriteError};
 
 impl PacketBuilderStep<TcpHeader> {
     /// The nonce sum of congestion notification (RFC 3540) is set.
@@ -137,37 +131,5 @@ impl PacketBuilderStep<TcpHeader> {
             Ok(()) => Ok(self),
             Err(error) => Err(error),
         }
-    }
-
-    /// Appends the frame of the headers and this payload. A refusal leaves the buffer as it was: headers and payload are
-    /// longer than the length field of IP can count, or there is no memory.
-    pub fn write(mut self, buf: &mut Vec<u8>, payload: &[u8]) -> Result<(), BuildWriteError>
-        ensures ok { let held = transport_held transport.Tcp self in
-            OnOk result (IsBuildable held (length payload.now)
-            × (buf.new.items ≡ buf.old.items ++ built_frame held payload.now)) }
-        ensures err { OnErr result (buf.new.items ≡ buf.old.items) }
-        ensures refused { IfErr result
-            (IsBuildError (transport_held transport.Tcp self) (length payload.now)) }
-        ensures read_back { OnOk result (StepReadsBack transport.Tcp self payload.now) }
-    {
-        let mut transport = TransportHeader::Tcp(self.last);
-        let (link, headers) = &mut self.before;
-        write_transport(link, headers, &mut transport, payload, buf)
-    }
-
-    /// The number of bytes of the frame with a payload of this many bytes. Their sum must be a `usize`.
-    #[inline]
-    pub fn size(&self, payload_size: usize) -> usize
-        requires { built_size (transport_held transport.Tcp self.now) payload_size < 2 ^ 64 }
-        ensures value { result ≡ built_size (transport_held transport.Tcp self.now) payload_size }
-        ensures frame { (payload : List ℕ) → length payload ≡ payload_size
-            → length (built_frame (transport_held transport.Tcp self.now) payload) ≡ result }
-    {
-        link_fits(&self.before.0);
-        ip_header_fits(&self.before.1);
-        self.before.0.header_len()
-            + self.before.1.header_len()
-            + self.last.header_len()
-            + payload_size
     }
 }

@@ -1,8 +1,9 @@
 //! Frames from outside, each read back by every entry of its first layer.
 
 use super::*;
-use ep_ext::{IpAuthHeader, Ipv6Extensions, Ipv6RawExtHeader};
-use ep_ip::Ipv6Header;
+use ep_base::IpFragOffset;
+use ep_ext::{IpAuthHeader, Ipv4Extensions, Ipv6Extensions, Ipv6FragmentHeader, Ipv6RawExtHeader};
+use ep_ip::{Ipv4Header, Ipv6Header};
 use ep_link::{ArpHardwareId, ArpOperation};
 use ep_packet::{NetHeaders, NetSlice, PacketHeaders, SlicedPacket};
 use ep_transport::{TransportHeader, TransportSlice};
@@ -370,5 +371,87 @@ fn extension_headers(rt: HostRuntime) -> Result<(), Fail> {
         frame,
         &frame[60..],
     )?;
+    Ok(())
+}
+
+/// What a frame carries of a longer payload that is cut: the offset in units of 8 bytes, whether more follows, the bytes,
+/// and the frame of them over IPv4.
+const FRAGMENTS: [(u16, bool, &[u8], &[u8]); 2] = [
+    (
+        0,
+        true,
+        b"\x00\x01\x02\x03\x04\x05\x06\x07\x08\x09\x0a\x0b\x0c\x0d\x0e\x0f",
+        b"\x45\x00\x00\x24\x00\x07\x20\x00\x40\xfd\xd6\x82\xc0\xa8\x01\x01\xc0\xa8\x01\x02\x00\x01\x02\x03\x04\x05\x06\x07\x08\x09\x0a\x0b\x0c\x0d\x0e\x0f",
+    ),
+    (
+        2,
+        false,
+        b"\x10\x11\x12\x13\x14\x15\x16\x17",
+        b"\x45\x00\x00\x1c\x00\x07\x00\x02\x40\xfd\xf6\x88\xc0\xa8\x01\x01\xc0\xa8\x01\x02\x10\x11\x12\x13\x14\x15\x16\x17",
+    ),
+];
+
+#[test]
+fn fragments(rt: HostRuntime) -> Result<(), Fail> {
+    for (offset, more_fragments, payload, expected) in FRAGMENTS {
+        let header = Ipv4Header {
+            identification: 7,
+            dont_fragment: false,
+            more_fragments,
+            fragment_offset: IpFragOffset::try_new(offset)?,
+            time_to_live: 64,
+            source: [192, 168, 1, 1],
+            destination: [192, 168, 1, 2],
+            ..Default::default()
+        };
+        let headers = IpHeaders::Ipv4(header, Ipv4Extensions::default());
+        let mut buf = begun(rt.alloc())?;
+        PacketBuilder::ip(headers).write(&mut buf, IpNumber(253), payload)?;
+        assert_eq!(rt; appended(&rt, &buf), expected);
+    }
+    Ok(())
+}
+
+/// The same over IPv6, from and to the unspecified address, behind a fragment header.
+const FRAGMENTS_OVER_IPV6: [(u16, bool, &[u8], &[u8]); 2] = [
+    (
+        0,
+        true,
+        b"\x00\x01\x02\x03\x04\x05\x06\x07",
+        b"\x60\x00\x00\x00\x00\x10\x2c\x40\x00\x00\x00\x00\x00\x00\x00\x00\x00\x00\x00\x00\x00\x00\x00\x00\x00\x00\x00\x00\x00\x00\x00\x00\x00\x00\x00\x00\x00\x00\x00\x00\x11\x00\x00\x01\x00\x00\x00\x07\x00\x01\x02\x03\x04\x05\x06\x07",
+    ),
+    (
+        1,
+        false,
+        b"\x08\x09\x0a\x0b\x0c\x0d\x0e\x0f",
+        b"\x60\x00\x00\x00\x00\x10\x2c\x40\x00\x00\x00\x00\x00\x00\x00\x00\x00\x00\x00\x00\x00\x00\x00\x00\x00\x00\x00\x00\x00\x00\x00\x00\x00\x00\x00\x00\x00\x00\x00\x00\x11\x00\x00\x08\x00\x00\x00\x07\x08\x09\x0a\x0b\x0c\x0d\x0e\x0f",
+    ),
+];
+
+#[test]
+fn fragments_over_ipv6(rt: HostRuntime) -> Result<(), Fail> {
+    for (offset, more_fragments, payload, expected) in FRAGMENTS_OVER_IPV6 {
+        let header = Ipv6Header {
+            hop_limit: 64,
+            ..Default::default()
+        };
+        let fragment = Ipv6FragmentHeader {
+            next_header: IpNumber(255),
+            fragment_offset: IpFragOffset::try_new(offset)?,
+            more_fragments,
+            identification: 7,
+        };
+        let extensions = Ipv6Extensions {
+            fragment: Some(fragment),
+            ..Default::default()
+        };
+        let mut buf = begun(rt.alloc())?;
+        PacketBuilder::ip(IpHeaders::Ipv6(header, extensions)).write(
+            &mut buf,
+            IpNumber::UDP,
+            payload,
+        )?;
+        assert_eq!(rt; appended(&rt, &buf), expected);
+    }
     Ok(())
 }

@@ -3,9 +3,9 @@
 use super::{FRAME, PAYLOAD};
 use crate::err::{SliceError, ip_auth, ipv6_exts};
 use crate::{
-    DoubleVlanHeader, EtherPayloadSlice, EtherType, IpPayloadSlice, Ipv4Extensions, Ipv6Extensions,
-    Layer, LenError, LenSource, LinkExtHeader, LinkHeader, NetHeaders, NetSlice, PacketHeaders,
-    PayloadSlice, SlicedPacket, TransportHeader, TransportSlice, VlanHeader,
+    DoubleVlanHeader, Entry, EtherPayloadSlice, EtherType, IpPayloadSlice, Ipv4Extensions,
+    Ipv6Extensions, Layer, LenError, LenSource, LinkExtHeader, LinkHeader, NetHeaders, NetSlice,
+    PacketHeaders, PayloadSlice, SlicedPacket, TransportHeader, TransportSlice, VlanHeader,
 };
 use ep_base::IpNumber;
 use std::test::Fail;
@@ -50,6 +50,22 @@ const SEGMENT: &[u8] =
 /// An IPv4 packet with an authentication header in front of four bytes of the number 59.
 const AUTHENTICATED: &[u8] =
     b"\x45\x00\x00\x24\x00\x00\x00\x00\x40\x33\x00\x00\xc0\xa8\x01\x01\xc0\xa8\x01\x02\x3b\x01\x00\x00\x00\x00\x00\x02\x00\x00\x00\x03\x01\x02\x03\x04";
+
+/// The payload of that packet.
+const AUTHENTICATED_PAYLOAD: PayloadSlice<'static> = PayloadSlice::Ip(IpPayloadSlice {
+    ip_number: IpNumber(59),
+    fragmented: false,
+    len_source: LenSource::Ipv4HeaderTotalLen,
+    payload: &[1, 2, 3, 4],
+});
+
+/// The header of a Linux cooked capture over Ethernet, and that packet.
+const COOKED: &[u8] =
+    b"\x00\x00\x00\x01\x00\x06\x01\x02\x03\x04\x05\x06\x00\x00\x08\x00\x45\x00\x00\x24\x00\x00\x00\x00\x40\x33\x00\x00\xc0\xa8\x01\x01\xc0\xa8\x01\x02\x3b\x01\x00\x00\x00\x00\x00\x02\x00\x00\x00\x03\x01\x02\x03\x04";
+
+/// The same of Netlink, whose protocol is no ether type.
+const COOKED_NETLINK: &[u8] =
+    b"\x00\x00\x03\x38\x00\x00\x00\x00\x00\x00\x00\x00\x00\x00\x00\x10\x01\x02";
 
 /// The frame with another length field of UDP.
 fn with_udp_len(len: u8) -> [u8; 50] {
@@ -157,6 +173,94 @@ fn entries(rt: HostRuntime) -> Result<(), Fail> {
     let packet = PacketHeaders::from_ether_type(EtherType::ARP, ARP)?;
     assert!(rt; matches!(packet.net, Some(NetHeaders::Arp(_))));
     assert_eq!(rt; packet.payload.slice().len(), 0);
+    Ok(())
+}
+
+#[test]
+fn one_packet(rt: HostRuntime) -> Result<(), Fail> {
+    // in a packet that is used again: the number of its tags, the bytes of its net headers, and its payload, or none of
+    // them where the bytes are refused
+    let cut = Entry::EtherType(EtherType::IPV4);
+    let rows: [(Entry, &[u8], Option<(usize, usize, PayloadSlice<'_>)>); 14] = [
+        (
+            Entry::Ethernet,
+            &FRAME,
+            Some((0, 20, PayloadSlice::Udp(&PAYLOAD))),
+        ),
+        (
+            Entry::LinuxSll,
+            COOKED,
+            Some((0, 32, AUTHENTICATED_PAYLOAD)),
+        ),
+        (
+            Entry::Ip,
+            &FRAME[14..],
+            Some((0, 20, PayloadSlice::Udp(&PAYLOAD))),
+        ),
+        (cut, AUTHENTICATED, Some((0, 32, AUTHENTICATED_PAYLOAD))),
+        (cut, &AUTHENTICATED[..30], None),
+        (
+            Entry::Ip,
+            EVERY_KIND,
+            Some((0, 92, PayloadSlice::Udp(&[1, 2]))),
+        ),
+        (
+            Entry::Ip,
+            ECHO_IPV6,
+            Some((0, 40, PayloadSlice::Icmpv6(&[0xaa, 0xbb]))),
+        ),
+        (Entry::Ip, SECOND_HOP_BY_HOP, None),
+        (
+            Entry::EtherType(EtherType::MACSEC),
+            MODIFIED,
+            Some((1, 0, PayloadSlice::MacsecMod(b"\xaa\xbb\xcc"))),
+        ),
+        (
+            Entry::EtherType(EtherType::ARP),
+            ARP,
+            Some((0, 28, PayloadSlice::Empty)),
+        ),
+        (
+            Entry::EtherType(EtherType::VLAN_TAGGED_FRAME),
+            FOUR_TAGS,
+            Some((
+                3,
+                0,
+                PayloadSlice::Ether(EtherPayloadSlice {
+                    ether_type: EtherType(0x8100),
+                    len_source: LenSource::Slice,
+                    payload: b"\x00\x04\x08\x00",
+                }),
+            )),
+        ),
+        (
+            Entry::LinuxSll,
+            COOKED_NETLINK,
+            Some((0, 0, PayloadSlice::MacsecMod(&[1, 2]))),
+        ),
+        (Entry::Ethernet, &FRAME[..13], None),
+        (
+            Entry::Ip,
+            SEGMENT,
+            Some((0, 20, PayloadSlice::Tcp(&[1, 2]))),
+        ),
+    ];
+    let mut packet = PacketHeaders::new();
+    for (entry, bytes, answer) in &rows {
+        match answer {
+            Some((tags, net_len, payload)) => {
+                packet.read_into(*entry, bytes)?;
+                assert_eq!(rt; packet.link_exts.len(), *tags);
+                let net = packet.net.as_ref().map(|headers| headers.header_len());
+                assert_eq!(rt; net.unwrap_or(0), *net_len);
+                assert_eq!(rt; packet.payload, payload.clone()?);
+            }
+            None => {
+                assert!(rt; packet.read_into(*entry, bytes).is_err());
+                assert_eq!(rt; packet, PacketHeaders::new());
+            }
+        }
+    }
     Ok(())
 }
 

@@ -59,7 +59,7 @@ pub(super) const RUNS: [(&str, &str); 9] = [
         none\n\
         none\n",
     ),
-    // Cuts of a payload of another protocol, the second one longer.
+    // Cuts of a payload of another protocol, the first one longer.
     (
         "frag ip 1 0 450000240007200040fdd682c0a80101c0a80102000102030405060708090a0b0c0d0e0f\n\
         frag ip 1 0 4500001c0007000240fdf688c0a80101c0a801021011121314151617\n",

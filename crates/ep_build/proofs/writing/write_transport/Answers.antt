@@ -1,40 +1,95 @@
-use Rattle.std.proofs.Common.{◌+◌, ℕ, length, sym, ap, subst}
-use Rattle.ep_packet.specs.IpHeaders.{LeadThrough, ip_headers_parts}
+use Rattle.std.proofs.Common.{◌+◌, ℕ, length, sym, ap, subst, arith}
+use Rattle.std.specs.Prelude.{is_ok}
+use Rattle.std.proofs.lemmas.List.{length-append}
 use Rattle.ep_base.specs.Bytes.{AreBytes}
-use Rattle.ep_build.specs.BuiltFrames.{link_before, link_part_bytes}
+use Rattle.ep_packet.specs.IpHeaders.{LeadThrough, ip_headers_len, ip_headers_parts, written_headers}
 use Rattle.ep_packet.specs.declared.ip_headers.IpHeaders.{IpHeaders}
 use Rattle.ep_packet.proofs.IpHeadersLemmas.{leads}
-use Rattle.ep_build.proofs.WritingLemmas.{appended, are_bytes, transport_back, transport_ok}
+use Rattle.ep_transport.specs.TransportHeaders.{transport_bytes}
+use Rattle.ep_build.specs.BuiltFrames.{link_before, link_part_bytes}
+use Rattle.ep_build.proofs.LengthLemmas.{headers_for_len}
+use Rattle.ep_build.proofs.WritingLemmas.{appended, are_bytes, chosen, filled_len, joined, on_err, on_ok, succeeds}
+use Rattle.ep_build.proofs.WritingLemmas.{transport_back, transport_ok}
 use Rattle.ep_build.proofs.writing.write_transport.Goals as goal
 
-pub append_transport-requires : goal.append_transport-requires
-append_transport-requires c = subst
+pub append_headers-requires-clause-leads : goal.append_headers-requires-clause-leads
+append_headers-requires-clause-leads c = subst
     (λ (h : IpHeaders). (last : ℕ) × LeadThrough h (ip_headers_parts h) last)
     (sym c.in-Ok.ensures.1)
     (_, leads c.args.headers.now c.number_of-last.result _)
 
-pub returns-in-Ok-append_transport-clause-ok : goal.returns-in-Ok-append_transport-clause-ok
-returns-in-Ok-append_transport-clause-ok c =
+pub returns-then-is_err-clause-full : goal.returns-then-is_err-clause-full
+returns-then-is_err-clause-full c wanting = omega (
+  arith,
+  on_err c.reserve.result _ (sym c.if-is_err.ensures.value) c.reserve.ensures.full,
+  c.header_len.ensures.value,
+  c.header_len-2.ensures.value,
+  c.header_len-3.ensures.value,
+  ap ip_headers_len c.in-Ok.ensures.1,
+  headers_for_len c.args.headers.now c.number_of-last.result (c.header_len.result + length c.args.payload.now),
+)
+
+pub unwrap-requires : goal.unwrap-requires
+unwrap-requires c = succeeds c.write.result _ _ c.write.ensures.full (omega (
+  arith,
+  on_ok c.reserve.result _ c.if-is_err.ensures.negation c.reserve.ensures.ok,
+  c.header_len.ensures.value,
+  c.header_len-2.ensures.value,
+  c.header_len-3.ensures.value,
+  c.append_headers.ensures.len,
+  c.append_headers.ensures.capacity,
+  filled_len c.link_headers.new.headers c.args.transport.now c.set_length.new.transport c.set_checksum.new.transport
+      c.args.payload.now c.set_length.ensures c.in_ok-set_checksum.ensures.1 c.transport_fits.ensures,
+))
+
+pub unwrap-requires-2 : goal.unwrap-requires-2
+unwrap-requires-2 c = c.extend_from_slice.ensures.succeeds (omega (
+  arith,
+  on_ok c.reserve.result _ c.if-is_err.ensures.negation c.reserve.ensures.ok,
+  c.header_len.ensures.value,
+  c.header_len-2.ensures.value,
+  c.header_len-3.ensures.value,
+  c.append_headers.ensures.len,
+  c.append_headers.ensures.capacity,
+  c.write.ensures.capacity,
+  filled_len c.link_headers.new.headers c.args.transport.now c.set_length.new.transport c.set_checksum.new.transport
+      c.args.payload.now c.set_length.ensures c.in_ok-set_checksum.ensures.1 c.transport_fits.ensures,
+  ap length (on_ok c.write.result _ (ap is_ok c.unwrap.ensures) c.write.ensures.ok),
+  length-append c.append_headers.new.buf.items (transport_bytes c.set_checksum.new.transport),
+))
+
+pub returns-clause-ok : goal.returns-clause-ok
+returns-clause-ok c =
     let payload = c.args.payload.now in
+    let linked = c.link_headers.new.headers in
+    let filled = c.set_checksum.new.transport in
+    let front = link_part_bytes (link_before c.args.link.now c.in-Ok.ether_type) in
     let summed = c.in_ok-set_checksum.ensures in
     let counts = ap (λ (n : ℕ). n + length payload) c.header_len.ensures.value in
-    let ok = transport_ok c.args.link.now c.args.headers.now c.link_headers.new.headers c.args.transport.now
-    c.set_length.new.transport c.set_checksum.new.transport c.number_of-last.result
-    (c.header_len.result + length payload) c.in-Ok.ether_type payload c.in-Ok.ensures.1 c.number_of-last.ensures
-    c.set_length.ensures summed.0 summed.1 counts c.transport_fits.ensures c.in-Ok.ensures.2 c.in-Ok.ensures.0 in (
-      ok.0,
-      appended _ _ _ _ _ c.in-Ok-append_transport.ensures.ok c.reserve.ensures.items ok.1,
-    )
+    let whole = joined c.reserve.new.self.items front (written_headers linked (ip_headers_parts linked))
+    (transport_bytes filled) payload _ _ c.extend_from_slice.new.self.items c.append_headers.ensures.items
+    (on_ok c.write.result _ (ap is_ok c.unwrap.ensures) c.write.ensures.ok)
+    (chosen _ _ _ _ (ap is_ok c.unwrap-2.ensures) c.extend_from_slice.ensures.items) in
+    let ok = transport_ok c.args.link.now c.args.headers.now linked c.args.transport.now c.set_length.new.transport filled
+    c.number_of-last.result (c.header_len.result + length payload) c.in-Ok.ether_type payload c.in-Ok.ensures.1
+    c.number_of-last.ensures c.set_length.ensures summed.0 summed.1 counts c.transport_fits.ensures c.in-Ok.ensures.2
+    c.in-Ok.ensures.0 in
+    (ok.0, appended _ _ _ _ _ whole c.reserve.ensures.items ok.1)
 
-pub returns-in-Ok-append_transport-clause-read_back : goal.returns-in-Ok-append_transport-clause-read_back
-returns-in-Ok-append_transport-clause-read_back c =
+pub returns-clause-read_back : goal.returns-clause-read_back
+returns-clause-read_back c =
     let payload = c.args.payload.now in
+    let linked = c.link_headers.new.headers in
+    let filled = c.set_checksum.new.transport in
+    let front = link_part_bytes (link_before c.args.link.now c.in-Ok.ether_type) in
     let counts = ap (λ (n : ℕ). n + length payload) c.header_len.ensures.value in
-    let bytes = are_bytes c.append_transport.new.buf.items (λ i there. c.type_inv.buf i 0 there) in
-    transport_back c.args.link.now c.args.headers.now c.link_headers.new.headers c.args.transport.now
-    c.set_length.new.transport c.set_checksum.new.transport c.number_of-last.result
-    (c.header_len.result + length payload) payload c.reserve.new.self.items
-    (link_part_bytes (link_before c.args.link.now c.in-Ok.ether_type)) c.in-Ok.ensures.1 c.number_of-last.ensures
-    c.set_length.ensures c.in_ok-set_checksum.ensures.1 counts c.transport_fits.ensures c.link_fits.ensures
-    c.ip_header_fits.ensures c.in-Ok-append_transport.ensures.fits
-    (subst AreBytes c.in-Ok-append_transport.ensures.ok bytes)
+    let bytes = are_bytes c.extend_from_slice.new.self.items (λ i there. c.type_inv.buf i 0 there) in
+    let whole = joined c.reserve.new.self.items front (written_headers linked (ip_headers_parts linked))
+    (transport_bytes filled) payload _ _ c.extend_from_slice.new.self.items c.append_headers.ensures.items
+    (on_ok c.write.result _ (ap is_ok c.unwrap.ensures) c.write.ensures.ok)
+    (chosen _ _ _ _ (ap is_ok c.unwrap-2.ensures) c.extend_from_slice.ensures.items) in
+    transport_back c.args.link.now c.args.headers.now linked c.args.transport.now c.set_length.new.transport filled
+    c.number_of-last.result (c.header_len.result + length payload) payload c.reserve.new.self.items front
+    c.in-Ok.ensures.1 c.number_of-last.ensures c.set_length.ensures c.in_ok-set_checksum.ensures.1 counts
+    c.transport_fits.ensures c.link_fits.ensures c.ip_header_fits.ensures c.append_headers.ensures.fits
+    (subst AreBytes whole bytes)

@@ -1,5 +1,5 @@
-use Rattle.std.proofs.Common.{rules, refl, take, get_or, List, length, IsFalse, ◌+◌, vec_len, ◌≡◌, ◌++◌, ◌∷◌, [], map, sym, ap, ◌∙◌, arith, append_assoc}
-use Rattle.std.proofs.lemmas.List.{map-append, append-nil, length_push}
+use Rattle.std.proofs.Common.{rules, length, IsFalse, ◌+◌, vec_len, ◌≡◌, ◌++◌, ◌∷◌, [], map, sym, ap, ◌∙◌, arith, append_assoc}
+use Rattle.std.proofs.lemmas.List.{map-append, length_push}
 use Rattle.std.proofs.lemmas.List.Elements.{All-push}
 use Rattle.ep_defrag.specs.Calls.{answers_to, table_after}
 use Rattle.ep_defrag.specs.declared.pool_run.PoolAnswer.{PoolAnswer}
@@ -7,12 +7,8 @@ use Rattle.ep_defrag.specs.Pools.{plain_call, plain_answer, answer_wants_memory}
 use Rattle.ep_defrag.proofs.Calls.{table_after-push, answers_after-push}
 use Rattle.ep_defrag.proofs.Tables.{HoldsTable-same}
 use Rattle.ep_defrag.proofs.Alone.{cuts_at}
+use Rattle.ep_defrag.proofs.Lists.{all_taken, before_and_at}
 use Rattle.ep_defrag.proofs.pool_run.run_calls.Goals as goal
-
--- where nothing is left, all were taken
-all_taken : {X : Type 0} (taken left all : List X) → taken ++ left ≡ all → length left ≡ 0 → taken ≡ all
-all_taken taken [] all whole none = sym (append-nil taken) ∙ whole
-all_taken taken (x ∷ left) all whole none = absurd (omega arith)
 
 pub loop-call-preserved : goal.loop-call-preserved
 loop-call-preserved g c =
@@ -67,14 +63,6 @@ returns-clause-holds g c = λ decide decided.
     all_taken c.loop-call.yielded c.loop-call.call-iterator.rest.items c.args.calls.items c.loop-call.invariant.whole
     (sym c.loop-call.call-iterator.rest.ok.0 ∙ c.in-None.ensures.steps.0) in
     rw (← all) (c.loop-call.invariant.held decide decided)
-
--- the calls before one, and the one
-before_and_at : {X : Type 0} (taken left : List X) (x d : X)
-    → (take (length taken) (taken ++ x ∷ left) ≡ taken) × (get_or (taken ++ x ∷ left) (length taken) d ≡ x)
-before_and_at [] left x d = (refl, refl)
-before_and_at (y ∷ taken) left x d =
-    let rest = before_and_at taken left x d in
-    (ap (λ xs. y ∷ xs) rest.0, rest.1)
 
 pub returns-in_default-answer_next-clause-stopped : goal.returns-in_default-answer_next-clause-stopped
 returns-in_default-answer_next-clause-stopped g c = λ _ decide decided d.

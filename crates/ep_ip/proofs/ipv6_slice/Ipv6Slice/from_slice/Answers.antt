@@ -50,4 +50,4 @@ returns-clause-only c =
     ipv6_shown c.args.slice.now fits _ c.in_ok-header.ensures.ok.2 c.next_header.result.0
     (ap (λ (n : IpNumber). n.0) c.next_header.ensures) (chain_of (ipv6_slice_parts read.0) read.1.0 read.2.now)
     c.in-Ok.ensures.ok.1 c.is_fragmenting_payload.result c.is_fragmenting_payload.ensures
-    c.payload_source-len_source.result c.payload_source-len_source.ensures
+    c.in_ok-header.len_source c.in_ok-header.ensures.source

@@ -64,3 +64,18 @@ returns-in-Err-OutOfMemory-write-clause-leading c =
     let walk = c.write-in-Ipv6.ensures.walk in
     tells_memory c.args.self.now (never_6 c.args.self.now c.in-Ipv6.header c.in-Ipv6.extensions c.in-Ipv6.is
     (λ error refused. let same = (walk error).0 refused in absurd (cc)))
+
+pub returns-in-Err-OutOfMemory-clause-full : goal.returns-in-Err-OutOfMemory-clause-full
+returns-in-Err-OutOfMemory-clause-full c =
+    let h = c.in-Ipv4.header in
+    let e = c.in-Ipv4.extensions in
+    let is = c.in-Err-OutOfMemory.is in
+    let memory = c.in-Err-OutOfMemory.field-0-is in
+    let walk = c.write.ensures.walk in
+    let end = walk_end_4 (ipv4_walk e h.protocol) (λ error refused. let same = (walk error).0 refused in absurd (cc)) in
+    λ wanting. (
+      ipv4_parts e,
+      end.0.0,
+      leads_4 c.args.self.now h e end.0 c.in-Ipv4.is end.1,
+      c.write.ensures.full (is ∙ (λ i. Err (memory i))),
+    )

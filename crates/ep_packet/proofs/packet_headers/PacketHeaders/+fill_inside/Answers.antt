@@ -59,7 +59,7 @@ returns-in-Some-clause-ok t c =
     (λ done behind. fills_one room rest (ether_payload_of c.args.payload) (ether_payload_of c.in-Some.inside) there.0 found
     old middle new more there.2 same (ap (λ (x : List LinkExtHeader). record old { link_exts = x }) tagged)
     (subst (λ (s : LenSource). FillsInside rest (ending_by s (ether_payload_of c.in-Some.inside)) middle new)
-    c.limit_in.ensures behind))
+    c.cut_by.ensures behind))
     c.fill_inside.ensures.ok
 
 pub returns-in-Some-clause-err : goal.returns-in-Some-clause-err
@@ -94,6 +94,13 @@ returns-in-None-clause-ok t c =
     let tagged = c.push.ensures.items ∙ ap (λ (h : LinkExtHeader). old.link_exts ++ h ∷ []) c.to_header.ensures in
     let none : extension_ether_payload found ≡ None =
     sym c.ether_payload.ensures ∙ ap (option_map ether_payload_of) c.in-None.is in
-    fills_modified room rest (ether_payload_of c.args.payload) there.0 found old _ more there.2 none c.requires.lacks
-    (ap (λ (x : List LinkExtHeader). record old { link_exts = x; payload = macsec_modified c.payload_slice.result.now }) tagged
-    ∙ ap (λ b. record (with_tag old found) { payload = macsec_modified b }) c.payload_slice.ensures)
+    fills_modified room rest (ether_payload_of c.args.payload) there.0 found old _ more there.2 none
+    (c.end.ensures
+    ∙ ap (λ (x : List LinkExtHeader). record old {
+      link_exts = x;
+      net = None;
+      transport = None;
+      payload = macsec_modified c.payload_slice.result.now;
+    }) tagged
+    ∙ ap (λ b. record (with_tag old found) { net = None; transport = None; payload = macsec_modified b })
+    c.payload_slice.ensures)

@@ -1,15 +1,12 @@
-use Rattle.std.proofs.Common.{◌≡◌, ◌+◌, ◌-◌, length, Some, refl, ap, inl, arith}
+use Rattle.std.proofs.Common.{refl, ap, arith}
 use Rattle.std.proofs.lemmas.Result.{IfOk-weaker, IfErr-weaker}
 use Rattle.ep_base.specs.Layer.{headers}
 use Rattle.ep_base.specs.declared.err.len_error.LenError.{LenError}
 use Rattle.ep_ip.specs.IpPackets.{ipv4_part}
 use Rattle.ep_ip.proofs.RefusalPlaces.{ipv4_start, ipv4_within}
-use Rattle.ep_packet.specs.declared.net_headers.NetHeaders.{NetHeaders}
 use Rattle.ep_packet.specs.Frame.{only_ipv4}
-use Rattle.ep_packet.specs.Layers.{ip_layer}
-use Rattle.ep_packet.specs.PacketHeaders.{headers_of, net_header_of}
-use Rattle.ep_packet.specs.Refusals.{net_header_len}
-use Rattle.ep_packet.proofs.HeadersLemmas.{fills_ip, ip_refused, lies_behind}
+use Rattle.ep_packet.specs.PacketHeaders.{headers_of}
+use Rattle.ep_packet.proofs.HeadersLemmas.{fills_ip, ip_refused}
 use Rattle.ep_packet.proofs.packet_headers.PacketHeaders.fill_ipv4.Goals as goal
 
 pub add_offset-requires : goal.add_offset-requires
@@ -23,30 +20,21 @@ add_offset-requires c =
       c.requires.place,
     )
 
-pub overflow_sub-content_end : goal.overflow_sub-content_end
-overflow_sub-content_end c =
-    let ok = c.in-Ok.ensures.ok in
-    let lies = lies_behind c.args.slice.now (ipv4_part ok.0) c.in-Ok.read ok.1 ok.2 in
-    omega (arith, lies.behind, c.content_end-content_end.ensures)
-
 pub returns-clause-ok : goal.returns-clause-ok
 returns-clause-ok c =
     let old = headers_of c.args.self.now in
     let ok = c.in-Ok.ensures.ok in
+    let part = ipv4_part ok.0 in
     IfOk-weaker c.fill_transport.result _ _
-    (λ done fills. fills_ip only_ipv4 c.args.slice.now (ipv4_part ok.0) c.in-Ok.read old
-    (record old { net = Some (net_header_of c.from.result) }) (headers_of c.fill_transport.new.self)
-    (ok.0, ok.1, refl) ok.2 (ap (λ (n : NetHeaders). record old { net = Some (net_header_of n) }) c.from.ensures) fills)
+    (λ done fills. fills_ip only_ipv4 c.args.slice.now part _ _ _ old (headers_of c.fill_transport.new.self)
+    (ok.0, ok.1, refl) ok.2 fills)
     c.fill_transport.ensures.ok
 
 pub returns-clause-err : goal.returns-clause-err
 returns-clause-err c =
     let ok = c.in-Ok.ensures.ok in
-    let lies = lies_behind c.args.slice.now (ipv4_part ok.0) c.in-Ok.read ok.1 ok.2 in
-    let place = c.args.offset + (c.content_end-content_end.result - length c.in-Ok.read.1.payload.now) in
-    let there : place ≡ c.args.offset + net_header_len (ip_layer (ipv4_part ok.0)) =
-    omega (arith, lies.behind, c.content_end-content_end.ensures) in
+    let part = ipv4_part ok.0 in
     IfErr-weaker c.fill_transport.result _ _
-    (λ error refused. ip_refused only_ipv4 c.args.slice.now (ipv4_part ok.0) c.in-Ok.read c.args.offset place error
-    (ok.0, ok.1, refl) ok.2 there refused)
+    (λ error refused. ip_refused only_ipv4 c.args.slice.now part _ _ c.args.offset _ _ error
+    (ok.0, ok.1, refl) ok.2 refl refused)
     c.fill_transport.ensures.err

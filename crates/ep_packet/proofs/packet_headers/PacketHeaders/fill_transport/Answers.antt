@@ -4,8 +4,8 @@ use Rattle.ep_base.specs.declared.err.len_error.LenError.{LenError}
 use Rattle.ep_transport.proofs.TransportPlaces.{at_start, transport_start}
 use Rattle.ep_packet.proofs.packet_headers.PacketHeaders.fill_transport.Goals as goal
 
-pub refusal_in-requires : goal.refusal_in-requires
-refusal_in-requires c =
+pub behind_header-requires : goal.behind_header-requires
+behind_header-requires c =
     let error = c.in-Err-Len in
     omega (
       arith,

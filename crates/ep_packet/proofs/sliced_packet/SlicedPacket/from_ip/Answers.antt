@@ -6,18 +6,18 @@ use Rattle.ep_packet.specs.Layers.{layers_of}
 use Rattle.ep_packet.proofs.LayerLaws.{frame_law}
 use Rattle.ep_packet.proofs.sliced_packet.SlicedPacket.from_ip.Goals as goal
 
-pub returns-in_err-net-clause-only : goal.returns-in_err-net-clause-only
-returns-in_err-net-clause-only c = λ layers is.
+pub returns-in-Err-clause-only : goal.returns-in-Err-clause-only
+returns-in-Err-clause-only c = λ layers is.
     absurd ((frame_law ip c.args.slice.now (λ i. omega (arith, c.type_inv.slice i))).not_both layers
-    c.in_err-net.field-0.0 is c.in_err-net.ensures.err)
+    c.in-Err.error is c.in-Err.ensures.err)
 
-pub returns-clause-only : goal.returns-clause-only
-returns-clause-only c = λ layers is.
+pub returns-in-Ok-clause-only : goal.returns-in-Ok-clause-only
+returns-in-Ok-clause-only c = λ layers is.
     let packet : SlicedPacket = record {
       link = None;
       link_exts = c.new.result;
-      net = c.in_ok-net.net;
-      transport = c.in_ok-net.transport;
+      net = c.fill_ip.new.net;
+      transport = c.fill_ip.new.transport;
     } in
     (frame_law ip c.args.slice.now (λ i. omega (arith, c.type_inv.slice i))).one_value (layers_of packet) layers
-    (refl, ap (map link_extension_of) c.new.ensures, c.in_ok-net.ensures.ok.part) is
+    (refl, ap (map link_extension_of) c.new.ensures, c.in-Ok.ensures.ok.part) is

@@ -1,7 +1,5 @@
-use Rattle.std.proofs.Common.{◌≡◌, ◌∷◌, ◌++◌, ◌∙◌, [], ℕ, List, ap, refl, sym, subst, append_assoc}
-use Rattle.frame_bench.specs.Answers.{IsAnswer}
+use Rattle.std.proofs.Common.{◌≡◌, ◌∷◌, ◌++◌, ◌∙◌, [], ap, refl, sym, append_assoc}
 use Rattle.frame_bench.specs.Lines.{line_feed}
-use Rattle.frame_bench.specs.PoolCalls.{HoldsLines}
 use Rattle.frame_bench.proofs.StreamLemmas.{AdvancesTo-line, AdvancesTo-none, AdvancesTo-rest}
 use Rattle.frame_bench.proofs.engine.Session.take.Goals as goal
 
@@ -19,7 +17,7 @@ lines-preserved c =
     let known = c.lines.invariant in
     let end = c.in-Some.end.now in
     let behind = c.in-Some.behind.now in
-    let line = c.as_slice.ensures.value ∙ c.in_ok-extend_from_slice.ensures.items in
+    let ended = c.in_ok-end_line.ensures in
     let parts : c.args.piece.now ≡ (known.0 ++ (end ++ line_feed ∷ [])) ++ behind =
     known.1 ∙ ap (λ t. known.0 ++ t) (c.in-Some.ensures.some.1 ∙ sym (append_assoc end (line_feed ∷ []) behind))
     ∙ sym (append_assoc known.0 (end ++ line_feed ∷ []) behind) in (
@@ -28,20 +26,17 @@ lines-preserved c =
       λ before held.
           let first = known.2 before held in
           let lines = before ++ first.0.ended in
-          let answer = c.in_ok-push_line.ensures.answer lines first.1 in
-          let is = subst (λ (t : List ℕ). IsAnswer lines t answer.0) line answer.1 in
-          let holds =
-          subst (λ (t : List ℕ). HoldsLines (lines ++ t ∷ []) c.push_line.new.pool) line
-          (c.in_ok-push_line.ensures.holds lines first.1) in
-          rw (answer.2, c.clear-in-Some.ensures.items)
+          let answer = ended.answer lines first.1 in
+          rw (answer.2, ended.line)
           (AdvancesTo-line before c.args.self.now.line.items known.0 c.lines.self.output.items
-          c.lines.self.line.items end answer.0 c.push_line.new.pool first.0 c.in-Some.ensures.some.0 is holds),
+          c.lines.self.line.items end answer.0 c.end_line.new.self.pool first.0 c.in-Some.ensures.some.0 answer.1
+          (ended.holds lines first.1)),
     )
 
 pub returns : goal.returns
 returns c = λ before held.
     let known = c.lines.invariant in
     let first = known.2 before held in
-    rw (c.in_ok-extend_from_slice-2.ensures.items, known.1)
+    rw (c.in_ok-extend_from_slice.ensures.items, known.1)
     (AdvancesTo-rest before c.args.self.now.line.items known.0 c.lines.self.output.items c.lines.self.line.items
     c.lines.rest.now c.lines.self.pool first c.in_default.ensures.none)

@@ -1,0 +1,235 @@
+-- Headers that fit still do once they are linked and count their payload, where no row of the table refuses.
+use Rattle.std.proofs.Common.{◌≡◌, ℕ, ◌+◌, ◌-◌, ◌^◌, ◌<◌, ◌≤◌, List, [], ◌∷◌, ◌++◌, Option, Some, None, arith}
+use Rattle.std.specs.Prelude.{nat_lt}
+use Rattle.std.specs.Option.{option_map}
+use Rattle.std.proofs.lemmas.Grind.{common_steps}
+use Rattle.ep_base.specs.IpNumbers.{authentication_number, destination_options_number, fragment_number}
+use Rattle.ep_base.specs.IpNumbers.{hop_by_hop_number, routing_number}
+use Rattle.ep_base.specs.Tables.{first_row}
+use Rattle.ep_base.specs.declared.ip_number.IpNumber.{IpNumber}
+use Rattle.ep_ext.specs.Chains.{FitParts}
+use Rattle.ep_ext.specs.ExtensionParts.{ExtensionPart, FitsPart, authentication, destination_options, fragment, hop_by_hop}
+use Rattle.ep_ext.specs.ExtensionParts.{parts_there, routing}
+use Rattle.ep_ext.specs.FragmentHeader.{FitsFragmentHeader}
+use Rattle.ep_ext.specs.IpAuth.{FitsIpAuth}
+use Rattle.ep_ext.specs.Ipv4Chains.{ip_auth_leading_to, ipv4_first}
+use Rattle.ep_ext.specs.Ipv6Chains.{after_auth, after_destination, after_fragment, after_hop_by_hop, after_routing}
+use Rattle.ep_ext.specs.Ipv6Chains.{final_by, fragment_leading_to, ipv6_first, ipv6_linked, ipv6_parts, number_before}
+use Rattle.ep_ext.specs.Ipv6Chains.{raw_leading_to, routing_header, routing_leading_to}
+use Rattle.ep_ext.specs.RawExtension.{FitsRawExtension}
+use Rattle.ep_ext.specs.declared.ip_auth_header.IpAuthHeader.{IpAuthHeader}
+use Rattle.ep_ext.specs.declared.ipv6_exts.Ipv6Extensions.{Ipv6Extensions}
+use Rattle.ep_ext.specs.declared.ipv6_fragment_header.Ipv6FragmentHeader.{Ipv6FragmentHeader}
+use Rattle.ep_ext.specs.declared.ipv6_raw_ext_header.Ipv6RawExtHeader.{Ipv6RawExtHeader}
+use Rattle.ep_ext.specs.declared.ipv6_routing_exts.Ipv6RoutingExtensions.{Ipv6RoutingExtensions}
+use Rattle.ep_packet.specs.IpHeaders.{FitIpHeaders, headers_for, ip_extensions_len, most_behind_header}
+use Rattle.ep_packet.specs.declared.ip_headers.IpHeaders.{IpHeaders}
+use Rattle.ep_packet.specs.declared.ip_headers.IpHeaders.TheVariants as version
+use Rattle.ep_build.specs.BuildErrors.{IsBuildable}
+use Rattle.ep_build.specs.BuiltFrames.{held_ip}
+use Rattle.ep_build.specs.declared.link_part.LinkPart.{LinkPart}
+use Rattle.ep_build.proofs.LengthLemmas.{linked_len}
+
+-- ---- numbers
+
+-- what stands before a byte is a byte
+before_fits : {H : Type 0} (there : Option H) (number : ℕ) (next : IpNumber) → number < 2 ^ 8 → next.0 < 2 ^ 8
+    → (number_before there number next).0 < 2 ^ 8
+before_fits None number next small fits = fits
+before_fits (Some header) number next small fits = small
+
+first_fits_4 : (auth : Option IpAuthHeader) (last : IpNumber) → last.0 < 2 ^ 8
+    → (ipv4_first (record { auth = auth }) last).0 < 2 ^ 8
+first_fits_4 None last small = small
+first_fits_4 (Some header) last small = omega arith
+
+-- the numbers that lead from header to header
+record NumbersFit (extensions : Ipv6Extensions) (last : IpNumber) : Type 0 where
+  pub auth : (after_auth extensions last).0 < 2 ^ 8
+  pub fragment : (after_fragment extensions last).0 < 2 ^ 8
+  pub routing : (after_routing extensions last).0 < 2 ^ 8
+  pub destination : (after_destination extensions last).0 < 2 ^ 8
+  pub hop_by_hop : (after_hop_by_hop extensions last).0 < 2 ^ 8
+  pub first : (ipv6_first extensions last).0 < 2 ^ 8
+
+numbers_fit : (extensions : Ipv6Extensions) (last : IpNumber) → last.0 < 2 ^ 8 → NumbersFit extensions last
+numbers_fit extensions last small =
+    let a = before_fits (final_by extensions.routing) destination_options_number last (omega arith) small in
+    let f = before_fits extensions.auth authentication_number (after_auth extensions last) (omega arith) a in
+    let r = before_fits extensions.fragment fragment_number (after_fragment extensions last) (omega arith) f in
+    let d = before_fits extensions.routing routing_number (after_routing extensions last) (omega arith) r in
+    let h = before_fits extensions.destination_options destination_options_number (after_destination extensions last)
+    (omega arith) d in record {
+      auth = a;
+      fragment = f;
+      routing = r;
+      destination = d;
+      hop_by_hop = h;
+      first = before_fits extensions.hop_by_hop_options hop_by_hop_number (after_hop_by_hop extensions last)
+          (omega arith) h;
+    }
+
+-- ---- extension headers
+
+raw_fits : (next : IpNumber) (header : Ipv6RawExtHeader) → next.0 < 2 ^ 8 → FitsRawExtension header
+    → FitsRawExtension (raw_leading_to next header)
+raw_fits next header small fits = record {
+  next_header = small;
+  payload_least = fits.payload_least;
+  payload_len = fits.payload_len;
+  payload_units = fits.payload_units;
+  payload = fits.payload;
+}
+
+fragment_fits : (next : IpNumber) (header : Ipv6FragmentHeader) → next.0 < 2 ^ 8 → FitsFragmentHeader header
+    → FitsFragmentHeader (fragment_leading_to next header)
+fragment_fits next header small fits = record {
+  next_header = small;
+  fragment_offset = fits.fragment_offset;
+  identification = fits.identification;
+}
+
+auth_fits : (next : IpNumber) (header : IpAuthHeader) → next.0 < 2 ^ 8 → FitsIpAuth header
+    → FitsIpAuth (ip_auth_leading_to next header)
+auth_fits next header small fits = record {
+  next_header = small;
+  spi = fits.spi;
+  sequence_number = fits.sequence_number;
+  icv_len = fits.icv_len;
+  icv_words = fits.icv_words;
+  icv = fits.icv;
+}
+
+-- a header that is changed, where it is there
+there_fits : {H : Type 0} (kind : H → ExtensionPart) (change : H → H)
+    → ((header : H) → FitsPart (kind header) → FitsPart (kind (change header))) → (there : Option H)
+    → FitParts (parts_there kind there) → FitParts (parts_there kind (option_map change there))
+there_fits kind change each None fit = tt
+there_fits kind change each (Some header) fit = (each header fit.0, tt)
+
+routing_fits : (next last : IpNumber) (behind : Option Ipv6RoutingExtensions) → next.0 < 2 ^ 8
+    → FitParts (parts_there routing (option_map routing_header behind))
+    → FitParts (parts_there routing (option_map routing_header (option_map (routing_leading_to next last) behind)))
+routing_fits next last None small fit = tt
+routing_fits next last (Some behind) small fit = (raw_fits next behind.routing small fit.0, tt)
+
+final_fits : (next last : IpNumber) (behind : Option Ipv6RoutingExtensions) → last.0 < 2 ^ 8
+    → FitParts (parts_there destination_options (final_by behind))
+    → FitParts (parts_there destination_options (final_by (option_map (routing_leading_to next last) behind)))
+final_fits next last None small fit = tt
+final_fits next last (Some behind) small fit = there_fits destination_options (raw_leading_to last)
+    (λ header fits. raw_fits last header small fits) behind.final_destination_options fit
+
+-- two lists of headers
+fit_append : (parts more : List ExtensionPart) → FitParts parts → FitParts more → FitParts (parts ++ more)
+fit_append [] more fit other = other
+fit_append (part ∷ parts) more fit other = (fit.0, fit_append parts more fit.1 other)
+
+fit_front : (parts more : List ExtensionPart) → FitParts (parts ++ more) → FitParts parts
+fit_front [] more fit = tt
+fit_front (part ∷ parts) more fit = (fit.0, fit_front parts more fit.1)
+
+fit_back : (parts more : List ExtensionPart) → FitParts (parts ++ more) → FitParts more
+fit_back [] more fit = fit
+fit_back (part ∷ parts) more fit = fit_back parts more fit.1
+
+fit_both : (parts new more others : List ExtensionPart) → (FitParts parts → FitParts new)
+    → (FitParts more → FitParts others) → FitParts (parts ++ more) → FitParts (new ++ others)
+fit_both parts new more others first second fit =
+    fit_append new others (first (fit_front parts more fit)) (second (fit_back parts more fit))
+
+parts_fit_6 : (extensions : Ipv6Extensions) (last : IpNumber) → last.0 < 2 ^ 8 → FitParts (ipv6_parts extensions)
+    → FitParts (ipv6_parts (ipv6_linked extensions last))
+parts_fit_6 extensions last small =
+    let new = ipv6_linked extensions last in
+    let a = parts_there hop_by_hop extensions.hop_by_hop_options in
+    let b = parts_there destination_options extensions.destination_options in
+    let c = parts_there routing (option_map routing_header extensions.routing) in
+    let d = parts_there fragment extensions.fragment in
+    let e = parts_there authentication extensions.auth in
+    let f = parts_there destination_options (final_by extensions.routing) in
+    let a' = parts_there hop_by_hop new.hop_by_hop_options in
+    let b' = parts_there destination_options new.destination_options in
+    let c' = parts_there routing (option_map routing_header new.routing) in
+    let d' = parts_there fragment new.fragment in
+    let e' = parts_there authentication new.auth in
+    let f' = parts_there destination_options (final_by new.routing) in
+    let numbers = numbers_fit extensions last small in
+    let ab = fit_both a a' b b'
+    (there_fits hop_by_hop (raw_leading_to (after_hop_by_hop extensions last))
+    (λ header fits. raw_fits (after_hop_by_hop extensions last) header numbers.hop_by_hop fits)
+    extensions.hop_by_hop_options)
+    (there_fits destination_options (raw_leading_to (after_destination extensions last))
+    (λ header fits. raw_fits (after_destination extensions last) header numbers.destination fits)
+    extensions.destination_options) in
+    let abc = fit_both (a ++ b) (a' ++ b') c c' ab
+    (routing_fits (after_routing extensions last) last extensions.routing numbers.routing) in
+    let abcd = fit_both (a ++ b ++ c) (a' ++ b' ++ c') d d' abc
+    (there_fits fragment (fragment_leading_to (after_fragment extensions last))
+    (λ header fits. fragment_fits (after_fragment extensions last) header numbers.fragment fits) extensions.fragment) in
+    let abcde = fit_both (a ++ b ++ c ++ d) (a' ++ b' ++ c' ++ d') e e' abcd
+    (there_fits authentication (ip_auth_leading_to (after_auth extensions last))
+    (λ header fits. auth_fits (after_auth extensions last) header numbers.auth fits) extensions.auth) in
+    fit_both (a ++ b ++ c ++ d ++ e) (a' ++ b' ++ c' ++ d' ++ e') f f' abcde
+    (final_fits (after_routing extensions last) last extensions.routing small)
+
+-- ---- the length
+
+within : {E : Type 0} (total most : ℕ) (first second : E)
+    → first_row ((nat_lt (2 ^ 64 - 1) total, first) ∷ (nat_lt most total, second) ∷ []) ≡ None → total ≤ most
+within total most first second none = grind (arith, common_steps)
+
+-- the length field counts what the table does not refuse
+counts : (part : LinkPart) (headers : IpHeaders) (last : IpNumber) (len : ℕ)
+    → IsBuildable (held_ip part headers last) len → len + ip_extensions_len headers ≤ most_behind_header headers
+counts part headers last len buildable =
+    within (len + ip_extensions_len headers) (most_behind_header headers) _ _ buildable
+
+-- ---- all headers
+
+pub linked_fit : (part : LinkPart) (headers : IpHeaders) (last : IpNumber) (len : ℕ) → FitIpHeaders headers
+    → last.0 < 2 ^ 8 → IsBuildable (held_ip part headers last) len → FitIpHeaders (headers_for headers last len)
+linked_fit part (version.Ipv4 header extensions) last len fit small buildable = (
+  record {
+    dscp = fit.0.dscp;
+    ecn = fit.0.ecn;
+    total_len = omega (
+      arith,
+      counts part (version.Ipv4 header extensions) last len buildable,
+      linked_len (version.Ipv4 header extensions) last,
+      fit.0.options_len,
+    );
+    identification = fit.0.identification;
+    fragment_offset = fit.0.fragment_offset;
+    time_to_live = fit.0.time_to_live;
+    protocol = first_fits_4 extensions.auth last small;
+    header_checksum = fit.0.header_checksum;
+    source_len = fit.0.source_len;
+    source = fit.0.source;
+    destination_len = fit.0.destination_len;
+    destination = fit.0.destination;
+    options_len = fit.0.options_len;
+    options_words = fit.0.options_words;
+    options = fit.0.options;
+  },
+  there_fits authentication (ip_auth_leading_to last) (λ auth fits. auth_fits last auth small fits) extensions.auth
+      fit.1,
+)
+linked_fit part (version.Ipv6 header extensions) last len fit small buildable = (
+  record {
+    traffic_class = fit.0.traffic_class;
+    flow_label = fit.0.flow_label;
+    payload_length = omega (
+      arith,
+      counts part (version.Ipv6 header extensions) last len buildable,
+      linked_len (version.Ipv6 header extensions) last,
+    );
+    next_header = (numbers_fit extensions last small).first;
+    hop_limit = fit.0.hop_limit;
+    source_len = fit.0.source_len;
+    source = fit.0.source;
+    destination_len = fit.0.destination_len;
+    destination = fit.0.destination;
+  },
+  parts_fit_6 extensions last small fit.1,
+)

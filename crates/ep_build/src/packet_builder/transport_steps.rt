@@ -1,0 +1,53 @@
+//! The steps of transport headers: the payload behind them ends the frame.
+
+ghost use Rattle.std.specs.Prelude.{◌≡◌, ◌+◌, ◌<◌, ◌^◌, ◌++◌, ℕ, List, length, Err, IfErr, OnOk, OnErr, vec_len, vec_capacity};
+ghost use Rattle.ep_build.specs.BuildErrors.{IsBuildable, IsBuildError};
+ghost use Rattle.ep_build.specs.BuiltFrames.{built_frame, built_size};
+ghost use Rattle.ep_build.specs.Steps.{StepReadsBack, transport_held};
+
+use super::PacketBuilderStep;
+use super::holds_headers::{HoldsHeaders, IsTransport};
+use crate::err::BuildWriteError;
+use crate::facts::{ip_header_fits, link_fits};
+use crate::link_part::LinkPart;
+use crate::writing::write_transport;
+use ep_packet::IpHeaders;
+
+impl<Transport: HoldsHeaders<Before = (LinkPart, IpHeaders)> + IsTransport> PacketBuilderStep<
+    Transport,
+> {
+    /// Appends the frame of the headers and this payload. A refusal leaves the buffer as it was: headers and payload
+    /// are longer than the length field of IP can count, the transport header is of ICMPv6 behind IPv4, or there is no
+    /// memory, which comes only where the buffer would have to grow.
+    pub fn write(mut self, buf: &mut Vec<u8>, payload: &[u8]) -> Result<(), BuildWriteError>
+        ensures ok { let held = transport_held Transport.kind self in
+            OnOk result (IsBuildable held (length payload.now)
+            × (buf.new.items ≡ buf.old.items ++ built_frame held payload.now)) }
+        ensures err { OnErr result (buf.new.items ≡ buf.old.items) }
+        ensures refused { IfErr result
+            (IsBuildError (transport_held Transport.kind self) (length payload.now)) }
+        ensures read_back { OnOk result (StepReadsBack Transport.kind self payload.now) }
+        ensures full { result ≡ Err BuildWriteError.OutOfMemory → vec_capacity buf.old
+            < vec_len buf.old + built_size (transport_held Transport.kind self) (length payload.now) }
+    {
+        let mut transport = self.last.into_transport();
+        let (link, headers) = &mut self.before;
+        write_transport(link, headers, &mut transport, payload, buf)
+    }
+
+    /// The number of bytes of the frame with a payload of this many bytes. Their sum must be a `usize`.
+    #[inline]
+    pub fn size(&self, payload_size: usize) -> usize
+        requires { built_size (transport_held Transport.kind self.now) payload_size < 2 ^ 64 }
+        ensures value { result ≡ built_size (transport_held Transport.kind self.now) payload_size }
+        ensures frame { (payload : List ℕ) → length payload ≡ payload_size
+            → length (built_frame (transport_held Transport.kind self.now) payload) ≡ result }
+    {
+        link_fits(&self.before.0);
+        ip_header_fits(&self.before.1);
+        self.before.0.header_len()
+            + self.before.1.header_len()
+            + self.last.transport_len()
+            + payload_size
+    }
+}

@@ -1,0 +1,218 @@
+-- Frames that are built of cuts of a payload put the payload together.
+use Rattle.std.proofs.Common.{◌≡◌, ℕ, ◌^◌, ◌<◌, ◌≤◌, Bool, true, false, cond, List, [], ◌∷◌, ◌++◌, length, map, Option, Some, None, option_map, refl, ap, ◌∙◌, inl, inr}
+use Rattle.std.specs.List.{AllByRecursion}
+use Rattle.std.specs.Cmp.{IsEquivalence}
+use Rattle.std.proofs.lemmas.Bool.{cases_Bool, and_parts, eqb-true, false≢true}
+use Rattle.ep_base.specs.Bytes.{AreBytes}
+use Rattle.ep_base.specs.Layer.{slices}
+use Rattle.ep_base.specs.Tables.{IsDecided}
+use Rattle.ep_base.specs.declared.ip_number.IpNumber.{IpNumber}
+use Rattle.ep_build.specs.BuildErrors.{IsBuildable}
+use Rattle.ep_build.specs.BuiltFragments.{IsFragmentReadBack}
+use Rattle.ep_build.specs.BuiltFrames.{built_frame, held_ip}
+use Rattle.ep_build.specs.Fits.{FitsLink}
+use Rattle.ep_build.specs.declared.link_part.LinkPart.{LinkPart}
+use Rattle.ep_packet.specs.Fragments.{FrameFragment, fragment_of}
+use Rattle.ep_packet.specs.Frame.{IsFrame}
+use Rattle.ep_packet.specs.IpHeaders.{FitIpHeaders}
+use Rattle.ep_packet.specs.Refusals.{RefusesFrame}
+use Rattle.ep_packet.specs.declared.entry.Entry.{Entry}
+use Rattle.ep_packet.specs.declared.ip_headers.IpHeaders.{IpHeaders}
+use Rattle.ep_defrag.specs.declared.ip_defrag_error.IpDefragError.{IpDefragError}
+use Rattle.ep_defrag.specs.declared.ip_frag_id.IpFragId.{IpFragId}
+use Rattle.ep_defrag.specs.declared.ip_frag_id.IpFragVersionSpecId.{IpFragVersionSpecId}
+use Rattle.ep_defrag.specs.declared.ip_frag_id.IpFragVersionSpecId.TheVariants.{Ipv4, Ipv6}
+use Rattle.ep_defrag.specs.Fragments.{IpFragment, assembled, is_complete}
+use Rattle.ep_defrag.specs.Refusals.{refusal_of}
+use Rattle.ep_defrag.specs.Cuts.{IsCut}
+use Rattle.ep_defrag.specs.Streams.{PacketFragment, name_of, packet_fragment, same_stream, same_version, source_of}
+use Rattle.ep_defrag.specs.Calls.{Call, gives_frame, drops_streams, returns_buffer, Kept, accepted_in, kept_of, kept_unless, table_after, Payload, payload_of, payload_handed_out, nothing_handed_out, Answer, answer_unless, answer_to, answers_after}
+use Rattle.ep_defrag.specs.BuiltCuts.{BuiltCut, IsBuiltCut, IsUnder, KeepsAll, answers_to_frames, cut_answers, cut_call, cut_fragment, cut_frame, frames_to, gives_to, whole_of}
+use Rattle.ep_defrag.proofs.Cuts.{cut_fits_after, assembled-cuts}
+use Rattle.ep_defrag.proofs.Calls.{after_one_more}
+use Rattle.ep_defrag.proofs.Alone.{answer_alone, all_more, kept_cuts, drop_keeps}
+
+-- ---- what is handed out has the number and the source of the name
+
+same_source : (a b : IpFragVersionSpecId) → same_version a b ≡ true → source_of a ≡ source_of b
+same_source (Ipv4 source destination number) (Ipv4 source' destination' number') same = refl
+same_source (Ipv6 source destination number) (Ipv6 source' destination' number') same = refl
+same_source (Ipv4 source destination number) (Ipv6 source' destination' number') same = absurd (false≢true same)
+same_source (Ipv6 source destination number) (Ipv4 source' destination' number') same = absurd (false≢true same)
+
+module _ {C : Type 0} (eq : C → C → Bool) (name : IpFragId C) (payload : List ℕ) where
+  handed_is : (id : IpFragId C) (accepted : List IpFragment) → same_stream eq id name ≡ true
+      → assembled accepted ≡ payload → payload_of id accepted ≡ whole_of name payload
+  handed_is id accepted alike same =
+      let first = and_parts _ _ alike in
+      let second = and_parts _ _ first.0 in
+      let third = and_parts _ _ second.0 in
+      let number : id.payload_ip_number.0 ≡ name.payload_ip_number.0 = eqb-true _ _ second.1 in
+      let source : source_of id.ip ≡ source_of name.ip = same_source id.ip name.ip third.1 in
+      λ i. record { ip_number = record { 0 = number i }; len_source = source i; bytes = same i }
+
+  -- what a cut that fits is answered
+  answer_cut : (id : IpFragId C) (accepted : List IpFragment) → same_stream eq id name ≡ true
+      → AllByRecursion (IsCut payload) accepted → answer_unless None id accepted
+      ≡ cond (is_complete accepted) (payload_handed_out (whole_of name payload)) nothing_handed_out
+  answer_cut id accepted alike cuts = elim (cases_Bool (is_complete accepted)) [
+    | inl now ↦ rw now
+        (ap (λ (handed : Payload). payload_handed_out handed)
+        (handed_is id accepted alike (assembled-cuts payload accepted cuts now)))
+    | inr not_yet ↦ rw not_yet refl
+  ]
+
+-- ---- a built frame gives the pool the fragment that it was built from
+
+-- built frames are read back
+abbrev AreReadBack : Type 0
+AreReadBack = (part : LinkPart) (headers : IpHeaders) (last : IpNumber) (payload : List ℕ) → FitsLink part
+    → FitIpHeaders headers → last.0 < 2 ^ 8 → IsBuildable (held_ip part headers last) (length payload)
+    → IsFragmentReadBack part headers last payload
+
+-- they are bytes
+abbrev HaveBytes : Type 0
+HaveBytes = (part : LinkPart) (headers : IpHeaders) (last : IpNumber) (payload : List ℕ) → FitsLink part
+    → FitIpHeaders headers → last.0 < 2 ^ 8 → IsBuildable (held_ip part headers last) (length payload)
+    → AreBytes payload → AreBytes (built_frame (held_ip part headers last) payload)
+
+-- and bytes are one frame or none
+abbrev AreDecided : Type 0
+AreDecided = (entry : Entry) (bytes : List ℕ) → AreBytes bytes
+    → IsDecided (IsFrame entry bytes) (RefusesFrame entry bytes)
+
+module _ (read_back : AreReadBack) (have_bytes : HaveBytes) (decided : AreDecided) where
+  carries : {T C : Type 0} (payload : List ℕ) (cut : BuiltCut T C) → IsBuiltCut payload cut
+      → fragment_of cut.layers ≡ Some cut.found
+  carries payload cut is =
+      let back = read_back cut.link cut.headers cut.last cut.bytes is.fits_link is.fit is.number is.buildable cut.found
+      is.built is.ends slices cut.entry is.of in
+      let bytes : AreBytes (cut_frame cut) =
+      have_bytes cut.link cut.headers cut.last cut.bytes is.fits_link is.fit is.number is.buildable is.are_bytes in
+      let same : cut.layers ≡ back.layers =
+      (decided cut.entry (cut_frame cut) bytes).one_value cut.layers back.layers is.is back.is in
+      ap fragment_of same ∙ back.carries
+
+  module _ {T C V : Type 0} (eq : C → C → Bool) (keep : V → T → Bool) (name : IpFragId C) (payload : List ℕ) where
+    abbrev call_of : BuiltCut T C → Call T C V
+    call_of cut = gives_frame (Some (packet_fragment cut.found)) cut.timestamp cut.channel
+
+    call_is : (cut : BuiltCut T C) → IsBuiltCut payload cut → cut_call cut ≡ call_of cut
+    call_is cut is =
+        ap (λ (found : Option FrameFragment).
+        gives_frame (option_map packet_fragment found) cut.timestamp cut.channel)
+        (carries payload cut is)
+
+    -- ---- all calls are such frames
+    gives_all : (cut : BuiltCut T C) → IsBuiltCut payload cut → IsUnder eq name cut
+        → gives_to eq name (cut_call {V = V} cut) ≡ true
+    gives_all cut is under = ap (gives_to eq name) (call_is cut is) ∙ under
+
+    pub frames_all : (cuts : List (BuiltCut T C)) → AllByRecursion (IsBuiltCut payload) cuts
+        → AllByRecursion (IsUnder eq name) cuts → frames_to eq name (map (cut_call {V = V}) cuts) ≡ map cut_call cuts
+    frames_all [] is under = refl
+    frames_all (cut ∷ cuts) is under =
+        let gives = gives_all cut is.0 under.0 in
+        rw gives (ap (λ (calls : List (Call T C V)). cut_call cut ∷ calls) (frames_all cuts is.1 under.1))
+
+    pub answers_all : (earlier : List (Call T C V)) (cuts : List (BuiltCut T C))
+        → AllByRecursion (IsBuiltCut payload) cuts → AllByRecursion (IsUnder eq name) cuts
+        → answers_to_frames {V = V} eq name (map cut_call cuts) (answers_after eq keep earlier (map cut_call cuts))
+        ≡ answers_after eq keep earlier (map cut_call cuts)
+    answers_all earlier [] is under = refl
+    answers_all earlier (cut ∷ cuts) is under =
+        let gives = gives_all cut is.0 under.0 in
+        let call : Call T C V = cut_call cut in
+        rw gives
+        (ap (λ (answers : List Answer). answer_to (table_after eq keep earlier) call ∷ answers)
+        (answers_all (earlier ++ call ∷ []) cuts is.1 under.1))
+
+    pub keeps_all : (cuts : List (BuiltCut T C)) → AllByRecursion (KeepsAll keep) (map cut_call cuts)
+    keeps_all [] = tt
+    keeps_all (cut ∷ cuts) = (tt, keeps_all cuts)
+
+    -- ---- other calls stand between them
+    module _ (laws : IsEquivalence eq) (short : length payload ≤ 65535) where
+      -- what is expected behind calls that leave this of the stream
+      abbrev expected : Option (Kept T) → List (BuiltCut T C) → List Answer
+      expected kept cuts = cut_answers (whole_of name payload) (accepted_in kept) (map cut_fragment cuts)
+
+      pub come : (earlier calls : List (Call T C V)) (cuts : List (BuiltCut T C))
+          → AllByRecursion (IsCut payload) (accepted_in (table_after eq keep earlier name))
+          → AllByRecursion (IsBuiltCut payload) cuts → AllByRecursion (KeepsAll keep) calls
+          → frames_to eq name calls ≡ map cut_call cuts
+          → answers_to_frames eq name calls (answers_after eq keep earlier calls)
+          ≡ expected (table_after eq keep earlier name) cuts
+      come earlier [] [] kept built keeps same = refl
+      come earlier [] (cut ∷ cuts) kept built keeps same = absurd (cc)
+      come earlier (gives_frame None timestamp channel ∷ calls) cuts kept built keeps same =
+          let call : Call T C V = gives_frame None timestamp channel in
+          let unchanged = after_one_more eq keep earlier call name false refl in
+          come (earlier ++ call ∷ []) calls cuts (rw unchanged kept) built keeps.1 same
+          ∙ ap (λ (k : Option (Kept T)). expected k cuts) unchanged
+      come earlier (drops_streams value ∷ calls) cuts kept built keeps same =
+          let call : Call T C V = drops_streams value in
+          let unchanged = after_one_more eq keep earlier call name true refl
+          ∙ drop_keeps eq keep payload short (keep value) keeps.0 (table_after eq keep earlier name) in
+          come (earlier ++ call ∷ []) calls cuts (rw unchanged kept) built keeps.1 same
+          ∙ ap (λ (k : Option (Kept T)). expected k cuts) unchanged
+      come earlier (returns_buffer ∷ calls) cuts kept built keeps same =
+          let call : Call T C V = returns_buffer in
+          let unchanged = after_one_more eq keep earlier call name false refl in
+          come (earlier ++ call ∷ []) calls cuts (rw unchanged kept) built keeps.1 same
+          ∙ ap (λ (k : Option (Kept T)). expected k cuts) unchanged
+      come earlier (gives_frame (Some carried) timestamp channel ∷ calls) [] kept built keeps same =
+          let call : Call T C V = gives_frame (Some carried) timestamp channel in
+          elim (cases_Bool (same_stream eq (name_of carried channel) name)) [
+            | inl does ↦
+                let never : call ∷ frames_to eq name calls ≡ [] = rw does at same in absurd (cc)
+            | inr not ↦
+                let unchanged = after_one_more eq keep earlier call name false not in
+                rw not
+                (come (earlier ++ call ∷ []) calls [] (rw unchanged kept) built keeps.1 (rw not at same)
+                ∙ ap (λ (k : Option (Kept T)). expected k []) unchanged)
+          ]
+      come earlier (gives_frame (Some carried) timestamp channel ∷ calls) (cut ∷ cuts) kept built keeps same =
+          let call : Call T C V = gives_frame (Some carried) timestamp channel in
+          elim (cases_Bool (same_stream eq (name_of carried channel) name)) [
+            | inl does ↦
+                let here : call ∷ frames_to eq name calls ≡ cut_call cut ∷ map cut_call cuts = rw does at same in
+                let is_call : call ≡ cut_call cut = cc in
+                let later : frames_to eq name calls ≡ map cut_call cuts = cc in
+                let is_call_of : call ≡ call_of cut = is_call ∙ call_is cut built.0 in
+                let is_carried : carried ≡ packet_fragment cut.found = cc in
+                let part = carried.fragment in
+                let is_part : part ≡ cut_fragment cut = ap (λ (c : PacketFragment). c.fragment) is_carried in
+                let before = table_after eq keep earlier name in
+                let after = accepted_in before ++ part ∷ [] in
+                let part_cut : IsCut payload part = rw is_part built.0.is_cut in
+                let fits : refusal_of (accepted_in before) part ≡ None =
+                cut_fits_after payload (accepted_in before) part short kept part_cut (rw is_part built.0.shape) in
+                let more = all_more eq keep payload short (IsCut payload) (accepted_in before) part kept part_cut in
+                let table : table_after eq keep (earlier ++ call ∷ []) name ≡ kept_of after timestamp =
+                after_one_more eq keep earlier call name true does
+                ∙ ap (λ (r : Option IpDefragError). kept_unless r before part timestamp) fits in
+                let answer : answer_to (table_after eq keep earlier) call
+                ≡ cond (is_complete after) (payload_handed_out (whole_of name payload)) nothing_handed_out =
+                answer_alone eq keep laws earlier name call does
+                ∙ ap (λ (r : Option IpDefragError). answer_unless r (name_of carried channel) after) fits
+                ∙ answer_cut eq name payload (name_of carried channel) after does more in
+                let rest = come (earlier ++ call ∷ []) calls cuts
+                (rw table (kept_cuts eq keep payload short after timestamp more)) built.1 keeps.1 later
+                ∙ ap (λ (k : Option (Kept T)). expected k cuts) table in
+                let goal : answers_to_frames eq name (call ∷ calls) (answers_after eq keep earlier (call ∷ calls))
+                ≡ cut_answers (whole_of name payload) (accepted_in before) (part ∷ map cut_fragment cuts) =
+                elim (cases_Bool (is_complete after)) [
+                  | inl now ↦ rw (does, now, answer) (rw now (ap (λ (answers : List Answer).
+                      payload_handed_out (whole_of name payload) ∷ answers) (rw now at rest)))
+                  | inr not_yet ↦ rw (does, not_yet, answer) (rw not_yet (ap (λ (answers : List Answer).
+                      nothing_handed_out ∷ answers) (rw not_yet at rest)))
+                ] in
+                goal ∙ ap (λ (f : IpFragment).
+                cut_answers (whole_of name payload) (accepted_in before) (f ∷ map cut_fragment cuts)) is_part
+            | inr not ↦
+                let unchanged = after_one_more eq keep earlier call name false not in
+                rw not
+                (come (earlier ++ call ∷ []) calls (cut ∷ cuts) (rw unchanged kept) built keeps.1 (rw not at same)
+                ∙ ap (λ (k : Option (Kept T)). expected k (cut ∷ cuts)) unchanged)
+          ]

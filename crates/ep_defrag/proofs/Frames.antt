@@ -1,0 +1,175 @@
+-- What calls with frames of bytes are read as, and what lists of them are answered.
+use Rattle.std.proofs.Common.{◌≡◌, ℕ, zero, suc, Bool, List, [], ◌∷◌, ◌++◌, append_assoc, take, map, Some, slice_get, Bor, inl, inr, refl, sym, ap, ◌∙◌}
+use Rattle.std.specs.List.{All, AllZip}
+use Rattle.std.specs.Option.{option_map}
+use Rattle.std.proofs.lemmas.List.{append-nil}
+use Rattle.std.proofs.lemmas.List.Elements.{recursion_from_All}
+use Rattle.std.proofs.lemmas.Option.{slice_get-map}
+use Rattle.ep_base.specs.Bytes.{AreBytes}
+use Rattle.ep_base.specs.Tables.{IsDecided}
+use Rattle.ep_packet.specs.declared.entry.Entry.{Entry}
+use Rattle.ep_packet.specs.declared.err.slice_error.SliceError.{SliceError}
+use Rattle.ep_packet.specs.Layers.{Layers}
+use Rattle.ep_packet.specs.Frame.{IsFrame}
+use Rattle.ep_packet.specs.Refusals.{RefusesFrame}
+use Rattle.ep_packet.specs.Fragments.{fragment_of}
+use Rattle.ep_defrag.specs.declared.frame_run.FrameCall.{FrameCall}
+use Rattle.ep_defrag.specs.declared.frame_run.FrameCall.TheVariants as frame
+use Rattle.ep_defrag.specs.declared.frame_run.FrameAnswer.{FrameAnswer}
+use Rattle.ep_defrag.specs.declared.ip_frag_id.IpFragId.{IpFragId}
+use Rattle.ep_defrag.specs.Streams.{packet_fragment}
+use Rattle.ep_defrag.specs.Cuts.{IsCut}
+use Rattle.ep_defrag.specs.Calls.{Call, gives_frame, drops_streams, returns_buffer, table_after, answers_after, answer_to, accepted_at}
+use Rattle.ep_defrag.specs.FrameCalls.{ReadCall, calls_pool, refuses_frame, IsReadAs, IsOnlyRead, HasBytes, AreReadAs, pool_calls, ReadAnswer, not_sliced, pool_answers, read_answer_to, frame_answers_after, frame_answers_to, pool_answers_in, IfPoolHandsOut, read_answer, table_with_read}
+use Rattle.ep_defrag.proofs.Calls.{table_after-push}
+use Rattle.ep_defrag.proofs.Alone.{handed_at}
+
+module _ {T C V : Type 0} (entry : Entry) (bytes : Bor (List ℕ)) (timestamp : T) (channel : C)
+    (decided : IsDecided (IsFrame entry bytes.now) (RefusesFrame entry bytes.now)) where
+  -- a frame of these layers is read as their fragment, and not otherwise
+  layers_only : (layers : Layers) → IsFrame entry bytes.now layers → (other : ReadCall T C V)
+      → IsReadAs (frame.Frame entry bytes timestamp channel) other
+      → other ≡ calls_pool (gives_frame (option_map packet_fragment (fragment_of layers)) timestamp channel)
+  layers_only layers is (calls_pool brought) read =
+      ap (λ (brought : Call T C V). calls_pool brought)
+      (read.2
+      ∙ ap (λ (found : Layers). gives_frame (option_map packet_fragment (fragment_of found)) timestamp channel)
+      (decided.one_value read.0 layers read.1 is))
+  layers_only layers is (refuses_frame error) refused = absurd (decided.not_both layers error is refused)
+
+  pub layers_read : (layers : Layers) → IsFrame entry bytes.now layers
+      → IsOnlyRead {V = V} (frame.Frame entry bytes timestamp channel)
+      (calls_pool (gives_frame (option_map packet_fragment (fragment_of layers)) timestamp channel))
+  layers_read layers is = record { is = (layers, is, refl); only = layers_only layers is }
+
+  -- a frame that is refused is read as refused, and not otherwise
+  refused_only : (error : SliceError) → RefusesFrame entry bytes.now error → (other : ReadCall T C V)
+      → IsReadAs (frame.Frame entry bytes timestamp channel) other → other ≡ refuses_frame error
+  refused_only error refused (calls_pool brought) read = absurd (decided.not_both read.0 error read.1 refused)
+  refused_only error refused (refuses_frame other) also =
+      ap (λ (error : SliceError). refuses_frame error) (decided.one_error other error also refused)
+
+  pub refused_read : (error : SliceError) → RefusesFrame entry bytes.now error
+      → IsOnlyRead {V = V} (frame.Frame entry bytes timestamp channel) (refuses_frame error)
+  refused_read error refused = record { is = refused; only = refused_only error refused }
+
+-- ---- lists of calls
+
+-- a pair more at the end of two lists
+pub AllZip-more : {A B : Type 0} (R : A → B → Type 0) (xs : List A) (ys : List B) (x : A) (y : B)
+    → AllZip R xs ys → R x y → AllZip R (xs ++ x ∷ []) (ys ++ y ∷ [])
+AllZip-more R [] [] x y all last = (last, tt)
+AllZip-more R [] (other ∷ ys) x y all last = absurd all
+AllZip-more R (first ∷ xs) [] x y all last = absurd all
+AllZip-more R (first ∷ xs) (other ∷ ys) x y all last = (all.0, AllZip-more R xs ys x y all.1 last)
+
+module _ {T C V : Type 0} where
+  -- each of bytes is read, as one thing
+  pub read_once : ((entry : Entry) (bytes : List ℕ) → AreBytes bytes
+      → IsDecided (IsFrame entry bytes) (RefusesFrame entry bytes))
+      → (call : FrameCall T C V) → HasBytes call → (read : ReadCall T C V) × IsOnlyRead call read
+  read_once decided (frame.Frame entry bytes timestamp channel) are =
+      let law = decided entry bytes.now are in
+      elim law.some [
+        | inl found ↦ (_, layers_read entry bytes timestamp channel law found.0 found.1)
+        | inr refusal ↦
+            (refuses_frame refusal.0, refused_read entry bytes timestamp channel law refusal.0 refusal.1)
+      ]
+  read_once decided (frame.Drop value) are =
+      (calls_pool (drops_streams value), record { is = refl; only = λ other read. read })
+  read_once decided (frame.Return buffer) are =
+      (calls_pool returns_buffer, record { is = refl; only = λ other read. read })
+
+  pub only_read : (calls : List (FrameCall T C V)) (reads : List (ReadCall T C V)) → AllZip IsOnlyRead calls reads
+      → AreReadAs calls reads
+  only_read [] [] all = tt
+  only_read [] (read ∷ reads) all = absurd all
+  only_read (call ∷ calls) [] all = absurd all
+  only_read (call ∷ calls) (read ∷ reads) all = (all.0.is, only_read calls reads all.1)
+
+  pub one_reading : (calls : List (FrameCall T C V)) (reads others : List (ReadCall T C V))
+      → AllZip IsOnlyRead calls reads → AreReadAs calls others → others ≡ reads
+  one_reading [] [] [] all also = refl
+  one_reading [] [] (other ∷ others) all also = absurd also
+  one_reading [] (read ∷ reads) others all also = absurd all
+  one_reading (call ∷ calls) [] others all also = absurd all
+  one_reading (call ∷ calls) (read ∷ reads) [] all also = absurd also
+  one_reading (call ∷ calls) (read ∷ reads) (other ∷ others) all also =
+      rw (all.0.only other also.0, one_reading calls reads others all.1 also.1) refl
+
+  -- one more call of the pool, or a frame that is refused
+  pool_calls-push : (reads : List (ReadCall T C V)) (read : ReadCall T C V)
+      → pool_calls (reads ++ read ∷ []) ≡ pool_calls reads ++ pool_calls (read ∷ [])
+  pool_calls-push [] read = refl
+  pool_calls-push (calls_pool brought ∷ reads) read =
+      ap (λ calls. brought ∷ calls) (pool_calls-push reads read)
+  pool_calls-push (refuses_frame error ∷ reads) read = pool_calls-push reads read
+
+  -- the pool's answers are those to its calls alone
+  pub answers_in : (eq : C → C → Bool) (keep : V → T → Bool) (earlier : List (Call T C V))
+      (reads : List (ReadCall T C V)) → pool_answers_in (frame_answers_after eq keep earlier reads)
+      ≡ answers_after eq keep earlier (pool_calls reads)
+  answers_in eq keep earlier [] = refl
+  answers_in eq keep earlier (calls_pool brought ∷ reads) =
+      ap (λ answers. answer_to (table_after eq keep earlier) brought ∷ answers)
+      (answers_in eq keep (earlier ++ brought ∷ []) reads)
+  answers_in eq keep earlier (refuses_frame error ∷ reads) = answers_in eq keep earlier reads
+
+module _ {T C V : Type 0} (eq : C → C → Bool) (keep : V → T → Bool) where
+  -- the table after one more call
+  pub table_after_read : (reads : List (ReadCall T C V)) (read : ReadCall T C V) (name : IpFragId C)
+      → table_after eq keep (pool_calls (reads ++ read ∷ [])) name
+      ≡ table_with_read eq keep (table_after eq keep (pool_calls reads)) read name
+  table_after_read reads (calls_pool brought) name =
+      rw (pool_calls-push reads (calls_pool brought)) (table_after-push eq keep (pool_calls reads) brought name)
+  table_after_read reads (refuses_frame error) name =
+      rw (pool_calls-push reads (refuses_frame error), append-nil (pool_calls reads)) refl
+
+  -- what one more call is answered
+  pub frame_answers-push : (earlier : List (Call T C V)) (reads : List (ReadCall T C V)) (read : ReadCall T C V)
+      → frame_answers_after eq keep earlier (reads ++ read ∷ [])
+      ≡ frame_answers_after eq keep earlier reads
+      ++ read_answer_to (table_after eq keep (earlier ++ pool_calls reads)) read ∷ []
+  frame_answers-push earlier [] (calls_pool brought) = rw (append-nil earlier) refl
+  frame_answers-push earlier [] (refuses_frame error) = refl
+  frame_answers-push earlier (calls_pool first ∷ reads) read =
+      ap (λ answers. pool_answers (answer_to (table_after eq keep earlier) first) ∷ answers)
+      (frame_answers-push (earlier ++ first ∷ []) reads read
+      ∙ ap (λ before. frame_answers_after eq keep (earlier ++ first ∷ []) reads
+      ++ read_answer_to (table_after eq keep before) read ∷ [])
+      (append_assoc earlier (first ∷ []) (pool_calls reads)))
+  frame_answers-push earlier (refuses_frame error ∷ reads) read =
+      ap (λ answers. not_sliced error ∷ answers) (frame_answers-push earlier reads read)
+
+  -- the answer at a place is that to the call there
+  read_at : (earlier : List (Call T C V)) (reads : List (ReadCall T C V)) (at : ℕ) (brought : Call T C V)
+      (answer : ReadAnswer) → slice_get reads at ≡ Some (calls_pool brought)
+      → slice_get (frame_answers_after eq keep earlier reads) at ≡ Some answer
+      → answer ≡ pool_answers (answer_to (table_after eq keep (earlier ++ pool_calls (take at reads))) brought)
+  read_at earlier [] at brought answer is_call is_answer = absurd (cc)
+  read_at earlier (calls_pool first ∷ reads) zero brought answer is_call is_answer =
+      let same_call : first ≡ brought = cc in
+      let same_answer : pool_answers (answer_to (table_after eq keep earlier) first) ≡ answer = cc in
+      rw (append-nil earlier)
+      (sym same_answer ∙ ap (λ brought. pool_answers (answer_to (table_after eq keep earlier) brought)) same_call)
+  read_at earlier (refuses_frame error ∷ reads) zero brought answer is_call is_answer = absurd (cc)
+  read_at earlier (calls_pool first ∷ reads) (suc at) brought answer is_call is_answer =
+      read_at (earlier ++ first ∷ []) reads at brought answer is_call is_answer
+      ∙ ap (λ before. pool_answers (answer_to (table_after eq keep before) brought))
+      (append_assoc earlier (first ∷ []) (pool_calls (take at reads)))
+  read_at earlier (refuses_frame error ∷ reads) (suc at) brought answer is_call is_answer =
+      read_at earlier reads at brought answer is_call is_answer
+
+  pub read_cuts_at : (reads : List (ReadCall T C V)) (answers : List FrameAnswer)
+      → map read_answer answers ≡ frame_answers_to eq keep reads → (at : ℕ) (brought : Call T C V)
+      (answer : FrameAnswer) → slice_get reads at ≡ Some (calls_pool brought)
+      → slice_get answers at ≡ Some answer → (payload : List ℕ)
+      → All (IsCut payload) (accepted_at (table_after eq keep (pool_calls (take at reads))) brought)
+      → IfPoolHandsOut (read_answer answer) (λ handed. handed.bytes ≡ payload)
+  read_cuts_at reads answers same at brought answer is_call is_answer payload cuts =
+      let answer_is : slice_get (frame_answers_to eq keep reads) at ≡ Some (read_answer answer) =
+      ap (λ answers. slice_get answers at) (sym same) ∙ slice_get-map read_answer answers at
+      ∙ ap (option_map read_answer) is_answer in
+      rw (read_at [] reads at brought (read_answer answer) is_call answer_is)
+      (handed_at payload (table_after eq keep (pool_calls (take at reads))) brought
+      (recursion_from_All (IsCut payload) _ cuts))

@@ -1,0 +1,64 @@
+-- A fragment's bytes, put on data in parts: what lies within the data is overwritten, and what lies behind is appended.
+use Rattle.std.proofs.Common.{◌≡◌, ℕ, ◌+◌, ◌-◌, ◌≤◌, min, List, [], ◌++◌, append_assoc, length, take, drop, replicate, sym, ap, ◌∙◌, refl, arith, inl, inr}
+use Rattle.std.proofs.lemmas.Bool.{cases_lt}
+use Rattle.std.proofs.Math.Seq.{take-append-add, drop-append_seam}
+use Rattle.std.proofs.lemmas.List.{append-nil, take-append-drop, take-append-le, drop_all, take_all, take-replicate, length-take-le}
+use Rattle.ep_defrag.specs.Buffers.{extended, overwritten}
+use Rattle.ep_defrag.proofs.Data.{length-extended}
+
+-- data that reaches as far is not extended
+extended-within : (contents : List ℕ) (end : ℕ) → end ≤ length contents → extended contents end ≡ contents
+extended-within contents end within =
+    let none : end - length contents ≡ 0 = omega arith in
+    rw none (append-nil contents)
+
+-- what stands before a place is the same, however far behind it the data is extended
+take-extended : (contents : List ℕ) (start end : ℕ) → start ≤ end
+    → take start (extended contents start) ≡ take start (extended contents end)
+take-extended contents start end before = elim (cases_lt (length contents) start) [
+  | inl gap ↦
+      let count = start - length contents in
+      let more = end - length contents in
+      let parts : start ≡ length contents + count = omega arith in
+      take_all start (extended contents start)
+      (omega (arith, length-extended contents start))
+      ∙ sym
+      (ap (λ place. take place (extended contents end)) parts
+      ∙ take-append-add contents (replicate more 0) count
+      ∙ ap (λ zeros. contents ++ zeros) (take-replicate count more 0 (omega arith)))
+  | inr none ↦
+      ap (take start) (extended-within contents start none)
+      ∙ sym (take-append-le start contents (replicate (end - length contents) 0) none)
+]
+
+pub put_in_parts : (contents payload : List ℕ) (start within : ℕ)
+    → within ≡ min (length payload) (length (extended contents start) - start)
+    → overwritten (extended contents start ++ drop within payload) start (take within payload)
+    ≡ overwritten (extended contents (start + length payload)) start payload
+put_in_parts contents payload start within split =
+    let padded = extended contents start in
+    let end = start + length payload in
+    let rest = drop within payload in
+    let padded_len = length-extended contents start in
+    let taken : length (take within payload) ≡ within = length-take-le within payload (omega (arith, split)) in
+    elim (cases_lt (length contents) end) [
+      | inl longer ↦
+          let seam : start + length (take within payload) ≡ length padded = omega (arith, split, taken, padded_len) in
+          let before : take start (padded ++ rest) ≡ take start (extended contents end) =
+          take-append-le start padded rest (omega (arith, padded_len))
+          ∙ take-extended contents start end (omega arith) in
+          let behind : drop (start + length (take within payload)) (padded ++ rest) ≡ rest =
+          ap (λ place. drop place (padded ++ rest)) seam ∙ drop-append_seam padded rest in
+          let nothing : drop end (extended contents end) ≡ [] =
+          drop_all end (extended contents end) (omega (arith, length-extended contents end)) in
+          rw (before, behind, nothing)
+          (append_assoc (take start (extended contents end)) (take within payload) rest
+          ∙ ap (λ part. take start (extended contents end) ++ part) (take-append-drop within payload)
+          ∙ sym (append-nil (take start (extended contents end) ++ payload)))
+      | inr inside ↦
+          let all : within ≡ length payload = omega (arith, split, padded_len) in
+          let same : padded ++ rest ≡ extended contents end =
+          ap (λ part. padded ++ part) (drop_all within payload (omega (arith, all))) ∙ append-nil padded
+          ∙ extended-within contents start (omega arith) ∙ sym (extended-within contents end inside) in
+          rw (same, take_all within payload (omega (arith, all))) refl
+    ]

@@ -1,0 +1,6 @@
+use Rattle.std.proofs.Common.{[]}
+use Rattle.ep_defrag.proofs.Frames.{answers_in}
+use Rattle.ep_defrag.proofs.laws.refused_frames_change_nothing.Goals as goal
+
+pub returns : goal.returns
+returns g c keep reads = answers_in g.CustomChannelId.PartialEq.eq keep [] reads

@@ -1,0 +1,113 @@
+-- Frames that are built of cuts of a payload, and what a pool that is given them answers.
+use Rattle.std.specs.Prelude.{◌≡◌, ◌⊎◌, ℕ, ◌%◌, ◌<◌, ◌^◌, Bool, false, IsTrue, if◌then◌else◌, Some, None, option_map, List, [], ◌∷◌, ◌++◌, length, map}
+use Rattle.std.specs.List.{filter, items_where_true}
+use Rattle.ep_base.specs.Bytes.{AreBytes}
+use Rattle.ep_base.specs.declared.ip_number.IpNumber.{IpNumber}
+use Rattle.ep_build.specs.BuildErrors.{IsBuildable}
+use Rattle.ep_build.specs.BuiltFragments.{built_fragment}
+use Rattle.ep_build.specs.BuiltFrames.{built_frame, held_ip, ip_packet}
+use Rattle.ep_build.specs.Fits.{FitsLink}
+use Rattle.ep_build.specs.ReadBack.{IsEntryOf}
+use Rattle.ep_build.specs.declared.link_part.LinkPart.{LinkPart}
+use Rattle.ep_packet.specs.Fragments.{FrameFragment, fragment_of}
+use Rattle.ep_packet.specs.Frame.{IsFrame}
+use Rattle.ep_packet.specs.IpHeaders.{EndsExtensions, FitIpHeaders}
+use Rattle.ep_packet.specs.Layers.{Layers}
+use Rattle.ep_packet.specs.declared.entry.Entry.{Entry}
+use Rattle.ep_packet.specs.declared.ip_headers.IpHeaders.{IpHeaders}
+use Rattle.ep_defrag.specs.declared.ip_frag_id.IpFragId.{IpFragId}
+use Rattle.ep_defrag.specs.Fragments.{IpFragment, is_final, is_complete}
+use Rattle.ep_defrag.specs.Cuts.{IsCut}
+use Rattle.ep_defrag.specs.Streams.{name_of, packet_fragment, same_stream, source_of}
+use Rattle.ep_defrag.specs.Calls.{Call, gives_frame, drops_streams, returns_buffer, Payload, Answer, payload_handed_out, nothing_handed_out}
+
+-- ---- a frame that is built of a cut
+
+-- What a frame is built from: what stands before the net layer, IP headers, the number of what the payload is, and the
+-- bytes of the cut. The fragment that these are. How the frame is read: the entry, and the layers. And the timestamp
+-- and the channel with which it is given to a pool.
+pub record BuiltCut (T C : Type 0) : Type 0 where
+  pub link : LinkPart
+  pub headers : IpHeaders
+  pub last : IpNumber
+  pub bytes : List ℕ
+  pub found : FrameFragment
+  pub entry : Entry
+  pub layers : Layers
+  pub timestamp : T
+  pub channel : C
+
+-- the bytes of the frame
+abbrev pub cut_frame : {T C : Type 0} → BuiltCut T C → List ℕ
+cut_frame cut = built_frame (held_ip cut.link cut.headers cut.last) cut.bytes
+
+-- the fragment, as the pool sees it
+abbrev pub cut_fragment : {T C : Type 0} → BuiltCut T C → IpFragment
+cut_fragment cut = (packet_fragment cut.found).fragment
+
+-- the call that gives the frame to a pool, which knows of it what its layers say
+abbrev pub cut_call : {T C V : Type 0} → BuiltCut T C → Call T C V
+cut_call cut = gives_frame (option_map packet_fragment (fragment_of cut.layers)) cut.timestamp cut.channel
+
+-- It is a frame that is built of a cut of the payload.
+pub record IsBuiltCut {T C : Type 0} (payload : List ℕ) (cut : BuiltCut T C) : Type 0 where
+  -- the fields fit their places, and the frame is not refused
+  pub fits_link : FitsLink cut.link
+  pub fit : FitIpHeaders cut.headers
+  pub number : cut.last.0 < 2 ^ 8
+  pub are_bytes : AreBytes cut.bytes
+  pub buildable : IsBuildable (held_ip cut.link cut.headers cut.last) (length cut.bytes)
+  -- the headers say a fragment, and the number is none of an extension header
+  pub built : built_fragment cut.link cut.headers cut.last cut.bytes ≡ Some cut.found
+  pub ends : EndsExtensions cut.headers cut.last.0
+  -- the layers are those of the frame's bytes, by an entry of its first layer
+  pub of : IsEntryOf cut.link (ip_packet cut.headers cut.last) cut.entry
+  pub is : IsFrame cut.entry (cut_frame cut) cut.layers
+  -- the fragment is a cut of the payload, and final or a multiple of 8 bytes long
+  pub is_cut : IsCut payload (cut_fragment cut)
+  pub shape : IsTrue (is_final (cut_fragment cut)) ⊎ (length (cut_fragment cut).bytes % 8 ≡ 0)
+
+-- The fragment is of the stream of this name.
+abbrev pub IsUnder : {T C : Type 0} → (C → C → Bool) → IpFragId C → BuiltCut T C → Type 0
+IsUnder eq name cut = IsTrue (same_stream eq (name_of (packet_fragment cut.found) cut.channel) name)
+
+-- ---- the calls and the answers
+
+-- whether a call gives a frame with a fragment of a stream
+abbrev pub gives_to : {T C V : Type 0} → (C → C → Bool) → IpFragId C → Call T C V → Bool
+gives_to eq name (gives_frame None timestamp channel) = false
+gives_to eq name (gives_frame (Some carried) timestamp channel) = same_stream eq (name_of carried channel) name
+gives_to eq name (drops_streams value) = false
+gives_to eq name returns_buffer = false
+
+-- the calls of a list that do
+abbrev pub frames_to : {T C V : Type 0} → (C → C → Bool) → IpFragId C → List (Call T C V) → List (Call T C V)
+frames_to eq name calls = filter (gives_to eq name) calls
+
+-- of the answers to a list of calls, those to these frames
+abbrev pub answers_to_frames : {T C V : Type 0} → (C → C → Bool) → IpFragId C → List (Call T C V) → List Answer
+    → List Answer
+answers_to_frames eq name calls answers = items_where_true (map (gives_to eq name) calls) answers
+
+-- a drop keeps every stream
+abbrev pub KeepsAll : {T C V : Type 0} → (V → T → Bool) → Call T C V → Type 0
+KeepsAll keep (gives_frame carried timestamp channel) = Unit {0}
+KeepsAll {T = T} keep (drops_streams value) = (timestamp : T) → IsTrue (keep value timestamp)
+KeepsAll keep returns_buffer = Unit {0}
+
+-- the whole payload, as it is handed out under a name
+abbrev pub whole_of : {C : Type 0} → IpFragId C → List ℕ → Payload
+whole_of name payload = record {
+  ip_number = name.payload_ip_number;
+  len_source = source_of name.ip;
+  bytes = payload;
+}
+
+-- The answers to cuts that are given in turn, behind those that were given since the payload was last handed out: the
+-- payload exactly at each cut with which they are complete, after which they begin anew.
+abbrev pub cut_answers : Payload → List IpFragment → List IpFragment → List Answer
+cut_answers whole given [] = []
+cut_answers whole given (cut ∷ cuts) =
+    if is_complete (given ++ cut ∷ [])
+    then payload_handed_out whole ∷ cut_answers whole [] cuts
+    else nothing_handed_out ∷ cut_answers whole (given ++ cut ∷ []) cuts

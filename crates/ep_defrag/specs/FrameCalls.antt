@@ -1,0 +1,123 @@
+-- Frames of bytes among the calls on a pool: what each call is read as, and what each is answered. A frame is read by
+-- its entry and its bytes alone, as a packet's layers or as bytes that are none.
+use Rattle.std.specs.Prelude.{◌≡◌, Bool, false, Option, Result, Ok, Err, List, [], ◌∷◌, ◌++◌}
+use Rattle.std.specs.List.{AllZip}
+use Rattle.std.specs.Option.{option_map}
+use Rattle.ep_base.specs.Bytes.{AreBytes}
+use Rattle.ep_packet.specs.declared.err.slice_error.SliceError.{SliceError}
+use Rattle.ep_packet.specs.Layers.{Layers}
+use Rattle.ep_packet.specs.Frame.{IsFrame}
+use Rattle.ep_packet.specs.Refusals.{RefusesFrame}
+use Rattle.ep_packet.specs.Fragments.{fragment_of}
+use Rattle.ep_defrag.specs.declared.ip_frag_id.IpFragId.{IpFragId}
+use Rattle.ep_defrag.specs.declared.pool_run.PoolCall.{PoolCall}
+use Rattle.ep_defrag.specs.declared.frame_run.FrameCall.{FrameCall}
+use Rattle.ep_defrag.specs.declared.frame_run.FrameCall.TheVariants as call
+use Rattle.ep_defrag.specs.declared.frame_run.FrameAnswer.{FrameAnswer}
+use Rattle.ep_defrag.specs.declared.frame_run.FrameAnswer.TheVariants as answer
+use Rattle.ep_defrag.specs.Streams.{packet_fragment}
+use Rattle.ep_defrag.specs.Calls.{Call, gives_frame, drops_streams, returns_buffer, Kept, table_after, table_with, Answer, answer_to, CallMayNeedMemory, Payload, IfHandedOut}
+use Rattle.ep_defrag.specs.Pools.{plain_call, plain_answer, answer_wants_memory}
+
+-- What a call is read as: a call on the pool, or a frame whose bytes are refused with this error.
+pub data ReadCall (T C V : Type 0) : Type 0 where
+  calls_pool : Call T C V → ReadCall T C V
+  refuses_frame : SliceError → ReadCall T C V
+
+-- A frame is read as the frame of its layers, with the fragment that they carry, or refused; all else as what it is.
+abbrev pub IsReadAs : {T C V : Type 0} → FrameCall T C V → ReadCall T C V → Type 0
+IsReadAs (call.Frame entry bytes timestamp channel) (calls_pool brought) =
+    (layers : Layers) × IsFrame entry bytes.now layers
+    × (brought ≡ gives_frame (option_map packet_fragment (fragment_of layers)) timestamp channel)
+IsReadAs (call.Frame entry bytes timestamp channel) (refuses_frame error) = RefusesFrame entry bytes.now error
+IsReadAs (call.Drop value) read = read ≡ calls_pool (drops_streams value)
+IsReadAs (call.Return buffer) read = read ≡ calls_pool returns_buffer
+
+-- each call of a list is read so
+abbrev pub AreReadAs : {T C V : Type 0} → List (FrameCall T C V) → List (ReadCall T C V) → Type 0
+AreReadAs calls reads = AllZip IsReadAs calls reads
+
+-- each call of a list is read
+abbrev pub AreRead : {T C V : Type 0} → List (FrameCall T C V) → Type 0
+AreRead {T} {C} {V} calls = (reads : List (ReadCall T C V)) × AreReadAs calls reads
+
+-- the calls on the pool, in their order: a frame that is refused is none
+abbrev pub pool_calls : {T C V : Type 0} → List (ReadCall T C V) → List (Call T C V)
+pool_calls [] = []
+pool_calls (calls_pool brought ∷ reads) = brought ∷ pool_calls reads
+pool_calls (refuses_frame error ∷ reads) = pool_calls reads
+
+-- What a call is answered: the error of a frame that is refused, or the pool's answer.
+pub data ReadAnswer : Type 0 where
+  not_sliced : SliceError → ReadAnswer
+  pool_answers : Answer → ReadAnswer
+
+-- the answer to a call, on a pool with this table
+abbrev pub read_answer_to : {T C V : Type 0} → (IpFragId C → Option (Kept T)) → ReadCall T C V → ReadAnswer
+read_answer_to table (calls_pool brought) = pool_answers (answer_to table brought)
+read_answer_to table (refuses_frame error) = not_sliced error
+
+-- the answer to each call, where the earlier ones were made on a new pool
+abbrev pub frame_answers_after : {T C V : Type 0} → (C → C → Bool) → (V → T → Bool) → List (Call T C V)
+    → List (ReadCall T C V) → List ReadAnswer
+frame_answers_after eq keep earlier [] = []
+frame_answers_after eq keep earlier (calls_pool brought ∷ reads) =
+    pool_answers (answer_to (table_after eq keep earlier) brought)
+    ∷ frame_answers_after eq keep (earlier ++ brought ∷ []) reads
+frame_answers_after eq keep earlier (refuses_frame error ∷ reads) =
+    not_sliced error ∷ frame_answers_after eq keep earlier reads
+
+-- the answer to each of a list of calls on a new pool
+abbrev pub frame_answers_to : {T C V : Type 0} → (C → C → Bool) → (V → T → Bool) → List (ReadCall T C V)
+    → List ReadAnswer
+frame_answers_to eq keep reads = frame_answers_after eq keep [] reads
+
+-- the pool's answers among these, in their order
+abbrev pub pool_answers_in : List ReadAnswer → List Answer
+pool_answers_in [] = []
+pool_answers_in (not_sliced error ∷ answers) = pool_answers_in answers
+pool_answers_in (pool_answers given ∷ answers) = given ∷ pool_answers_in answers
+
+-- if a payload is handed out, this holds of it
+abbrev pub IfPoolHandsOut : ReadAnswer → (Payload → Type 0) → Type 0
+IfPoolHandsOut (not_sliced error) holds = Unit {0}
+IfPoolHandsOut (pool_answers given) holds = IfHandedOut given holds
+
+-- Memory may be wanting for a call only where it is read as a call on the pool for which it may.
+abbrev pub FrameCallMayNeedMemory : {T C V : Type 0} → (IpFragId C → Option (Kept T)) → FrameCall T C V → Type 0
+FrameCallMayNeedMemory {T} {C} {V} table call =
+    (brought : Call T C V) × IsReadAs call (calls_pool brought) × CallMayNeedMemory table brought
+
+-- what an answer shows
+abbrev pub read_answer : FrameAnswer → ReadAnswer
+read_answer (answer.NotSliced error) = not_sliced error
+read_answer (answer.Pool given) = pool_answers (plain_answer given)
+
+-- whether the pool lacked memory
+abbrev pub frame_answer_wants_memory : FrameAnswer → Bool
+frame_answer_wants_memory (answer.NotSliced error) = false
+frame_answer_wants_memory (answer.Pool given) = answer_wants_memory given
+
+-- ---- one call
+
+-- the bytes of a frame are bytes
+abbrev pub HasBytes : {T C V : Type 0} → FrameCall T C V → Type 0
+HasBytes (call.Frame entry bytes timestamp channel) = AreBytes bytes.now
+HasBytes (call.Drop value) = Unit {0}
+HasBytes (call.Return buffer) = Unit {0}
+
+-- a call is read so, and not otherwise
+pub record IsOnlyRead {T C V : Type 0} (call : FrameCall T C V) (read : ReadCall T C V) : Type 0 where
+  pub is : IsReadAs call read
+  pub only : (other : ReadCall T C V) → IsReadAs call other → other ≡ read
+
+-- what is made of a call
+abbrev pub read_of : {T C V : Type 0} → Result (PoolCall T C V) SliceError → ReadCall T C V
+read_of (Ok brought) = calls_pool (plain_call brought)
+read_of (Err error) = refuses_frame error
+
+-- the table after one more call
+abbrev pub table_with_read : {T C V : Type 0} → (C → C → Bool) → (V → T → Bool) → (IpFragId C → Option (Kept T))
+    → ReadCall T C V → IpFragId C → Option (Kept T)
+table_with_read eq keep table (calls_pool brought) = table_with eq keep table brought
+table_with_read eq keep table (refuses_frame error) = table

@@ -1,0 +1,14 @@
+use Rattle.std.proofs.Common.{arith}
+use Rattle.ep_packet.specs.Layers.{layers_of}
+use Rattle.ep_packet.proofs.LayerLaws.{frame_law}
+use Rattle.ep_packet.proofs.sliced_packet.SlicedPacket.slice_into.Goals as goal
+
+pub returns-in-Ok-clause-only : goal.returns-in-Ok-clause-only
+returns-in-Ok-clause-only c = λ layers is.
+    (frame_law c.args.entry c.args.bytes.now (λ i. omega (arith, c.type_inv.bytes i))).one_value
+    (layers_of c.fill.new.self) layers c.in-Ok.ensures.ok is
+
+pub returns-in-Err-clause-only : goal.returns-in-Err-clause-only
+returns-in-Err-clause-only c = λ layers is.
+    absurd ((frame_law c.args.entry c.args.bytes.now (λ i. omega (arith, c.type_inv.bytes i))).not_both layers
+    c.in-Err.error is c.in-Err.ensures.err)

@@ -1,0 +1,18 @@
+use Rattle.std.proofs.Common.{refl}
+use Rattle.ep_base.specs.declared.ether_payload_slice.EtherPayloadSlice.{EtherPayloadSlice}
+use Rattle.ep_base.specs.declared.len_source.LenSource.TheVariants as source
+use Rattle.ep_packet.proofs.EntryLemmas.{ether_payload_holds}
+use Rattle.ep_packet.proofs.sliced_packet_walk.LinkPart.ether_type.Goals as goal
+
+pub returns-clause-begins : goal.returns-clause-begins
+returns-clause-begins c =
+    let bytes = c.args.slice.now in
+    let payload : EtherPayloadSlice = record {
+      ether_type = c.args.ether_type;
+      len_source = source.Slice;
+      payload = c.args.slice;
+    } in
+    record {
+      holds = λ packet behind. ether_payload_holds bytes payload packet refl refl behind;
+      refused = λ error refused. refused;
+    }

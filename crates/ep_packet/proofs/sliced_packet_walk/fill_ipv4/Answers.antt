@@ -1,0 +1,34 @@
+use Rattle.std.proofs.Common.{ap, arith}
+use Rattle.std.proofs.lemmas.Result.{err_from_is_err_and}
+use Rattle.ep_base.specs.Layer.{slices}
+use Rattle.ep_base.specs.declared.err.len_error.LenError.{LenError}
+use Rattle.ep_ip.proofs.RefusalPlaces.{ipv4_start, ipv4_within}
+use Rattle.ep_packet.specs.declared.net_slice.NetSlice.TheVariants as slice
+use Rattle.ep_packet.specs.Frame.{only_ipv4}
+use Rattle.ep_packet.proofs.NetWalkLemmas.{ipv4_shown, net_refused}
+use Rattle.ep_packet.proofs.sliced_packet_walk.fill_ipv4.Goals as goal
+
+pub add_offset-requires : goal.add_offset-requires
+add_offset-requires c =
+    let error = c.in-Err-Len in
+    omega (
+      arith,
+      ipv4_within slices c.args.slice.now error.field-0 error.ensures.err,
+      ap ipv4_start error.field-0-is,
+      ap (λ (e : LenError). e.layer_start_offset) error.error-is,
+      c.requires,
+    )
+
+pub fill_transport-requires-clause-headers : goal.fill_transport-requires-clause-headers
+fill_transport-requires-clause-headers c =
+    let ok = c.in-Ok.ensures.ok in
+    (ipv4_shown c.args.slice.now ok.0 c.in-Ok.packet ok.1 ok.2).headers
+
+pub returns-in_err-fill_transport-clause-err : goal.returns-in_err-fill_transport-clause-err
+returns-in_err-fill_transport-clause-err c =
+    let ok = c.in-Ok.ensures.ok in
+    let refused = net_refused only_ipv4 c.args.offset c.args.slice.now
+    (slice.Ipv4 c.in-Ok.packet) c.in_err-fill_transport.field-0.0
+    (ipv4_shown c.args.slice.now ok.0 c.in-Ok.packet ok.1 ok.2) c.in_err-fill_transport.ensures.err in
+    let left = err_from_is_err_and c.from_residual.result c.from_residual.ensures.1 in
+    rw (left.1, left.2) refused

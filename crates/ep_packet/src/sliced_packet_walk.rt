@@ -1,0 +1,390 @@
+//! The walk over a packet from the outside in, which fills in its layers.
+//!
+//! Each call that says `Ok` has written what it is named for, whatever was there; at `Err` what it leaves is not said.
+//! All of them become one piece of code with the caller, so that no layer is moved on its way out.
+
+ghost use Rattle.std.specs.Prelude.{◌≡◌, ◌+◌, ◌<◌, ◌^◌, [], length, IfOk, IfErr, Some};
+ghost use Rattle.std.specs.Option.{option_map};
+ghost use Rattle.ep_base.specs.Layer.{slices};
+ghost use Rattle.ep_base.specs.IpPayload.{ip_payload_of};
+ghost use Rattle.ep_ext.specs.Ipv4Chains.{ipv4_slice_bytes};
+ghost use Rattle.ep_transport.specs.TransportParts.{transport_layer_of};
+ghost use Rattle.ep_packet.specs.Frame.{IsTransportBehind, IsTransportIn, most_link_exts};
+ghost use Rattle.ep_packet.specs.Frame.{only_ipv4, only_ipv6, only_arp, any_ip};
+ghost use Rattle.ep_packet.specs.Layers.{net_layer_of, net_payload};
+ghost use Rattle.ep_packet.specs.Refusals.{RefusesInside, RefusesNetPart, RefusesTransportBehind, RefusesTransportIn};
+ghost use Rattle.ep_packet.specs.Refusals.{net_header_len};
+ghost use Rattle.ep_packet.specs.ShownBytes.{ShowsTransport, net_slice_bytes, net_slice_payload};
+ghost use Rattle.ep_packet.specs.Walk.{HasExtensions, HasHeaders, HoldsInside, HoldsNet, net_kind_in};
+
+use crate::err::SliceError;
+use crate::net_slice::NetSlice;
+use arrayvec::ArrayVec;
+use ep_base::err::{ip, ipv4, ipv6, linux_sll, macsec, tcp};
+use ep_base::{EtherPayloadSlice, EtherType, IpPayloadSlice, LenSource, ether_type};
+use ep_ext::Ipv4ExtensionsSlice;
+use ep_ip::{IpSlice, Ipv4Slice, Ipv6Header, Ipv6Slice};
+use ep_link::{
+    ArpPacketSlice, Ethernet2Header, Ethernet2Slice, LinkExtSlice, LinkSlice, LinuxSllHeader,
+    LinuxSllSlice,
+};
+use ep_transport::TransportSlice;
+
+/// The link layer with which a packet begins, and the bytes in it.
+#[derive(Drop)]
+pub(crate) struct LinkPart<'a> {
+    /// The link layer.
+    pub(crate) link: LinkSlice<'a>,
+    /// How far behind the packet's start its payload lies.
+    pub(crate) offset: usize,
+    /// The payload's type, where it is known.
+    pub(crate) ether_type: Option<EtherType>,
+    /// The payload.
+    pub(crate) slice: &'a [u8],
+}
+
+impl<'a> LinkPart<'a> {
+    ghost use Rattle.ep_packet.specs.declared.entry.Entry.TheVariants.{Ethernet as ethernet, LinuxSll as linux_sll, EtherType as of_type};
+    ghost use Rattle.ep_packet.specs.Refusals.{RefusesFrame};
+    ghost use Rattle.ep_packet.specs.Walk.{BeginsPacket};
+
+    /// The Ethernet II header with which a packet begins.
+    #[inline(always)]
+    pub(crate) fn ethernet(slice: &'a [u8]) -> Result<LinkPart<'a>, SliceError>
+        ensures ok { IfOk result (BeginsPacket ethernet slice.now) }
+        ensures place { IfOk result (λ part. part.offset + length part.slice.now < 2 ^ 64) }
+        ensures err { IfErr result (RefusesFrame ethernet slice.now) }
+    {
+        let frame = match Ethernet2Slice::from_slice_without_fcs(slice) {
+            Ok(frame) => frame,
+            Err(error) => return Err(SliceError::Len(error)),
+        };
+        let ether_type = frame.ether_type();
+        let payload = frame.payload_slice();
+        Ok(LinkPart {
+            link: LinkSlice::Ethernet2(frame),
+            offset: Ethernet2Header::LEN,
+            ether_type: Some(ether_type),
+            slice: payload,
+        })
+    }
+
+    /// The header of a Linux cooked capture with which a packet begins.
+    #[inline(always)]
+    pub(crate) fn linux_sll(slice: &'a [u8]) -> Result<LinkPart<'a>, SliceError>
+        ensures ok { IfOk result (BeginsPacket linux_sll slice.now) }
+        ensures place { IfOk result (λ part. part.offset + length part.slice.now < 2 ^ 64) }
+        ensures err { IfErr result (RefusesFrame linux_sll slice.now) }
+    {
+        let frame = match LinuxSllSlice::from_slice(slice) {
+            Ok(frame) => frame,
+            Err(linux_sll::HeaderSliceError::Len(error)) => return Err(SliceError::Len(error)),
+            Err(linux_sll::HeaderSliceError::Content(error)) => return Err(SliceError::LinuxSll(
+                error,
+            )),
+        };
+        let ether_type = frame.protocol_type().ether_type();
+        let payload = frame.payload_slice();
+        Ok(LinkPart {
+            link: LinkSlice::LinuxSll(frame),
+            offset: LinuxSllHeader::LEN,
+            ether_type,
+            slice: payload,
+        })
+    }
+
+    /// The payload of a link layer, of this type, of which the link layer is no part of the packet.
+    #[inline(always)]
+    pub(crate) fn ether_type(ether_type: EtherType, slice: &'a [u8]) -> LinkPart<'a>
+        ensures begins { BeginsPacket (of_type ether_type) slice.now result }
+        ensures place { result.offset + length result.slice.now < 2 ^ 64 }
+    {
+        LinkPart {
+            link: LinkSlice::EtherPayload(EtherPayloadSlice {
+                ether_type,
+                len_source: LenSource::Slice,
+                payload: slice,
+            }),
+            offset: 0,
+            ether_type: Some(ether_type),
+            slice,
+        }
+    }
+}
+
+/// The bytes behind link extensions.
+#[derive(Drop)]
+struct Inside<'a> {
+    /// How far behind the packet's start they lie.
+    offset: usize,
+    /// Their type, where it is known.
+    ether_type: Option<EtherType>,
+    /// The bytes.
+    slice: &'a [u8],
+}
+
+/// Fills in what bytes of a type hold, where it is known: the link extensions, as many as are taken, the net layer and
+/// the transport layer. The bytes lie `offset` bytes behind the packet's start.
+#[inline(always)]
+pub(crate) fn fill_inside<'a>(
+    link_exts: &mut ArrayVec<LinkExtSlice<'a>, 3>,
+    net: &mut Option<NetSlice<'a>>,
+    transport: &mut Option<TransportSlice<'a>>,
+    offset: usize,
+    ether_type: Option<EtherType>,
+    slice: &'a [u8],
+) -> Result<(), SliceError>
+    requires place { offset + length slice.now < 2 ^ 64 }
+    requires empty { link_exts.old.items ≡ [] }
+    ensures ok { IfOk result (λ _. HoldsInside ether_type slice.now link_exts.new.items net.new transport.new) }
+    ensures err { IfErr result (RefusesInside slices most_link_exts offset ether_type slice.now) }
+{
+    let inside = match fill_extensions(link_exts, offset, ether_type, slice) {
+        Ok(inside) => inside,
+        Err(error) => return Err(error),
+    };
+    fill_net(
+        net,
+        transport,
+        inside.offset,
+        inside.ether_type,
+        inside.slice,
+    )
+}
+
+/// Fills in the link extensions that bytes of a type begin with, as many as are taken. The bytes lie `offset` bytes
+/// behind the packet's start.
+#[inline(always)]
+fn fill_extensions<'a>(
+    link_exts: &mut ArrayVec<LinkExtSlice<'a>, 3>,
+    offset: usize,
+    ether_type: Option<EtherType>,
+    slice: &'a [u8],
+) -> Result<Inside<'a>, SliceError>
+    requires place { offset + length slice.now < 2 ^ 64 }
+    requires empty { link_exts.old.items ≡ [] }
+    ensures ok { IfOk result (λ inside. HasExtensions offset ether_type slice.now link_exts.new.items
+        inside.offset inside.ether_type inside.slice.now) }
+    ensures err { IfErr result (RefusesInside slices most_link_exts offset ether_type slice.now) }
+{
+    let mut inside = Inside {
+        offset,
+        ether_type,
+        slice,
+    };
+    while !link_exts.is_full() {
+        let Some(known) = inside.ether_type else {
+            return Ok(inside);
+        };
+        let extension = match LinkExtSlice::from_ether_type(known, inside.slice) {
+            Ok(Some(extension)) => extension,
+            Ok(None) => return Ok(inside),
+            Err(macsec::HeaderSliceError::Len(error)) => {
+                return Err(SliceError::Len(error.add_offset(inside.offset)));
+            }
+            Err(macsec::HeaderSliceError::Content(error)) => return Err(SliceError::Macsec(error)),
+        };
+        inside = Inside {
+            offset: inside.offset + extension.header_len(),
+            ether_type: extension.next_ether_type(),
+            slice: extension.payload_slice(),
+        };
+        link_exts.push(extension);
+    }
+    Ok(inside)
+}
+
+/// Fills in the net layer that bytes of a type are, where it is known, and the transport layer in it. The bytes lie
+/// `offset` bytes behind the packet's start.
+#[inline(always)]
+fn fill_net<'a>(
+    net: &mut Option<NetSlice<'a>>,
+    transport: &mut Option<TransportSlice<'a>>,
+    offset: usize,
+    ether_type: Option<EtherType>,
+    slice: &'a [u8],
+) -> Result<(), SliceError>
+    requires { offset + length slice.now < 2 ^ 64 }
+    ensures ok { IfOk result (λ _. HoldsNet (net_kind_in ether_type) slice.now net.new transport.new) }
+    ensures err { IfErr result (RefusesNetPart slices offset (net_kind_in ether_type) slice.now) }
+{
+    match ether_type {
+        Some(ether_type::IPV4) => fill_ipv4(net, transport, offset, slice),
+        Some(ether_type::IPV6) => fill_ipv6(net, transport, offset, slice),
+        Some(ether_type::ARP) => fill_arp(net, transport, offset, slice),
+        _ => {
+            *net = None;
+            *transport = None;
+            Ok(())
+        }
+    }
+}
+
+/// Fills in the IPv4 packet that bytes are, and the transport layer in it. The bytes lie `offset` bytes behind the
+/// packet's start.
+#[inline(always)]
+fn fill_ipv4<'a>(
+    net: &mut Option<NetSlice<'a>>,
+    transport: &mut Option<TransportSlice<'a>>,
+    offset: usize,
+    slice: &'a [u8],
+) -> Result<(), SliceError>
+    requires { offset + length slice.now < 2 ^ 64 }
+    ensures ok { IfOk result (λ _. HoldsNet (Some only_ipv4) slice.now net.new transport.new) }
+    ensures err { IfErr result (RefusesNetPart slices offset (Some only_ipv4) slice.now) }
+{
+    let packet = match Ipv4Slice::from_slice(slice) {
+        Ok(packet) => packet,
+        Err(ipv4::SliceError::Len(error)) => return Err(SliceError::Len(error.add_offset(offset))),
+        Err(ipv4::SliceError::Header(error)) => return Err(SliceError::Ipv4(error)),
+        Err(ipv4::SliceError::Exts(error)) => return Err(SliceError::Ipv4Exts(error)),
+    };
+    let layer = NetSlice::Ipv4(packet);
+    fill_transport(transport, offset, &layer)?;
+    *net = Some(layer);
+    Ok(())
+}
+
+/// Fills in the IPv6 packet that bytes are, and the transport layer in it. The bytes lie `offset` bytes behind the
+/// packet's start.
+#[inline(always)]
+fn fill_ipv6<'a>(
+    net: &mut Option<NetSlice<'a>>,
+    transport: &mut Option<TransportSlice<'a>>,
+    offset: usize,
+    slice: &'a [u8],
+) -> Result<(), SliceError>
+    requires { offset + length slice.now < 2 ^ 64 }
+    ensures ok { IfOk result (λ _. HoldsNet (Some only_ipv6) slice.now net.new transport.new) }
+    ensures err { IfErr result (RefusesNetPart slices offset (Some only_ipv6) slice.now) }
+{
+    let packet = match Ipv6Slice::from_slice(slice) {
+        Ok(packet) => packet,
+        Err(ipv6::SliceError::Len(error)) => return Err(SliceError::Len(error.add_offset(offset))),
+        Err(ipv6::SliceError::Header(error)) => return Err(SliceError::Ipv6(error)),
+        Err(ipv6::SliceError::Exts(error)) => return Err(SliceError::Ipv6Exts(error)),
+    };
+    let layer = NetSlice::Ipv6(packet);
+    fill_transport(transport, offset, &layer)?;
+    *net = Some(layer);
+    Ok(())
+}
+
+/// Fills in the IP packet of either version that bytes are, with which the packet begins, and the transport layer in
+/// it.
+#[inline(always)]
+pub(crate) fn fill_ip<'a>(
+    net: &mut Option<NetSlice<'a>>,
+    transport: &mut Option<TransportSlice<'a>>,
+    slice: &'a [u8],
+) -> Result<(), SliceError>
+    ensures ok { IfOk result (λ _. HoldsNet (Some any_ip) slice.now net.new transport.new) }
+    ensures err { IfErr result (RefusesNetPart slices 0 (Some any_ip) slice.now) }
+{
+    let packet = match IpSlice::from_slice(slice) {
+        Ok(packet) => packet,
+        Err(ip::SliceError::Len(error)) => return Err(SliceError::Len(error)),
+        Err(ip::SliceError::IpHeaders(error)) => return Err(match error {
+            ip::HeadersError::Ip(error) => SliceError::Ip(error),
+            ip::HeadersError::Ipv4Ext(error) => SliceError::Ipv4Exts(error),
+            ip::HeadersError::Ipv6Ext(error) => SliceError::Ipv6Exts(error),
+        }),
+    };
+    let layer = NetSlice::from(packet);
+    fill_transport(transport, 0, &layer)?;
+    *net = Some(layer);
+    Ok(())
+}
+
+/// Fills in the ARP packet that bytes are, in which no transport layer lies. The bytes lie `offset` bytes behind the
+/// packet's start.
+#[inline(always)]
+fn fill_arp<'a>(
+    net: &mut Option<NetSlice<'a>>,
+    transport: &mut Option<TransportSlice<'a>>,
+    offset: usize,
+    slice: &'a [u8],
+) -> Result<(), SliceError>
+    requires { offset + length slice.now < 2 ^ 64 }
+    ensures ok { IfOk result (λ _. HoldsNet (Some only_arp) slice.now net.new transport.new) }
+    ensures err { IfErr result (RefusesNetPart slices offset (Some only_arp) slice.now) }
+{
+    match ArpPacketSlice::from_slice(slice) {
+        Ok(packet) => {
+            *net = Some(NetSlice::Arp(packet));
+            *transport = None;
+            Ok(())
+        }
+        Err(error) => Err(SliceError::Len(error.add_offset(offset))),
+    }
+}
+
+/// Fills in the transport layer in the payload of a net layer, where it has one. The net layer begins `offset` bytes
+/// behind the packet's start.
+#[inline(always)]
+fn fill_transport<'a>(
+    transport: &mut Option<TransportSlice<'a>>,
+    offset: usize,
+    net: &NetSlice<'a>,
+) -> Result<(), SliceError>
+    requires place { offset + length (net_slice_bytes net.now) < 2 ^ 64 }
+    requires headers { HasHeaders net.now }
+    ensures ok { IfOk result (λ _. IsTransportBehind slices (net_payload (net_layer_of net.now))
+        (option_map transport_layer_of transport.new)) }
+    ensures bytes { IfOk result (λ _. ShowsTransport (net_slice_payload net.now) transport.new) }
+    ensures err { IfErr result (RefusesTransportBehind slices (offset + net_header_len (net_layer_of net.now))
+        (net_payload (net_layer_of net.now))) }
+{
+    match net {
+        NetSlice::Ipv4(packet) => {
+            let extensions_len = ipv4_extensions_len(&packet.extensions());
+            let headers_len = packet.header().header_len() + extensions_len;
+            fill_transport_in(transport, offset + headers_len, packet.payload())
+        }
+        NetSlice::Ipv6(packet) => {
+            let headers_len = Ipv6Header::LEN + packet.extensions().slice().len();
+            fill_transport_in(transport, offset + headers_len, packet.payload())
+        }
+        NetSlice::Arp(_) => {
+            *transport = None;
+            Ok(())
+        }
+    }
+}
+
+/// The number of bytes of the extension headers of an IPv4 packet.
+#[inline(always)]
+fn ipv4_extensions_len(extensions: &Ipv4ExtensionsSlice<'_>) -> usize
+    ensures { result ≡ length (ipv4_slice_bytes extensions.now) }
+{
+    match &extensions.auth {
+        Some(header) => header.slice().len(),
+        None => 0,
+    }
+}
+
+/// Fills in the transport layer of an IP payload, where it has one. The payload lies `offset` bytes behind the packet's
+/// start.
+#[inline(always)]
+fn fill_transport_in<'a>(
+    transport: &mut Option<TransportSlice<'a>>,
+    offset: usize,
+    payload: &IpPayloadSlice<'a>,
+) -> Result<(), SliceError>
+    requires { offset < 2 ^ 64 }
+    ensures ok { IfOk result (λ _.
+        IsTransportIn slices (ip_payload_of payload.now) (option_map transport_layer_of transport.new)) }
+    ensures bytes { IfOk result (λ _. ShowsTransport payload.now.payload.now transport.new) }
+    ensures err { IfErr result (RefusesTransportIn slices offset (ip_payload_of payload.now)) }
+{
+    match TransportSlice::from_ip_number(payload.ip_number, payload.fragmented, payload.payload) {
+        Ok(found) => {
+            *transport = found;
+            Ok(())
+        }
+        Err(tcp::HeaderSliceError::Len(error)) => {
+            Err(SliceError::Len(error.behind_header(offset, payload.len_source)))
+        }
+        Err(tcp::HeaderSliceError::Content(error)) => Err(SliceError::Tcp(error)),
+    }
+}

@@ -1,0 +1,7 @@
+use Rattle.std.proofs.Common.{take, map}
+use Rattle.slice_bench.specs.Building.{IsBuiltSum, parts_of}
+use Rattle.slice_bench.proofs.building.built.Given as goal
+
+-- what is summed so far
+abbrev pub invariant-loop-datagram : goal.invariant-loop-datagram
+invariant-loop-datagram l = IsBuiltSum (map parts_of (take l.datagram-index l.datagrams)) l.total
