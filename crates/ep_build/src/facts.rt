@@ -1,5 +1,5 @@
-//! What the types of headers say of their fields, for the proofs: each call does nothing, and its contract holds of every
-//! value.
+//! What the types of headers say of their fields, for the proofs: each call does nothing, and its contract holds of
+//! every value.
 
 ghost use Rattle.std.specs.Prelude.{◌≡◌, length};
 ghost use Rattle.ep_base.specs.Bytes.{AreBytes};

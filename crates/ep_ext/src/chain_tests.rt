@@ -10,7 +10,8 @@ use ep_base::err::ipv4_exts;
 use ep_base::err::ipv6_exts::{ExtsWalkError, HeaderError, HeaderSliceError, HeaderWriteError};
 use std::test::Fail;
 
-/// The smallest headers of the numbers 0, 60, 43, 60, 44 and 51, of which the fragment's fragments, before UDP. Then 2 bytes.
+/// The smallest headers of the numbers 0, 60, 43, 60, 44 and 51, of which the fragment's fragments, before UDP. Then 2
+/// bytes.
 const EVERY_KIND: &[u8] =
     b"\x3c\x00\x01\x04\x00\x00\x00\x00\x2b\x00\x01\x04\x00\x00\x00\x01\x3c\x00\x00\x00\x00\x00\x00\x02\x2c\x00\x01\x04\x00\x00\x00\x03\x33\x00\x00\x01\x00\x00\x00\x07\x11\x01\x00\x00\x00\x00\x00\x05\x00\x00\x00\x06\xfe\xff";
 

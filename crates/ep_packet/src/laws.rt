@@ -69,8 +69,8 @@ pub fn constants()
 {}
 
 /// Entries and errors are equal where they are the same, and payloads where they are of one kind and show the same.
-/// Headers, slices and packets are equal where each of their parts is, by the equality of the part. The order of payloads
-/// goes by their kinds as declared, and within a kind by what they are made of.
+/// Headers, slices and packets are equal where each of their parts is, by the equality of the part. The order of
+/// payloads goes by their kinds as declared, and within a kind by what they are made of.
 pub fn comparisons()
     ensures entries { (a b : Entry) → IsTrue (⟦<Entry as PartialEq>⟧.eq a b) ↔ (a ≡ b) }
     ensures slice_errors { (a b : SliceError) → IsTrue (⟦<SliceError as PartialEq>⟧.eq a b) ↔ (a ≡ b) }

@@ -9,7 +9,8 @@ pub enum PayloadSlice<'a> {
     Empty,
     /// The payload of a link layer or of a link extension, with its type.
     Ether(EtherPayloadSlice<'a>),
-    /// The payload of a MACsec tag that is changed or encrypted, so that nothing is known of its type.
+    /// The payload of a MACsec tag that is changed or encrypted, so that nothing is known of its type; or that of a
+    /// cooked capture whose protocol is no ether type.
     MacsecMod(&'a [u8]),
     /// The payload of an IP packet, with its protocol number.
     Ip(IpPayloadSlice<'a>),

@@ -241,7 +241,8 @@ impl<'a> SlicedPacket<'a> {
     fn fill_behind(&mut self, part: LinkPart<'a>) -> Result<(), SliceError>
         requires place { part.offset + length part.slice.now < 2 ^ 64 }
         requires empty { self.old.link_exts.items ≡ [] }
-        ensures ok { IfOk result (λ _. HoldsBehind part.entry.link part.entry.ether_type part.entry.slice.now self.new) }
+        ensures ok { IfOk result (λ _.
+            HoldsBehind part.entry.link part.entry.ether_type part.entry.slice.now self.new) }
         ensures err { IfErr result
             (RefusesInside slices most_link_exts part.entry.offset part.entry.ether_type part.entry.slice.now) }
     {
@@ -267,8 +268,8 @@ impl<'a> SlicedPacket<'a> {
         Some(self.ether_payload()?.ether_type)
     }
 
-    /// The bytes behind the link layer and its extensions, if their type is known, whether or not a layer in them is read.
-    /// Behind extensions, the short length of a MACsec tag among them set the end, or else the slice's end did.
+    /// The bytes behind the link layer and its extensions, if their type is known, whether or not a layer in them is
+    /// read. Behind extensions, the short length of a MACsec tag among them set the end, or else the slice's end did.
     pub fn ether_payload(&self) -> Option<EtherPayloadSlice<'a>>
         ensures { option_map ether_payload_of result ≡ ether_payload_in (layers_of self.now) }
     {

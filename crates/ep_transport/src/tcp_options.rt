@@ -85,9 +85,9 @@ impl TcpOptions {
         Ok(TcpOptions::copy_of(slice))
     }
 
-    /// The bytes of the options, which are at most 40, filled up by zero bytes to words of 4. Their number is told up to
-    /// the greatest `usize`; no slice that lies in memory has more. Each option fits its bytes, so what is written is
-    /// read back (`laws::tcp_options_read_back`).
+    /// The bytes of the options, which are at most 40, filled up by zero bytes to words of 4. Their number is told up
+    /// to the greatest `usize`; no slice that lies in memory has more. Each option fits its bytes, so what is written
+    /// is read back (`laws::tcp_options_read_back`).
     pub fn try_from_elements(
         elements: &[TcpOptionElement],
     ) -> Result<TcpOptions, TcpOptionWriteError>

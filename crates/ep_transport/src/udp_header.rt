@@ -95,7 +95,8 @@ impl UdpHeader {
         buf.extend_from_slice(&self.to_bytes())
     }
 
-    /// The checksum behind this IPv4 header, whatever checksum the header holds. A payload above 65527 bytes is refused.
+    /// The checksum behind this IPv4 header, whatever checksum the header holds. A payload above 65527 bytes is
+    /// refused.
     pub fn calc_checksum_ipv4(
         &self,
         ip_header: &Ipv4Header,

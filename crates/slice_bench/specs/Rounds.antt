@@ -5,7 +5,7 @@ use Rattle.slice_bench.specs.Reassembly.{IsHandedOut}
 use Rattle.slice_bench.specs.Sums.{IsTotal, GivesSliced, GivesDecoded, GivesIpv4, GivesIpHeaders}
 use Rattle.slice_bench.specs.declared.measure.Corpus.{Corpus}
 use Rattle.slice_bench.specs.declared.measure.Measurement.{Measurement}
-use Rattle.slice_bench.specs.declared.measure.Measurement.TheVariants.{Slicing, Filling, Decoding, Rereading}
+use Rattle.slice_bench.specs.declared.measure.Measurement.TheVariants.{Slicing, SlicingApart, Filling, Decoding, Rereading}
 use Rattle.slice_bench.specs.declared.measure.Measurement.TheVariants.{SlicingIpv4, ReadingIpHeaders, Building, Reassembly}
 
 -- the frames of a corpus
@@ -23,6 +23,7 @@ datagrams_in corpus = map parts_of corpus.datagrams.items
 -- this is summed in a round over a corpus
 abbrev pub IsRoundSum : Measurement → Corpus → ℕ → Type 0
 IsRoundSum Slicing corpus sum = IsTotal GivesSliced (frames_in corpus) sum
+IsRoundSum SlicingApart corpus sum = IsTotal GivesSliced (frames_in corpus) sum
 IsRoundSum Filling corpus sum = IsTotal GivesSliced (frames_in corpus) sum
 IsRoundSum Decoding corpus sum = IsTotal GivesDecoded (frames_in corpus) sum
 IsRoundSum Rereading corpus sum = IsTotal GivesDecoded (frames_in corpus) sum
@@ -34,6 +35,7 @@ IsRoundSum Reassembly corpus sum = IsHandedOut (frames_in corpus) sum
 -- what a measurement is called
 abbrev pub measurement_name : Measurement → List ℕ
 measurement_name Slicing = codes "slicing"
+measurement_name SlicingApart = codes "slicing-apart"
 measurement_name Filling = codes "filling"
 measurement_name Decoding = codes "decoding"
 measurement_name Rereading = codes "rereading"
@@ -45,6 +47,7 @@ measurement_name Reassembly = codes "reassembly"
 -- over how many a round goes
 abbrev pub round_count : Measurement → Corpus → ℕ
 round_count Slicing corpus = length corpus.frames.items
+round_count SlicingApart corpus = length corpus.frames.items
 round_count Filling corpus = length corpus.frames.items
 round_count Decoding corpus = length corpus.frames.items
 round_count Rereading corpus = length corpus.frames.items

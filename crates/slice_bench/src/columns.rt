@@ -1,9 +1,12 @@
 //! What is done with a frame, and what is summed of it.
 
-ghost use Rattle.std.specs.Prelude.{◌≡◌, ◌+◌, ℕ, List, map};
+ghost use Rattle.std.specs.Prelude.{◌≡◌, ◌+◌, ℕ, List, map, IfOk, IfErr};
 ghost use Rattle.std.specs.Option.{option_and_then, option_map};
 ghost use Rattle.ep_link.specs.LinkSlices.{link_header_of, link_layer_of};
+ghost use Rattle.ep_packet.specs.Frame.{IsFrame};
+ghost use Rattle.ep_packet.specs.Refusals.{RefusesFrame};
 ghost use Rattle.ep_packet.specs.Layers.{layers_of, net_layer_of};
+ghost use Rattle.ep_packet.specs.declared.entry.Entry.TheVariants.{Ethernet as ethernet};
 ghost use Rattle.ep_packet.specs.PacketHeaders.{headers_of, net_header_in, net_header_of, transport_header_in};
 ghost use Rattle.ep_transport.specs.TransportParts.{transport_layer_of};
 ghost use Rattle.slice_bench.specs.Sums.{GivesDecoded, GivesIpHeaders, GivesIpv4, GivesSliced, IsTotal};
@@ -11,6 +14,7 @@ ghost use Rattle.slice_bench.specs.Sums.{headers_sum, kept_sum, layers_sum, link
 
 use ep_ip::Ipv4Slice;
 use ep_link::{LinkHeader, LinkSlice};
+use ep_packet::err::SliceError;
 use ep_packet::{Entry, IpHeaders, NetHeaders, NetSlice, PacketHeaders, SlicedPacket};
 use ep_transport::{TransportHeader, TransportSlice};
 
@@ -55,6 +59,34 @@ impl<'a> Column<'a> for Slicing {
             Err(_) => 0,
         }
     }
+}
+
+/// `SlicedPacket::from_ethernet` in a call that is not inlined.
+#[derive(Drop)]
+pub struct SlicingApart;
+
+impl<'a> Column<'a> for SlicingApart {
+    ghost gives = { GivesSliced };
+
+    fn new() -> SlicingApart {
+        SlicingApart
+    }
+
+    fn number(&mut self, bytes: &'a [u8]) -> u64 {
+        match sliced_apart(bytes) {
+            Ok(packet) => layers_number(&packet),
+            Err(_) => 0,
+        }
+    }
+}
+
+/// The packet, by value.
+#[inline(never)]
+fn sliced_apart(bytes: &[u8]) -> Result<SlicedPacket<'_>, SliceError>
+    ensures ok { IfOk result (λ packet. IsFrame ethernet bytes.now (layers_of packet)) }
+    ensures err { IfErr result (RefusesFrame ethernet bytes.now) }
+{
+    SlicedPacket::from_ethernet(bytes)
 }
 
 /// `SlicedPacket::slice_into`, with one packet that is reused.

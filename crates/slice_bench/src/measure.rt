@@ -5,7 +5,9 @@ ghost use Rattle.slice_bench.specs.Rounds.{IsRoundSum, measurement_name, round_c
 
 use crate::bench_error::BenchError;
 use crate::building::{Datagram, built};
-use crate::columns::{Decoding, Filling, ReadingIpHeaders, Rereading, Slicing, SlicingIpv4, total};
+use crate::columns::{
+    Decoding, Filling, ReadingIpHeaders, Rereading, Slicing, SlicingApart, SlicingIpv4, total,
+};
 use crate::reassembly::handed_out;
 use std::alloc::Global;
 use std::rt::Clock;
@@ -27,6 +29,8 @@ pub struct Corpus<'a> {
 pub enum Measurement {
     /// A frame is sliced.
     Slicing,
+    /// A frame is sliced by a call that is not inlined.
+    SlicingApart,
     /// A frame is sliced into one packet that is reused.
     Filling,
     /// The headers of a frame are decoded.
@@ -37,7 +41,8 @@ pub enum Measurement {
     SlicingIpv4,
     /// The headers of an IP packet are read.
     ReadingIpHeaders,
-    /// A frame of Ethernet II, IPv4 and UDP is built from addresses, ports and payload, and else the builder's defaults.
+    /// A frame of Ethernet II, IPv4 and UDP is built from addresses, ports and payload, and else the builder's
+    /// defaults.
     Building,
     /// A frame is sliced and given to a pool, which is new in each round.
     Reassembly,
@@ -45,8 +50,9 @@ pub enum Measurement {
 
 impl Measurement {
     /// Each of them, in the order in which they are made.
-    pub const ALL: [Measurement; 8] = [
+    pub const ALL: [Measurement; 9] = [
         Measurement::Slicing,
+        Measurement::SlicingApart,
         Measurement::Filling,
         Measurement::Decoding,
         Measurement::Rereading,
@@ -62,6 +68,7 @@ impl Measurement {
     {
         match self {
             Measurement::Slicing => "slicing",
+            Measurement::SlicingApart => "slicing-apart",
             Measurement::Filling => "filling",
             Measurement::Decoding => "decoding",
             Measurement::Rereading => "rereading",
@@ -78,6 +85,7 @@ impl Measurement {
     {
         match self {
             Measurement::Slicing
+            | Measurement::SlicingApart
             | Measurement::Filling
             | Measurement::Decoding
             | Measurement::Rereading
@@ -93,6 +101,7 @@ impl Measurement {
     {
         match self {
             Measurement::Slicing => Ok(total::<Slicing>(corpus.frames.as_slice())),
+            Measurement::SlicingApart => Ok(total::<SlicingApart>(corpus.frames.as_slice())),
             Measurement::Filling => Ok(total::<Filling>(corpus.frames.as_slice())),
             Measurement::Decoding => Ok(total::<Decoding>(corpus.frames.as_slice())),
             Measurement::Rereading => Ok(total::<Rereading>(corpus.frames.as_slice())),

@@ -58,9 +58,10 @@ const DATAGRAM: &[u8] = b"\x07\x08\x09\x0a\x0b\x0c\x01\x02\x03\x04\x05\x06\x08\x
 const CUT: &[u8] = b"\x07\x08\x09\x0a\x0b\x0c\x01\x02\x03\x04\x05\x06\x08\x00\x45";
 
 /// What is summed of them: the ether type, the protocol and the total length, the ports, and the payload's length.
-const SUMS: [(Measurement, u64); 8] = [
+const SUMS: [(Measurement, u64); 9] = [
     // Twice 2048, 17, 28 and 8, and then 2048, 17, 36, 21, 1234 and 8.
     (Measurement::Slicing, 7566),
+    (Measurement::SlicingApart, 7566),
     (Measurement::Filling, 7566),
     (Measurement::Decoding, 7566),
     (Measurement::Rereading, 7566),

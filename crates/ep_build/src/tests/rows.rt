@@ -374,8 +374,8 @@ fn extension_headers(rt: HostRuntime) -> Result<(), Fail> {
     Ok(())
 }
 
-/// What a frame carries of a longer payload that is cut: the offset in units of 8 bytes, whether more follows, the bytes,
-/// and the frame of them over IPv4.
+/// What a frame carries of a longer payload that is cut: the offset in units of 8 bytes, whether more follows, the
+/// bytes, and the frame of them over IPv4.
 const FRAGMENTS: [(u16, bool, &[u8], &[u8]); 2] = [
     (
         0,

@@ -1,4 +1,5 @@
-//! What the comparisons and clones of headers and slices look at, each law the contract of a function that does nothing.
+//! What the comparisons and clones of headers and slices look at, each law the contract of a function that does
+//! nothing.
 
 ghost use Rattle.std.specs.Prelude.{◌≡◌, ◌↔◌, IsTrue};
 ghost use Rattle.ep_base.specs.Comparisons.{TellsSame, ClonesExactly};

@@ -409,7 +409,8 @@ fn has_second_kind(sliced: &SlicedPacket<'_>) -> bool {
     }
 }
 
-/// Whether bytes that are sliced are decoded too, with the same headers, unless a kind of extension header stands twice.
+/// Whether bytes that are sliced are decoded too, with the same headers, unless a kind of extension header stands
+/// twice.
 fn parsers_agree(ether_type: EtherType, bytes: &[u8]) -> bool {
     let Ok(sliced) = SlicedPacket::from_ether_type(ether_type, bytes) else {
         return true;

@@ -46,8 +46,8 @@ pub fn read_back()
         → IsIcmpv6 (icmpv6_bytes header ++ payload) (parts_of header payload []) }
 {}
 
-/// A message with its checksum filled in sums to 65535, by which a receiver tests it; that of ICMPv6 with whatever bytes
-/// stand in front of it as pseudo header.
+/// A message with its checksum filled in sums to 65535, by which a receiver tests it; that of ICMPv6 with whatever
+/// bytes stand in front of it as pseudo header.
 pub fn checksums()
     ensures icmpv4 { (header : Icmpv4Header) (payload : List ℕ)
         → ones_sum (icmpv4_bytes (record header { checksum = checksum_of (icmpv4_message header payload) })

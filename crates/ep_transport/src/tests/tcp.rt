@@ -13,8 +13,8 @@ use std::test::Fail;
 const SEGMENT: &[u8] =
     b"\x00\x45\x00\x2a\x24\x90\x04\x48\x00\x00\x00\x00\x91\xff\x36\x53\x00\x00\xe2\x6e\x01\x01\x01\x01\x08\x0a\x04\x16\x10\x08\x84\x16\x17\x08\x00\x00\x01\x02\x03\x04\x05\x06\x07\x08\x09";
 
-/// A header without options: ports 21 and 12, sequence number 12345, window 4000, with its checksum for the payload 1 to
-/// 8 from 192.168.1.1 to 192.168.1.2.
+/// A header without options: ports 21 and 12, sequence number 12345, window 4000, with its checksum for the payload 1
+/// to 8 from 192.168.1.1 to 192.168.1.2.
 const PLAIN: &[u8] =
     b"\x00\x15\x00\x0c\x00\x00\x30\x39\x00\x00\x00\x00\x50\x00\x0f\xa0\xdc\x7a\x00\x00";
 
