@@ -19,7 +19,8 @@ use Rattle.ep_link.specs.declared.link_ext.vlan_header.VlanHeader.TheVariants as
 use Rattle.ep_build.specs.BuiltFrames.{as_ether_type, built_frame, built_size, held_arp, held_ip, held_transport}
 use Rattle.ep_build.specs.BuiltFrames.{inside_type, ip_frame, ip_packet, link_before, link_part_bytes, link_part_len}
 use Rattle.ep_build.specs.BuiltFrames.{transport_between, transport_number}
-use Rattle.ep_build.specs.Fits.{FitsIpHeader, FitsLink}
+use Rattle.ep_build.specs.Fits.{FitsLink}
+use Rattle.ep_packet.specs.IpHeaders.{FitsIpHeader}
 use Rattle.ep_build.specs.declared.link_part.LinkPart.{LinkPart}
 use Rattle.ep_build.specs.declared.link_part.LinkPart.TheVariants as link
 use Rattle.ep_build.proofs.LengthLemmas.{linked_len}

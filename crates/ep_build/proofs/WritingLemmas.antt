@@ -40,7 +40,8 @@ use Rattle.ep_build.specs.BuiltFrames.{with_checksum_behind, with_length}
 use Rattle.ep_build.specs.declared.err.build_write_error.BuildWriteError.{BuildWriteError}
 use Rattle.ep_build.specs.declared.err.build_write_error.BuildWriteError.TheVariants as error
 use Rattle.ep_build.specs.declared.link_part.LinkPart.{LinkPart}
-use Rattle.ep_build.specs.Fits.{FitsIpHeader, FitsLink, FitsTransport}
+use Rattle.ep_build.specs.Fits.{FitsLink, FitsTransport}
+use Rattle.ep_packet.specs.IpHeaders.{FitsIpHeader}
 use Rattle.ep_build.specs.ReadBack.{IsReadBack, message_of}
 use Rattle.ep_build.proofs.LengthLemmas.{between_len, linked_len, with_checksum_len, with_length_len}
 use Rattle.ep_build.proofs.SizeLemmas.{headers_len}

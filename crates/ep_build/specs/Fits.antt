@@ -1,15 +1,11 @@
 -- Each field of the headers of a frame fits its place, as the types of the code say.
 use Rattle.std.specs.Prelude.{◌≡◌, ◌<◌, ◌^◌, length}
 use Rattle.ep_base.specs.Bytes.{AreBytes}
-use Rattle.ep_ip.specs.Ipv4.{FitsIpv4}
-use Rattle.ep_ip.specs.Ipv6.{FitsIpv6}
 use Rattle.ep_link.specs.Ethernet2.{FitsEthernet2}
 use Rattle.ep_link.specs.Vlan.{FitsVlan}
 use Rattle.ep_link.specs.declared.link.linux_sll_header.LinuxSllHeader.{LinuxSllHeader}
 use Rattle.ep_link.specs.declared.link_ext.vlan_header.VlanHeader.{VlanHeader}
 use Rattle.ep_link.specs.declared.link_ext.vlan_header.VlanHeader.TheVariants as tags
-use Rattle.ep_packet.specs.declared.ip_headers.IpHeaders.{IpHeaders}
-use Rattle.ep_packet.specs.declared.ip_headers.IpHeaders.TheVariants as version
 use Rattle.ep_transport.specs.Icmpv4.{icmpv4_bytes, icmpv4_kind, icmpv4_len}
 use Rattle.ep_transport.specs.Icmpv6.{icmpv6_bytes}
 use Rattle.ep_transport.specs.Tcp.{FitsTcp}
@@ -37,11 +33,6 @@ FitsLink link.Absent = Unit {0}
 FitsLink (link.Ethernet2 header) = FitsEthernet2 header
 FitsLink (link.Tagged header both) = FitsEthernet2 header × FitTags both
 FitsLink (link.LinuxSll header) = FitsCooked header
-
--- the header of IP, without the extension headers
-abbrev pub FitsIpHeader : IpHeaders → Type 0
-FitsIpHeader (version.Ipv4 header extensions) = FitsIpv4 header
-FitsIpHeader (version.Ipv6 header extensions) = FitsIpv6 header
 
 -- a transport header; of ICMP that it has its length, since any bytes of that length may be read
 abbrev pub FitsTransport : TransportHeader → Type 0

@@ -11,7 +11,8 @@ ghost use Rattle.ep_transport.specs.Icmpv4.{icmpv4_bytes, icmpv4_kind, icmpv4_le
 ghost use Rattle.ep_transport.specs.Icmpv6.{icmpv6_bytes};
 ghost use Rattle.ep_transport.specs.Tcp.{FitsTcp};
 ghost use Rattle.ep_transport.specs.Udp.{FitsUdp};
-ghost use Rattle.ep_build.specs.Fits.{FitTags, FitsCooked, FitsIpHeader, FitsLink, FitsTransport};
+ghost use Rattle.ep_build.specs.Fits.{FitTags, FitsCooked, FitsLink, FitsTransport};
+ghost use Rattle.ep_packet.specs.IpHeaders.{FitsIpHeader};
 
 use crate::link_part::LinkPart;
 use ep_ip::{Ipv4Header, Ipv6Header};

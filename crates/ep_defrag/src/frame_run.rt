@@ -7,8 +7,8 @@ ghost use Rattle.ep_packet.specs.Layers.{layers_of};
 ghost use Rattle.ep_packet.specs.Frame.{IsFrame};
 ghost use Rattle.ep_packet.specs.Refusals.{RefusesFrame};
 ghost use Rattle.ep_defrag.specs.Cuts.{IsCut};
-ghost use Rattle.ep_defrag.specs.Calls.{Call, Kept, table_after, table_with, accepted_at};
-ghost use Rattle.ep_defrag.specs.Pools.{HoldsTable, IsDecidedBy, plain_call};
+ghost use Rattle.ep_defrag.specs.Calls.{Call, Kept, table_after, accepted_at};
+ghost use Rattle.ep_defrag.specs.Pools.{HoldsTable, IsDecidedBy};
 ghost use Rattle.ep_defrag.specs.FrameCalls.{ReadCall, calls_pool, IsReadAs, IsOnlyRead, AreReadAs, AreRead, pool_calls, read_answer_to, frame_answers_to, IfPoolHandsOut, FrameCallMayNeedMemory, read_answer, frame_answer_wants_memory, table_with_read, read_of};
 
 use crate::ip_defrag_payload_vec::IpDefragPayloadVec;

@@ -26,8 +26,7 @@ pub struct Ipv4HeaderSlice<'a> {
 }
 
 impl<'a> Ipv4HeaderSlice<'a> {
-    ghost use Rattle.std.specs.Prelude.{◌≡◌, ◌*◌, ◌++◌, IfOk, IfErr, IsOkAnd, List, ℕ, slice_index};
-    ghost use Rattle.ep_base.specs.Bytes.{word_at};
+    ghost use Rattle.std.specs.Prelude.{◌≡◌, ◌*◌, ◌++◌, IfOk, IfErr, IsOkAnd, List, ℕ};
     ghost use Rattle.ep_ip.specs.declared.ipv4_header.Ipv4Header.{Ipv4Header};
     ghost use Rattle.ep_ip.specs.Ipv4.{IsIpv4Header, RefusesIpv4Header, ipv4_header_len, is_ipv4_fragment, ihl_of};
     ghost use Rattle.ep_ip.specs.Ipv4Slices.{ipv4_header_slice_bytes, ipv4_header_slice_header};

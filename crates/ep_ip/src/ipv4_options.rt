@@ -1,7 +1,6 @@
 //! The options of an IPv4 header (RFC 791, 3.1).
 
 ghost use Rattle.std.specs.Prelude.{◌≡◌, ◌<◌, ◌≤◌, ◌%◌, ◌⊎◌, [], length, MatchResult};
-ghost use Rattle.ep_base.specs.Bytes.{AreBytes};
 
 use std::marker::Model;
 use thiserror::Error;
@@ -16,7 +15,7 @@ pub struct Ipv4Options {
 }
 
 impl Model for Ipv4Options {
-    ghost use Rattle.std.specs.Prelude.{◌≡◌, ℕ, ◌-◌, ◌≤◌, ◌%◌, List, ◌++◌, length, take, drop, replicate};
+    ghost use Rattle.std.specs.Prelude.{◌≡◌, ℕ, ◌-◌, ◌≤◌, ◌%◌, List, length, take, drop, replicate};
     ghost use Rattle.ep_base.specs.Padding.{padded, padded_front};
     ghost use Rattle.std.proofs.Common.{arith, length-take-le};
 

@@ -22,7 +22,6 @@ impl<'a> Ipv6Slice<'a> {
     ghost use Rattle.ep_base.specs.Layer.{slices};
     ghost use Rattle.ep_base.specs.IpPayload.{ip_payload_of};
     ghost use Rattle.ep_ext.specs.Ipv6Slices.{ipv6_slice_parts as extension_parts, ipv6_slice_bytes as extension_bytes};
-    ghost use Rattle.ep_ext.specs.Ipv6Slices.{ipv6_slice_number as extension_number};
     ghost use Rattle.ep_ip.specs.declared.ipv6_header.Ipv6Header.{Ipv6Header};
     ghost use Rattle.ep_ip.specs.IpPackets.{IpPacket, IsIpv6, RefusesIpv6};
     ghost use Rattle.ep_ip.specs.Ipv6Slices.{ipv6_slice_bytes, ipv6_slice_header, ipv6_slice_extensions};

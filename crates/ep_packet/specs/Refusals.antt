@@ -1,6 +1,6 @@
 -- Why bytes are no frame: some layers stand, and the bytes of the next one meet a row of its refusal table.
 use Rattle.std.specs.Prelude.{ℕ, zero, suc, ◌+◌, ◌⊎◌, List, Option, Some, None}
-use Rattle.ep_base.specs.Layer.{Reading, slices, cut_by}
+use Rattle.ep_base.specs.Layer.{Reading, slices, behind_header}
 use Rattle.ep_base.specs.Tables.{Parts, RefusesAs}
 use Rattle.ep_base.specs.declared.ether_type.EtherType.{EtherType}
 use Rattle.ep_base.specs.declared.err.len_error.LenError.{LenError}
@@ -79,8 +79,7 @@ ip_refusal offset (ip_error.IpHeaders error) = ip_content_refusal error
 
 -- a refusal of the transport layer, in a payload whose end this set and that lies `offset` bytes behind the frame's start
 abbrev pub transport_refusal : ℕ → LenSource → TransportError → SliceError
-transport_refusal offset source (transport_error.Len error) =
-    Len (record (further_behind offset error) { len_source = cut_by source error.len_source })
+transport_refusal offset source (transport_error.Len error) = Len (behind_header offset source error)
 transport_refusal offset source (transport_error.Content error) = Tcp error
 
 -- why the payload of an IP packet has no transport layer where it must have one

@@ -2,8 +2,7 @@
 //! same version is written only where headers stand or stood. Other room, and that of a packet of IPv6 with extension
 //! headers, is written as a whole.
 
-ghost use Rattle.std.specs.Prelude.{◌≡◌, IfOk, IfErr, List, ℕ, length, Some};
-ghost use Rattle.std.specs.Option.{option_map};
+ghost use Rattle.std.specs.Prelude.{◌≡◌, IfOk, IfErr, List, ℕ, Some};
 ghost use Rattle.ep_base.specs.IpPayload.{ip_payload_of};
 ghost use Rattle.ep_base.specs.Layer.{headers};
 ghost use Rattle.ep_base.specs.Tables.{RefusesAs};

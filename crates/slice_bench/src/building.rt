@@ -1,6 +1,6 @@
 //! Building frames anew from their headers.
 
-ghost use Rattle.std.specs.Prelude.{◌≡◌, ◌≢◌, ◌++◌, ◌<◌, ◌^◌, map, length, slice_index, IfErr, IfOk, OnOk};
+ghost use Rattle.std.specs.Prelude.{◌≡◌, ◌++◌, ◌<◌, ◌^◌, map, length, slice_index, IfErr, IfOk, OnOk};
 ghost use Rattle.std.specs.Option.{option_map};
 ghost use Rattle.ep_link.specs.LinkSlices.{link_layer_of};
 ghost use Rattle.ep_packet.specs.Layers.{layers_of, net_layer_of};
