@@ -166,4 +166,5 @@ def main(arguments):
     write(folder, "interleaved", (frame for turn in zip(*streams) for frame in turn))
 
 
-main(sys.argv[1:])
+if __name__ == "__main__":
+    main(sys.argv[1:])

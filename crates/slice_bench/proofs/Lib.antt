@@ -2,4 +2,3 @@ mod FileLemmas
 mod SumLemmas
 mod FrameLists
 mod HandedOut
-mod BuildingLemmas

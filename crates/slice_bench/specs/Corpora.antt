@@ -27,7 +27,7 @@ HasIpPacket bytes packet =
     ((layers : Layers) × IsFrame ethernet bytes layers × (packet ≡ ip_bytes_in layers))
     ⊎ ((error : SliceError) × RefusesFrame ethernet bytes error × (packet ≡ None))
 
--- these are the IP packets of some frames, in order
-abbrev pub AreIpPackets : List (List ℕ) → List (List ℕ) → Type 0
-AreIpPackets frames packets =
-    (found : List (Option (List ℕ))) × AllZip HasIpPacket frames found × (packets ≡ filter_map (λ packet. packet) found)
+-- what some frames have, in order, where a frame has one or none
+abbrev pub AreFound : {A : Type 0} → (List ℕ → Option A → Type 0) → List (List ℕ) → List A → Type 0
+AreFound {A} Has frames items =
+    (found : List (Option A)) × AllZip Has frames found × (items ≡ filter_map (λ one. one) found)

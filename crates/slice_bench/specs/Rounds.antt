@@ -1,6 +1,6 @@
 -- What each measurement is called, over how many a round of it goes, and what is summed in a round.
 use Rattle.std.specs.Prelude.{ℕ, List, codes, length, map}
-use Rattle.slice_bench.specs.Building.{IsBuiltSum, DatagramParts, parts_of}
+use Rattle.slice_bench.specs.Building.{IsBuiltSum, Parts, parts_of}
 use Rattle.slice_bench.specs.Reassembly.{IsHandedOut}
 use Rattle.slice_bench.specs.Sums.{IsTotal, GivesSliced, GivesDecoded, GivesIpv4, GivesIpHeaders}
 use Rattle.slice_bench.specs.declared.measure.Corpus.{Corpus}
@@ -17,8 +17,8 @@ abbrev pub ip_packets_in : Corpus → List (List ℕ)
 ip_packets_in corpus = map (λ packet. packet.now) corpus.ip_packets.items
 
 -- what its frames are built from
-abbrev pub datagrams_in : Corpus → List DatagramParts
-datagrams_in corpus = map parts_of corpus.datagrams.items
+abbrev pub frame_parts_in : Corpus → List Parts
+frame_parts_in corpus = map parts_of corpus.frame_parts.items
 
 -- this is summed in a round over a corpus
 abbrev pub IsRoundSum : Measurement → Corpus → ℕ → Type 0
@@ -29,7 +29,7 @@ IsRoundSum Decoding corpus sum = IsTotal GivesDecoded (frames_in corpus) sum
 IsRoundSum Rereading corpus sum = IsTotal GivesDecoded (frames_in corpus) sum
 IsRoundSum SlicingIpv4 corpus sum = IsTotal GivesIpv4 (ip_packets_in corpus) sum
 IsRoundSum ReadingIpHeaders corpus sum = IsTotal GivesIpHeaders (ip_packets_in corpus) sum
-IsRoundSum Building corpus sum = IsBuiltSum (datagrams_in corpus) sum
+IsRoundSum Building corpus sum = IsBuiltSum (frame_parts_in corpus) sum
 IsRoundSum Reassembly corpus sum = IsHandedOut (frames_in corpus) sum
 
 -- what a measurement is called
@@ -53,5 +53,5 @@ round_count Decoding corpus = length corpus.frames.items
 round_count Rereading corpus = length corpus.frames.items
 round_count SlicingIpv4 corpus = length corpus.ip_packets.items
 round_count ReadingIpHeaders corpus = length corpus.ip_packets.items
-round_count Building corpus = length corpus.datagrams.items
+round_count Building corpus = length corpus.frame_parts.items
 round_count Reassembly corpus = length corpus.frames.items

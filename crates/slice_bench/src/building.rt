@@ -1,129 +1,189 @@
 //! Building frames anew from their headers.
 
-ghost use Rattle.std.specs.Prelude.{◌≡◌, ◌++◌, ◌<◌, ◌^◌, map, length, slice_index, IfErr, IfOk, OnOk};
+ghost use Rattle.std.specs.Prelude.{◌≡◌, ◌<◌, ◌^◌, map, slice_index, Some, IfOk};
 ghost use Rattle.std.specs.Option.{option_map};
-ghost use Rattle.ep_link.specs.LinkSlices.{link_layer_of};
-ghost use Rattle.ep_packet.specs.Layers.{layers_of, net_layer_of};
-ghost use Rattle.ep_transport.specs.TransportParts.{transport_layer_of};
-ghost use Rattle.ep_build.specs.BuildErrors.{IsBuildable, IsBuildError};
-ghost use Rattle.ep_build.specs.BuiltFrames.{built_frame};
-ghost use Rattle.slice_bench.specs.Building.{AreDatagrams, GivesBuilt, HasParts, IsBuiltSum, ethernet2_in, held_of};
-ghost use Rattle.slice_bench.specs.Building.{ipv4_in, parts_in, parts_of, udp_in, word_at, built_sum};
+ghost use Rattle.ep_packet.specs.PacketHeaders.{headers_of, ip_headers, net_header_of};
+ghost use Rattle.ep_packet.specs.PayloadParts.{payload_part_of};
+ghost use Rattle.ep_build.specs.Steps.{ip_link, ip_step_headers};
+ghost use Rattle.ep_build.specs.declared.link_part.LinkPart.{LinkPart};
+ghost use Rattle.slice_bench.specs.Building.{AppendsBuilt, GivesBuilt, HasParts, IsBuiltSum, behind_parts, built_sum};
+ghost use Rattle.slice_bench.specs.Building.{ethernet2_in, link_with, net_parts_in, parts_in, parts_of, parts_with};
+ghost use Rattle.slice_bench.specs.Building.{tags_in, word_at};
+ghost use Rattle.slice_bench.specs.Corpora.{AreFound};
 ghost use Rattle.slice_bench.specs.Sums.{kept_sum};
 
 use crate::bench_error::BenchError;
-use ep_build::PacketBuilder;
+use ep_base::IpNumber;
 use ep_build::err::BuildWriteError;
-use ep_ip::Ipv4Header;
-use ep_link::{Ethernet2Header, LinkSlice};
-use ep_packet::{NetSlice, SlicedPacket};
-use ep_transport::{TransportSlice, UdpHeader};
+use ep_build::{PacketBuilder, PacketBuilderStep};
+use ep_ext::{Ipv4Extensions, Ipv6Extensions};
+use ep_ip::{Ipv4Header, Ipv6Header};
+use ep_link::{
+    ArpPacket, DoubleVlanHeader, Ethernet2Header, LinkExtHeader, LinkHeader, VlanHeader,
+};
+use ep_packet::{IpHeaders, NetHeaders, PacketHeaders, PayloadSlice};
+use ep_transport::TransportHeader;
 use std::alloc::Global;
 
-/// The headers and the payload of a frame of Ethernet II, IPv4 and UDP.
+/// What a frame is built from.
 #[derive(Drop)]
-pub struct Datagram<'a> {
+pub struct FrameParts<'a> {
     /// The Ethernet II header, of which the addresses are used.
     pub link: Ethernet2Header,
-    /// The IPv4 header, of which the addresses and the number of hops are used.
-    pub net: Ipv4Header,
-    /// The UDP header, of which the ports are used.
-    pub transport: UdpHeader,
-    /// What stands behind it.
-    pub payload: &'a [u8],
+    /// The VLAN tags behind it.
+    pub tags: Option<VlanHeader>,
+    /// What stands behind them.
+    pub inside: Inside<'a>,
 }
 
-/// What frames are built from anew, each where its frame is of Ethernet II, IPv4 and UDP.
-pub fn datagrams_of<'a>(alloc: Global, frames: &[&'a [u8]]) -> Result<Vec<Datagram<'a>>, BenchError>
-    ensures { IfOk result (λ datagrams.
-        AreDatagrams (map (λ frame. frame.now) frames.now) (map parts_of datagrams.items)) }
+/// What a frame is built from behind its link header and its tags.
+#[derive(Drop)]
+pub enum Inside<'a> {
+    /// The headers of IPv4, and what stands behind them.
+    Ipv4(Ipv4Header, Ipv4Extensions, Behind<'a>),
+    /// Those of IPv6.
+    Ipv6(Ipv6Header, Ipv6Extensions, Behind<'a>),
+    /// An ARP packet.
+    Arp(ArpPacket),
+}
+
+/// What a frame is built from behind its IP headers.
+#[derive(Drop)]
+pub enum Behind<'a> {
+    /// A payload of this number.
+    Payload(IpNumber, &'a [u8]),
+    /// A transport header and its payload.
+    Transport(TransportHeader, &'a [u8]),
+}
+
+/// What frames are built from anew, each where it is decoded and the builder has a step for each of its headers.
+pub fn frame_parts_of<'a>(
+    alloc: Global,
+    frames: &[&'a [u8]],
+) -> Result<Vec<FrameParts<'a>>, BenchError>
+    ensures { IfOk result (λ all.
+        AreFound HasParts (map (λ frame. frame.now) frames.now) (map parts_of all.items)) }
 {
-    let mut datagrams = Vec::new(alloc);
+    let mut all = Vec::new(alloc);
     for frame in frames {
-        if let Some(datagram) = datagram_of(frame) {
-            let Ok(()) = datagrams.push(datagram) else {
+        if let Some(parts) = parts_of_frame(frame) {
+            let Ok(()) = all.push(parts) else {
                 return Err(BenchError::OutOfMemory);
             };
         }
     }
-    Ok(datagrams)
+    Ok(all)
 }
 
 /// What a frame is built from anew.
-fn datagram_of(frame: &[u8]) -> Option<Datagram<'_>>
+fn parts_of_frame(frame: &[u8]) -> Option<FrameParts<'_>>
     ensures { HasParts frame.now (option_map parts_of result) }
 {
-    match SlicedPacket::from_ethernet(frame) {
-        Ok(packet) => datagram_in(&packet),
+    match PacketHeaders::from_ethernet_slice(frame) {
+        Ok(packet) => parts_in(packet),
         Err(_) => None,
     }
 }
 
-/// What the layers of a packet are built from anew.
-fn datagram_in<'a>(packet: &SlicedPacket<'a>) -> Option<Datagram<'a>>
-    ensures { option_map parts_of result ≡ parts_in (layers_of packet.now) }
+/// What headers are built from.
+fn parts_in(packet: PacketHeaders<'_>) -> Option<FrameParts<'_>>
+    ensures { option_map parts_of result ≡ parts_in (headers_of packet.entry) }
 {
-    let link = ethernet2_in(&packet.link)?;
-    let net = ipv4_in(&packet.net)?;
-    let transport = udp_in(&packet.transport)?;
-    Some(Datagram {
-        link,
-        net,
-        transport,
-        payload: packet.payload(),
-    })
+    let link = ethernet2_in(packet.link)?;
+    let tags = tags_in(packet.link_exts.as_slice())?;
+    let inside = inside_of(packet.net, packet.transport, packet.payload)?;
+    Some(FrameParts { link, tags, inside })
 }
 
-/// The Ethernet II header of a link layer.
-fn ethernet2_in(link: &Option<LinkSlice<'_>>) -> Option<Ethernet2Header>
-    ensures { result ≡ ethernet2_in (option_map link_layer_of link.now) }
+/// The Ethernet II header among link headers.
+fn ethernet2_in(link: Option<LinkHeader>) -> Option<Ethernet2Header>
+    ensures { result ≡ ethernet2_in link }
 {
     match link {
-        Some(LinkSlice::Ethernet2(frame)) => Some(frame.to_header()),
-        Some(LinkSlice::LinuxSll(_) | LinkSlice::EtherPayload(_) | LinkSlice::LinuxSllPayload(_))
-        | None => None,
+        Some(LinkHeader::Ethernet2(header)) => Some(header),
+        Some(LinkHeader::LinuxSll(_)) | None => None,
     }
 }
 
-/// The header of a net layer of IPv4.
-fn ipv4_in(net: &Option<NetSlice<'_>>) -> Option<Ipv4Header>
-    ensures { result ≡ ipv4_in (option_map net_layer_of net.now) }
+/// The VLAN tags that link extensions are, where there are no others and at most two.
+fn tags_in(link_exts: &[LinkExtHeader]) -> Option<Option<VlanHeader>>
+    ensures { result ≡ tags_in link_exts.now }
 {
-    match net {
-        Some(NetSlice::Ipv4(packet)) => Some(packet.header().to_header()),
-        Some(NetSlice::Ipv6(_) | NetSlice::Arp(_)) | None => None,
+    match link_exts {
+        [] => Some(None),
+        [LinkExtHeader::Vlan(tag)] => Some(Some(VlanHeader::Single(tag.clone().unwrap()))),
+        [LinkExtHeader::Vlan(outer), LinkExtHeader::Vlan(inner)] => {
+            let outer = outer.clone().unwrap();
+            let inner = inner.clone().unwrap();
+            Some(Some(VlanHeader::Double(DoubleVlanHeader { outer, inner })))
+        }
+        _ => None,
     }
 }
 
-/// The header of a transport layer of UDP.
-fn udp_in(transport: &Option<TransportSlice<'_>>) -> Option<UdpHeader>
-    ensures { result ≡ udp_in (option_map transport_layer_of transport.now) }
+/// What the headers behind the link layer are built from.
+fn inside_of<'a>(
+    net: Option<NetHeaders>,
+    transport: Option<TransportHeader>,
+    payload: PayloadSlice<'a>,
+) -> Option<Inside<'a>>
+    ensures { (link : LinkPart) → option_map (parts_with link) result
+        ≡ net_parts_in link (option_map net_header_of net) transport (payload_part_of payload.entry) }
 {
-    match transport {
-        Some(TransportSlice::Udp(datagram)) => Some(datagram.to_header()),
-        Some(TransportSlice::Tcp(_) | TransportSlice::Icmpv4(_) | TransportSlice::Icmpv6(_))
-        | None => None,
+    match net? {
+        NetHeaders::Ipv4(header, extensions) => {
+            let behind = behind_of(transport, payload)?;
+            Some(Inside::Ipv4(header, extensions, behind))
+        }
+        NetHeaders::Ipv6(header, extensions) => {
+            let behind = behind_of(transport, payload)?;
+            Some(Inside::Ipv6(header, extensions, behind))
+        }
+        NetHeaders::Arp(packet) => Some(Inside::Arp(packet)),
+    }
+}
+
+/// What stands behind IP headers.
+fn behind_of<'a>(
+    transport: Option<TransportHeader>,
+    payload: PayloadSlice<'a>,
+) -> Option<Behind<'a>>
+    ensures { (link : LinkPart) (headers : IpHeaders) → option_map (behind_parts link headers) result
+        ≡ net_parts_in link (Some (ip_headers headers)) transport (payload_part_of payload.entry) }
+{
+    if let Some(transport) = transport {
+        return Some(Behind::Transport(transport, payload.slice()));
+    }
+    match payload {
+        PayloadSlice::Ip(payload) => Some(Behind::Payload(payload.ip_number, payload.payload)),
+        PayloadSlice::Empty
+        | PayloadSlice::Ether(_)
+        | PayloadSlice::MacsecMod(_)
+        | PayloadSlice::Udp(_)
+        | PayloadSlice::Tcp(_)
+        | PayloadSlice::Icmpv4(_)
+        | PayloadSlice::Icmpv6(_) => None,
     }
 }
 
 /// Builds the frames of these, one after the other in one buffer, and sums what is summed of each.
-pub fn built(alloc: Global, datagrams: &[Datagram<'_>]) -> Result<u64, BenchError>
-    ensures { IfOk result (IsBuiltSum (map parts_of datagrams.now)) }
+pub fn built(alloc: Global, all: &[FrameParts<'_>]) -> Result<u64, BenchError>
+    ensures { IfOk result (IsBuiltSum (map parts_of all.now)) }
 {
     let mut buffer = Vec::new(alloc);
     let mut total: u64 = 0;
-    for datagram in datagrams {
-        total = total.wrapping_add(number_of(datagram, &mut buffer)?);
+    for parts in all {
+        total = total.wrapping_add(number_of(parts, &mut buffer)?);
     }
     Ok(total)
 }
 
 /// What is summed of the frame that is built of these, in a buffer whose bytes are overwritten.
-fn number_of(datagram: &Datagram<'_>, buffer: &mut Vec<u8>) -> Result<u64, BenchError>
-    ensures { IfOk result (GivesBuilt (parts_of datagram.now)) }
+fn number_of(parts: &FrameParts<'_>, buffer: &mut Vec<u8>) -> Result<u64, BenchError>
+    ensures { IfOk result (GivesBuilt (parts_of parts.now)) }
 {
     buffer.clear();
-    match build(datagram, buffer) {
+    match build(parts, buffer) {
         Ok(()) => Ok(frame_number(buffer.as_slice())),
         Err(BuildWriteError::OutOfMemory) => Err(BenchError::OutOfMemory),
         Err(_) => Ok(0),
@@ -131,32 +191,97 @@ fn number_of(datagram: &Datagram<'_>, buffer: &mut Vec<u8>) -> Result<u64, Bench
 }
 
 /// Appends the frame that is built of these.
-fn build(datagram: &Datagram<'_>, buffer: &mut Vec<u8>) -> Result<(), BuildWriteError>
-    ensures ok { let parts = parts_of datagram.now in
-        OnOk result (IsBuildable (held_of parts) (length parts.payload)
-        × (buffer.new.items ≡ buffer.old.items ++ built_frame (held_of parts) parts.payload)) }
-    ensures err { let parts = parts_of datagram.now in
-        IfErr result (IsBuildError (held_of parts) (length parts.payload)) }
+pub fn build(parts: &FrameParts<'_>, buffer: &mut Vec<u8>) -> Result<(), BuildWriteError>
+    ensures { AppendsBuilt (parts_of parts.now) buffer.old.items result buffer.new.items }
 {
-    PacketBuilder::ethernet2(datagram.link.source, datagram.link.destination)
-        .ipv4(
-            datagram.net.source,
-            datagram.net.destination,
-            datagram.net.time_to_live,
-        )
-        .udp(
-            datagram.transport.source_port,
-            datagram.transport.destination_port,
-        )
-        .write(buffer, datagram.payload)
+    match &parts.inside {
+        Inside::Ipv4(header, extensions, behind) => {
+            let header = header.clone().unwrap();
+            let extensions = extensions.clone().unwrap();
+            build_ip(parts, IpHeaders::Ipv4(header, extensions), behind, buffer)
+        }
+        Inside::Ipv6(header, extensions, behind) => {
+            let header = header.clone().unwrap();
+            let extensions = copy_of(extensions);
+            build_ip(parts, IpHeaders::Ipv6(header, extensions), behind, buffer)
+        }
+        Inside::Arp(packet) => {
+            let packet = packet.clone().unwrap();
+            let link = PacketBuilder::ethernet2(parts.link.source, parts.link.destination);
+            match &parts.tags {
+                Some(tags) => link.vlan(tags.clone().unwrap()).arp(packet).write(buffer),
+                None => link.arp(packet).write(buffer),
+            }
+        }
+    }
+}
+
+/// A copy of extension headers.
+#[inline(always)]
+fn copy_of(extensions: &Ipv6Extensions) -> Ipv6Extensions
+    ensures { result ≡ extensions.now }
+{
+    extensions.clone().unwrap()
+}
+
+/// Appends the frame of a link header, its tags, these IP headers and what stands behind them. Its code stands once for
+/// each version of IP and each kind of what is behind: so the headers, which are large, stay where they are made.
+#[inline(always)]
+fn build_ip(
+    parts: &FrameParts<'_>,
+    headers: IpHeaders,
+    behind: &Behind<'_>,
+    buffer: &mut Vec<u8>,
+) -> Result<(), BuildWriteError>
+    ensures { AppendsBuilt (behind_parts (link_with parts.now.link parts.now.tags) headers behind.now)
+        buffer.old.items result buffer.new.items }
+{
+    let link = PacketBuilder::ethernet2(parts.link.source, parts.link.destination);
+    match &parts.tags {
+        Some(tags) => { build_behind(link.vlan(tags.clone().unwrap()).ip(headers), behind, buffer) }
+        None => build_behind(link.ip(headers), behind, buffer),
+    }
+}
+
+/// Appends the frame of these IP headers and what stands behind them.
+#[inline(always)]
+fn build_behind(
+    step: PacketBuilderStep<IpHeaders>,
+    behind: &Behind<'_>,
+    buffer: &mut Vec<u8>,
+) -> Result<(), BuildWriteError>
+    ensures { AppendsBuilt (behind_parts (ip_link step) (ip_step_headers step) behind.now)
+        buffer.old.items result buffer.new.items }
+{
+    match behind {
+        Behind::Payload(number, payload) => step.write(buffer, *number, payload),
+        Behind::Transport(transport, payload) => match transport {
+            TransportHeader::Udp(header) => {
+                step.udp(header.source_port, header.destination_port)
+                    .write(buffer, payload)
+            }
+            TransportHeader::Tcp(header) => {
+                step.tcp_header(header.clone().unwrap())
+                    .write(buffer, payload)
+            }
+            TransportHeader::Icmpv4(header) => {
+                step.icmpv4(header.icmp_type.clone().unwrap())
+                    .write(buffer, payload)
+            }
+            TransportHeader::Icmpv6(header) => {
+                step.icmpv6(header.icmp_type.clone().unwrap())
+                    .write(buffer, payload)
+            }
+        },
+    }
 }
 
 /// What is summed of a frame that was built.
 fn frame_number(frame: &[u8]) -> u64
     ensures { result ≡ kept_sum (built_sum frame.now) }
 {
-    let checksums = u64::from(word_at(frame, 24)) + u64::from(word_at(frame, 40));
-    checksums.wrapping_add(frame.len() as u64)
+    let words = u64::from(word_at(frame, 24)) + u64::from(word_at(frame, 40));
+    words.wrapping_add(frame.len() as u64)
 }
 
 /// Two bytes of a frame, the high one first; 0 for what is not there.

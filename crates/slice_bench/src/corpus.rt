@@ -4,7 +4,7 @@ ghost use Rattle.std.specs.Prelude.{◌≡◌, map, IfOk};
 ghost use Rattle.std.specs.Option.{option_map};
 ghost use Rattle.ep_link.specs.EtherPayloads.{ether_payload_of};
 ghost use Rattle.ep_packet.specs.Layers.{layers_of};
-ghost use Rattle.slice_bench.specs.Corpora.{AreIpPackets, HasIpPacket, ip_bytes_in};
+ghost use Rattle.slice_bench.specs.Corpora.{AreFound, HasIpPacket, ip_bytes_in};
 
 use crate::bench_error::BenchError;
 use ep_link::EtherPayloadSlice;
@@ -14,7 +14,7 @@ use std::alloc::Global;
 /// The IP packets in frames, each where its frame has one, with what its length field leaves.
 pub fn ip_packets_of<'a>(alloc: Global, frames: &[&'a [u8]]) -> Result<Vec<&'a [u8]>, BenchError>
     ensures { IfOk result (λ packets.
-        AreIpPackets (map (λ frame. frame.now) frames.now) (map (λ packet. packet.now) packets.items)) }
+        AreFound HasIpPacket (map (λ frame. frame.now) frames.now) (map (λ packet. packet.now) packets.items)) }
 {
     let mut packets = Vec::new(alloc);
     for frame in frames {

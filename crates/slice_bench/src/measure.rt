@@ -4,7 +4,7 @@ ghost use Rattle.std.specs.Prelude.{◌≡◌, ◌*◌, ◌/◌, ◌<◌, ◌^�
 ghost use Rattle.slice_bench.specs.Rounds.{IsRoundSum, measurement_name, round_count};
 
 use crate::bench_error::BenchError;
-use crate::building::{Datagram, built};
+use crate::building::{FrameParts, built};
 use crate::columns::{
     Decoding, Filling, ReadingIpHeaders, Rereading, Slicing, SlicingApart, SlicingIpv4, total,
 };
@@ -20,8 +20,8 @@ pub struct Corpus<'a> {
     pub frames: Vec<&'a [u8]>,
     /// The IP packets in them.
     pub ip_packets: Vec<&'a [u8]>,
-    /// What those of them that are of Ethernet II, IPv4 and UDP are built from.
-    pub datagrams: Vec<Datagram<'a>>,
+    /// What some of the frames are built from.
+    pub frame_parts: Vec<FrameParts<'a>>,
 }
 
 /// What is done with each frame of a file, with each IP packet in them, or with what some of them are built from.
@@ -41,8 +41,7 @@ pub enum Measurement {
     SlicingIpv4,
     /// The headers of an IP packet are read.
     ReadingIpHeaders,
-    /// A frame of Ethernet II, IPv4 and UDP is built from addresses, ports and payload, and else the builder's
-    /// defaults.
+    /// A frame is built anew from its headers by value and its payload.
     Building,
     /// A frame is sliced and given to a pool, which is new in each round.
     Reassembly,
@@ -91,7 +90,7 @@ impl Measurement {
             | Measurement::Rereading
             | Measurement::Reassembly => corpus.frames.len(),
             Measurement::SlicingIpv4 | Measurement::ReadingIpHeaders => corpus.ip_packets.len(),
-            Measurement::Building => corpus.datagrams.len(),
+            Measurement::Building => corpus.frame_parts.len(),
         }
     }
 
@@ -109,7 +108,7 @@ impl Measurement {
             Measurement::ReadingIpHeaders => Ok(total::<ReadingIpHeaders>(
                 corpus.ip_packets.as_slice(),
             )),
-            Measurement::Building => built(alloc, corpus.datagrams.as_slice()),
+            Measurement::Building => built(alloc, corpus.frame_parts.as_slice()),
             Measurement::Reassembly => handed_out(alloc, corpus.frames.as_slice()),
         }
     }

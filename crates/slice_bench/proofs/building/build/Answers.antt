@@ -1,26 +1,28 @@
-use Rattle.std.proofs.Common.{◌≡◌, ◌++◌, length, ap, subst, ◌∙◌}
-use Rattle.std.specs.Prelude.{OnOk}
-use Rattle.ep_build.specs.BuildErrors.{IsBuildable}
-use Rattle.ep_build.specs.BuiltFrames.{Held, built_frame, held_transport}
-use Rattle.ep_build.specs.Steps.{ip_step_headers, transport_held}
-use Rattle.ep_transport.specs.declared.transport_header.TransportHeader.TheVariants as transport
-use Rattle.slice_bench.specs.Building.{held_of, parts_of}
+use Rattle.std.proofs.Common.{◌≡◌, ap, rules, subst, sym, ◌∙◌}
+use Rattle.ep_packet.specs.declared.ip_headers.IpHeaders.TheVariants as version
+use Rattle.slice_bench.specs.Building.{AppendsBuilt, behind_parts, link_with, parts_with}
 use Rattle.slice_bench.proofs.building.build.Goals as goal
 
-pub returns-clause-ok : goal.returns-clause-ok
-returns-clause-ok c =
-    let payload = c.args.datagram.now.payload.now in
-    let wanted = held_of (parts_of c.args.datagram.now) in
-    let behind = transport.Udp (record {
-      source_port = c.args.datagram.now.transport.source_port;
-      destination_port = c.args.datagram.now.transport.destination_port;
-      length = 0;
-      checksum = 0;
-    }) in
-    let held : transport_held transport.Udp c.udp.result ≡ wanted =
-    c.udp.ensures
-    ∙ ap (λ link. held_transport link (ip_step_headers c.ipv4.result) behind)
-    (c.ipv4.ensures.link ∙ c.ethernet2.ensures)
-    ∙ ap (λ headers. held_transport wanted.link headers behind) c.ipv4.ensures.headers in
-    subst (λ (h : Held). OnOk c.write.result (IsBuildable h (length payload)
-    × (c.write.new.buf.items ≡ c.args.buffer.now.items ++ built_frame h payload))) held c.write.ensures.ok
+pub returns-in-Ipv4 : goal.returns-in-Ipv4
+returns-in-Ipv4 c =
+    let link = link_with c.args.parts.now.link c.args.parts.now.tags in
+    let behind = c.in-Ipv4.behind in
+    let same_header : c.unwrap-header.result ≡ c.in-Ipv4.header = search rules in
+    let same_extensions : c.unwrap-extensions.result ≡ c.in-Ipv4.extensions = search rules in
+    subst (λ parts. AppendsBuilt parts c.args.buffer.now.items c.build_ip.result c.build_ip.new.buffer.items)
+    (ap (λ h. behind_parts link (version.Ipv4 h c.unwrap-extensions.result) behind) same_header
+    ∙ ap (λ e. behind_parts link (version.Ipv4 c.in-Ipv4.header e) behind) same_extensions
+    ∙ ap (parts_with link) (sym c.in-Ipv4.is))
+    c.build_ip.ensures
+
+pub returns-in-Ipv6 : goal.returns-in-Ipv6
+returns-in-Ipv6 c =
+    let link = link_with c.args.parts.now.link c.args.parts.now.tags in
+    let behind = c.in-Ipv6.behind in
+    let same_header : c.unwrap-header-in-Ipv6.result ≡ c.in-Ipv6.header = search rules in
+    subst (λ parts. AppendsBuilt parts c.args.buffer.now.items c.build_ip-in-Ipv6.result
+    c.build_ip-in-Ipv6.new.buffer.items)
+    (ap (λ h. behind_parts link (version.Ipv6 h c.copy_of-extensions.result) behind) same_header
+    ∙ ap (λ e. behind_parts link (version.Ipv6 c.in-Ipv6.header e) behind) c.copy_of-extensions.ensures
+    ∙ ap (parts_with link) (sym c.in-Ipv6.is))
+    c.build_ip-in-Ipv6.ensures

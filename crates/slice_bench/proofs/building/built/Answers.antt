@@ -4,12 +4,12 @@ use Rattle.slice_bench.proofs.FrameLists.{map_take-next}
 use Rattle.slice_bench.proofs.SumLemmas.{total-push}
 use Rattle.slice_bench.proofs.building.built.Goals as goal
 
-pub loop-datagram-preserved : goal.loop-datagram-preserved
-loop-datagram-preserved c =
-    let datagrams = c.args.datagrams.now in
-    let at = c.loop-datagram.datagram-index in
-    let item = c.datagram-item.result in
-    let here : get_or datagrams at item ≡ item = sym c.datagram-item.is in
-    rw (map_take-next parts_of datagrams at item c.loop-datagram-test.true, here)
-    (total-push GivesBuilt (map parts_of (take at datagrams)) c.loop-datagram.total (parts_of item)
-    c.in_ok-total.field-0 c.loop-datagram.invariant c.in_ok-total.ensures)
+pub loop-parts-preserved : goal.loop-parts-preserved
+loop-parts-preserved c =
+    let all = c.args.all.now in
+    let at = c.loop-parts.parts-index in
+    let item = c.parts-item.result in
+    let here : get_or all at item ≡ item = sym c.parts-item.is in
+    rw (map_take-next parts_of all at item c.loop-parts-test.true, here)
+    (total-push GivesBuilt (map parts_of (take at all)) c.loop-parts.total (parts_of item)
+    c.in_ok-total.field-0 c.loop-parts.invariant c.in_ok-total.ensures)

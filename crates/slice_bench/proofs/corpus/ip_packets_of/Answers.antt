@@ -1,7 +1,7 @@
 use Rattle.std.proofs.Common.{Some, None, take, map, get_or}
 use Rattle.std.proofs.lemmas.List.{map_push, append-nil}
 use Rattle.slice_bench.specs.Corpora.{HasIpPacket}
-use Rattle.slice_bench.proofs.FrameLists.{no_frame, map_take-next, packets-push}
+use Rattle.slice_bench.proofs.FrameLists.{no_frame, map_take-next, found-push}
 use Rattle.slice_bench.proofs.corpus.ip_packets_of.Goals as goal
 use Rattle.slice_bench.proofs.corpus.ip_packets_of.Goals.{in-Some+in-Ok, in_default}
 
@@ -21,9 +21,9 @@ loop-frame-preserved c =
             w.in-Ok.ensures.items,
             map_push (λ packet. packet.now) c.loop-frame.packets.items w.in-Some.packet,
           )
-          (packets-push before packets frame (Some w.in-Some.packet.now) c.loop-frame.invariant found)
+          (found-push HasIpPacket before packets frame (Some w.in-Some.packet.now) c.loop-frame.invariant found)
       | in_default w ↦
           let found : HasIpPacket frame None = rw w.in_default.is at c.ip_packet.ensures in
-          let pushed = packets-push before packets frame None c.loop-frame.invariant found in
+          let pushed = found-push HasIpPacket before packets frame None c.loop-frame.invariant found in
           rw w.packets-is (rw append-nil at pushed)
     ])

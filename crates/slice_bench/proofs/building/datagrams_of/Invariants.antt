@@ -1,8 +1,0 @@
-use Rattle.std.proofs.Common.{take, map}
-use Rattle.slice_bench.specs.Building.{AreDatagrams, parts_of}
-use Rattle.slice_bench.proofs.building.datagrams_of.Given as goal
-
--- what the frames so far are built from
-abbrev pub invariant-loop-frame : goal.invariant-loop-frame
-invariant-loop-frame l =
-    AreDatagrams (map (λ frame. frame.now) (take l.frame-index l.frames)) (map parts_of l.datagrams.items)
