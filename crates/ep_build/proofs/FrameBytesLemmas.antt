@@ -110,7 +110,8 @@ ethernet2_is_bytes header type fits =
 vlan_is_bytes : (tag : SingleVlanHeader) → AllBytes (vlan_bytes tag)
 vlan_is_bytes tag = word _ _ (word tag.ether_type.0 [] none)
 
-link_is_bytes : (part : LinkPart) (type : EtherType) → FitsLink part → AllBytes (link_part_bytes (link_before part type))
+link_is_bytes : (part : LinkPart) (type : EtherType) → FitsLink part
+    → AllBytes (link_part_bytes (link_before part type))
 link_is_bytes link.Absent type fits = none
 link_is_bytes (link.Ethernet2 header) type fits = ethernet2_is_bytes header type fits
 link_is_bytes (link.Tagged header (tags.Single tag)) type fits =

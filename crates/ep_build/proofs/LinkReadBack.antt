@@ -208,12 +208,14 @@ pub frame_is : (reading : Reading) (part : LinkPart) (inside : Inside) (entry : 
     → IsNet reading (as_ether_type (inside_type inside)) inner net transport
     → (entry ≡ ip → IsNetPart reading (Some any_ip) inner (Some net) transport)
     → IsFrameOf reading entry
-    (link_part_bytes (link_before part (as_ether_type (inside_type inside))) ++ inner) (link_vlan_ids part) net transport
+    (link_part_bytes (link_before part (as_ether_type (inside_type inside))) ++ inner) (link_vlan_ids part) net
+    transport
 frame_is reading link.Absent inside entry inner net transport fits of is any =
     bare reading inside entry inner net transport (bare_cases inside entry of) is any
 frame_is reading (link.Ethernet2 header) inside entry inner net transport fits of is any =
     let type = as_ether_type (inside_type inside) in subst
-    (λ (e : Entry). IsFrameOf reading e (ethernet2_bytes (record header { ether_type = type }) ++ inner) [] net transport)
+    (λ (e : Entry). IsFrameOf reading e (ethernet2_bytes (record header { ether_type = type }) ++ inner) [] net
+    transport)
     (sym of)
     (behind_ethernet2 reading (record header { ether_type = type }) inner [] net transport
     (typed header type fits is.small) (is.begins_none, is.part))

@@ -149,7 +149,8 @@ fragment_read_back part headers last payload fits_link fit = λ found built othe
 
 -- an ARP packet is behind no IP entry
 not_ip : (part : LinkPart) (packet : Arp) (entry : Entry) → IsEntryOf part (arp_packet packet) entry → entry ≡ ip → ⊥
-not_ip link.Absent packet entry of is_ip = let same : ether_type (as_ether_type arp_type) ≡ ip = sym of ∙ is_ip in absurd (cc)
+not_ip link.Absent packet entry of is_ip =
+    let same : ether_type (as_ether_type arp_type) ≡ ip = sym of ∙ is_ip in absurd (cc)
 not_ip (link.Ethernet2 header) packet entry of is_ip = let same = sym of ∙ is_ip in absurd (cc)
 not_ip (link.Tagged header both) packet entry of is_ip = let same = sym of ∙ is_ip in absurd (cc)
 not_ip (link.LinuxSll header) packet entry of is_ip = let same = sym of.1 ∙ is_ip in absurd (cc)

@@ -92,11 +92,13 @@ enough : (message : List ℕ) → 8 ≤ length message → first_row (icmpv6_row
 enough message fits = grind (arith, common_steps)
 
 -- what is no segment has no sum to meet
-sums_4 : (headers : IpHeaders) (message : List ℕ) → SumsUp headers (transport.Icmpv4 (icmpv4_parts message).header) message
+sums_4 : (headers : IpHeaders) (message : List ℕ)
+    → SumsUp headers (transport.Icmpv4 (icmpv4_parts message).header) message
 sums_4 (version.Ipv4 ip extensions) message = tt
 sums_4 (version.Ipv6 ip extensions) message = tt
 
-sums_6 : (headers : IpHeaders) (message : List ℕ) → SumsUp headers (transport.Icmpv6 (icmpv6_parts message).header) message
+sums_6 : (headers : IpHeaders) (message : List ℕ)
+    → SumsUp headers (transport.Icmpv6 (icmpv6_parts message).header) message
 sums_6 (version.Ipv4 ip extensions) message = tt
 sums_6 (version.Ipv6 ip extensions) message = tt
 

@@ -195,7 +195,8 @@ pub transport_passes : (link : LinkPart) (headers : IpHeaders) (behind : Transpo
     → IsBuildable (held_transport link headers behind) len
 transport_passes link headers behind len none carried =
     let rows = payload_len_rows headers (transport_header_len behind + len) in
-    first_row-append_none (rows_as error.PayloadLen rows) (icmpv6_rows (is_icmpv6_in_ipv4 headers behind)) (first_row-as_none error.PayloadLen rows none)
+    first_row-append_none (rows_as error.PayloadLen rows) (icmpv6_rows (is_icmpv6_in_ipv4 headers behind))
+    (first_row-as_none error.PayloadLen rows none)
     ∙ icmpv6_row_none (is_icmpv6_in_ipv4 headers behind) carried
 
 pub transport_too_long : (link : LinkPart) (headers : IpHeaders) (behind : TransportHeader) (len : ℕ)
@@ -212,7 +213,8 @@ pub transport_not_carried : (link : LinkPart) (headers : IpHeaders) (behind : Tr
     → IsBuildError (held_transport link headers behind) len answer
 transport_not_carried link headers behind len answer none carried same =
     let rows = payload_len_rows headers (transport_header_len behind + len) in
-    inl (first_row-append_none (rows_as error.PayloadLen rows) (icmpv6_rows (is_icmpv6_in_ipv4 headers behind)) (first_row-as_none error.PayloadLen rows none)
+    inl (first_row-append_none (rows_as error.PayloadLen rows) (icmpv6_rows (is_icmpv6_in_ipv4 headers behind))
+    (first_row-as_none error.PayloadLen rows none)
     ∙ icmpv6_row_some (is_icmpv6_in_ipv4 headers behind) carried ∙ ap (λ (e : BuildWriteError). Some e) (sym same))
 
 -- ---- checksums
@@ -305,8 +307,8 @@ built_content link headers behind content =
     ++ (written_headers written (ip_headers_parts written) ++ content)
 
 -- the same with a transport header between them
-pub is_transport_frame : (link : LinkPart) (headers linked : IpHeaders) (behind filled : TransportHeader) (last : IpNumber)
-    (len : ℕ) (type : EtherType) (payload : List ℕ) → linked ≡ headers_for headers last len
+pub is_transport_frame : (link : LinkPart) (headers linked : IpHeaders) (behind filled : TransportHeader)
+    (last : IpNumber) (len : ℕ) (type : EtherType) (payload : List ℕ) → linked ≡ headers_for headers last len
     → last.0 ≡ transport_number behind → filled ≡ transport_between headers payload behind
     → len ≡ length (transport_bytes filled ++ payload) → type.0 ≡ ip_headers_type headers
     → link_part_bytes (link_before link type)
@@ -369,7 +371,8 @@ pub transport_ok : (link : LinkPart) (headers linked : IpHeaders) (behind set fi
     × (link_part_bytes (link_before link type)
     ++ (written_headers linked (ip_headers_parts linked) ++ (transport_bytes filled ++ payload))
     ≡ built_frame (held_transport link headers behind) payload)
-transport_ok link headers linked behind set filled last len type payload is number sets carried sums counts fits typed none =
+transport_ok link headers linked behind set filled last len type payload is number sets carried sums counts fits typed
+    none =
     let with_len = with_length (length payload) behind in
     let between = between_is headers linked behind set filled last len payload is sets sums in
     let not_icmpv6 : is_icmpv6_in_ipv4 headers behind ≡ false =
@@ -404,8 +407,8 @@ pub transport_back : (link : LinkPart) (headers linked : IpHeaders) (behind set 
     → FitsTransport filled → FitsLink link → FitsIpHeader linked → FitParts (ip_headers_parts linked)
     → AreBytes (before ++ (front ++ (written_headers linked (ip_headers_parts linked)
     ++ (transport_bytes filled ++ payload)))) → IsReadBack link headers behind payload
-transport_back link headers linked behind set filled last len payload before front is number sets sums counts fits fits_link
-    header_fits parts_fit bytes =
+transport_back link headers linked behind set filled last len payload before front is number sets sums counts fits
+    fits_link header_fits parts_fit bytes =
     let between = between_is headers linked behind set filled last len payload is sets sums in
     let message_is : transport_bytes filled ++ payload ≡ message_of headers behind payload =
     ap (λ (t : TransportHeader). transport_bytes t ++ payload) between in
@@ -414,8 +417,8 @@ transport_back link headers linked behind set filled last len payload before fro
     is ∙ ap (λ (n : ℕ). headers_for headers last n)
     (content_is headers behind filled len payload between counts fits ∙ ap length message_is)
     ∙ ap (λ (n : ℕ). headers_for headers (record { 0 = n }) (length (message_of headers behind payload))) number in
-    let message_bytes = AreBytes-back (written_headers linked (ip_headers_parts linked)) (transport_bytes filled ++ payload)
-    (AreBytes-back front _ (AreBytes-back before _ bytes)) in
+    let message_bytes = AreBytes-back (written_headers linked (ip_headers_parts linked))
+    (transport_bytes filled ++ payload) (AreBytes-back front _ (AreBytes-back before _ bytes)) in
     read_back link headers behind payload fits_link
     (subst FitIpHeaders linked_is (fit_both linked header_fits parts_fit)) (subst FitsTransport between fits)
     (subst AreBytes message_is message_bytes)

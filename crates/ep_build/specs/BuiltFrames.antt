@@ -145,7 +145,8 @@ inside_frame (arp_packet packet) payload = arp_bytes packet ++ payload
 -- the frame of headers and a payload
 abbrev pub built_frame : Held → List ℕ → List ℕ
 built_frame held payload =
-    link_part_bytes (link_before held.link (as_ether_type (inside_type held.inside))) ++ inside_frame held.inside payload
+    link_part_bytes (link_before held.link (as_ether_type (inside_type held.inside)))
+    ++ inside_frame held.inside payload
 
 -- the number of bytes of what the link part carries, and of so many bytes of payload
 abbrev pub inside_size : Inside → ℕ → ℕ

@@ -6,8 +6,9 @@ use Rattle.std.proofs.lemmas.Bool.Decides.{nat_tests}
 use Rattle.std.proofs.lemmas.List.Edits.{get_or-between}
 use Rattle.std.proofs.lemmas.List.Folds.{Any-from_list_any, list_any-from_Any}
 use Rattle.std.proofs.lemmas.List.FromFn.{fill_by_all}
+use Rattle.ep_base.specs.Tables.{first_row}
 use Rattle.ep_defrag.specs.Fragments.{IpFragment, is_final, fragment_start, fragment_end, covers, is_covered, IsCovered, reach_of, end_of, byte_at, assembled, IsComplete}
-use Rattle.ep_defrag.specs.Refusals.{is_unaligned, conflicts_with, end_refusal, Fits}
+use Rattle.ep_defrag.specs.Refusals.{is_unaligned, conflicts_with, end_rows, Fits}
 use Rattle.ep_defrag.specs.Cuts.{IsCut}
 use Rattle.ep_defrag.proofs.Lists.{list_all-range, each_of_range}
 
@@ -72,7 +73,7 @@ module _ (payload : List ℕ) where
       let within : ltb 65535 (fragment_end cut) ≡ false =
       le-ltb 65535 (fragment_end cut) (omega (arith, is_cut.within)) in
       let aligned = unaligned_not cut shape in
-      let agrees : end_refusal (end_of cuts) cut ≡ None = elim (end_of_cuts cuts all) [
+      let agrees : first_row (end_rows (end_of cuts) cut) ≡ None = elim (end_of_cuts cuts all) [
         | inl unknown ↦ rw unknown refl
         | inr known ↦ rw (known, conflicts_not cut is_cut) refl
       ] in

@@ -6,9 +6,10 @@ use Rattle.std.proofs.lemmas.Bool.Decides.{nat_tests}
 use Rattle.std.proofs.lemmas.List.{get_or_past, append-nil, append_assoc, get_or-replicate, length-replicate, length-append, length-take-le, length-drop, get_or_append_left, get_or-append_right, get_or-take, get_or-drop}
 use Rattle.std.proofs.lemmas.List.Folds.{list_any-append}
 use Rattle.std.proofs.lemmas.List.FromFn.{length-map-range_with_len, get_or-map-range_with_len, fill_by_all}
+use Rattle.ep_base.specs.Tables.{first_row}
 use Rattle.ep_defrag.specs.Ranges.{touches}
 use Rattle.ep_defrag.specs.Fragments.{IpFragment, fragment_start, fragment_end, range_of, covers, is_covered, is_touched, reach_of, end_of, byte_at, assembled}
-use Rattle.ep_defrag.specs.Refusals.{is_unaligned, conflicts_with, end_refusal, refusal_at, Fits, FitAfter}
+use Rattle.ep_defrag.specs.Refusals.{is_unaligned, conflicts_with, end_rows, refusal_at, Fits, FitAfter}
 use Rattle.ep_defrag.specs.Buffers.{extended, overwritten, data_after}
 
 or_false : (a : Bool) → (a || false) ≡ a
@@ -102,7 +103,7 @@ not_some false value other none = (refl, none)
 pub record FitsAt (known_end : Option ℕ) (fragment : IpFragment) : Type 0 where
   pub short : fragment_end fragment ≤ 65535
   pub aligned : is_unaligned fragment ≡ false
-  pub agrees : end_refusal known_end fragment ≡ None
+  pub agrees : first_row (end_rows known_end fragment) ≡ None
 
 pub fits_at : (known_end : Option ℕ) (fragment : IpFragment) → refusal_at known_end fragment ≡ None
     → FitsAt known_end fragment
@@ -111,7 +112,7 @@ fits_at known_end fragment fits =
     let by_multiple = not_some (is_unaligned fragment) _ _ by_length.1 in
     record { short = ltb-false _ _ by_length.0; aligned = by_multiple.0; agrees = by_multiple.1 }
 
-pub agrees_with : (known_end : ℕ) (fragment : IpFragment) → end_refusal (Some known_end) fragment ≡ None
+pub agrees_with : (known_end : ℕ) (fragment : IpFragment) → first_row (end_rows (Some known_end) fragment) ≡ None
     → (fragment_end fragment ≤ known_end) × (fragment.more ≡ false → fragment_end fragment ≡ known_end)
 agrees_with known_end fragment agrees =
     let no_conflict = (not_some (conflicts_with known_end fragment) _ _ agrees).0 in
@@ -119,9 +120,12 @@ agrees_with known_end fragment agrees =
 
 pub FitAfter-push : (earlier later : List IpFragment) (fragment : IpFragment) → FitAfter earlier later
     → Fits (earlier ++ later) fragment → FitAfter earlier (later ++ fragment ∷ [])
-FitAfter-push earlier [] fragment fit fits = (rw append-nil at fits, tt)
-FitAfter-push earlier (first ∷ later) fragment fit fits =
-    (fit.0, FitAfter-push (earlier ++ first ∷ []) later fragment fit.1 (rw append_assoc fits))
+FitAfter-push earlier [] fragment fit fits = (rw (append-nil earlier) at fits, tt)
+FitAfter-push earlier (first ∷ later) fragment fit fits = (
+  fit.0,
+  FitAfter-push (earlier ++ first ∷ []) later fragment fit.1
+      (rw (append_assoc earlier (first ∷ []) later) fits),
+)
 
 -- ---- the bytes after a fragment
 -- how long the bytes are that a list puts together

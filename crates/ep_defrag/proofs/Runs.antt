@@ -3,10 +3,11 @@ use Rattle.std.proofs.Common.{◌≡◌, ◌≢◌, ℕ, Bool, true, false, cond
 use Rattle.std.specs.List.{All}
 use Rattle.std.proofs.lemmas.Bool.{false≢true}
 use Rattle.std.proofs.lemmas.List.Elements.{All-nil, All-cons}
+use Rattle.ep_base.specs.Tables.{first_row}
 use Rattle.ep_defrag.specs.declared.ip_defrag_error.IpDefragError.{IpDefragError}
 use Rattle.ep_defrag.specs.declared.ip_defrag_error.IpDefragError.TheVariants.{AllocationFailure}
 use Rattle.ep_defrag.specs.Fragments.{IpFragment, fragment_end, end_of}
-use Rattle.ep_defrag.specs.Refusals.{is_unaligned, conflicts_with, end_refusal, refusal_at, refusal_of, is_want_of_memory}
+use Rattle.ep_defrag.specs.Refusals.{is_unaligned, conflicts_with, end_rows, refusal_at, refusal_of, is_want_of_memory}
 use Rattle.ep_defrag.specs.Runs.{accepted_with, accepted_after, ok_unless, answers_after}
 
 -- ---- a refusal is not one of memory
@@ -16,7 +17,7 @@ from_cond true value error other same = inl (cc)
 from_cond false value error other same = inr same
 
 no_memory_at : (known : Option ℕ) (fragment : IpFragment) (error : IpDefragError)
-    → end_refusal known fragment ≡ Some error → is_want_of_memory error ≡ false
+    → first_row (end_rows known fragment) ≡ Some error → is_want_of_memory error ≡ false
 no_memory_at None fragment error refused = absurd (cc)
 no_memory_at (Some end) fragment error refused = elim (from_cond (conflicts_with end fragment) _ error None refused) [
   | inl conflict ↦ ap is_want_of_memory conflict

@@ -1,5 +1,6 @@
 -- When a fragment is accepted after others, with which error it is refused, and when it needs no memory.
-use Rattle.std.specs.Prelude.{◌≡◌, ℕ, ◌%◌, ◌≤◌, Bool, true, false, not, ◌&&◌, ◌||◌, ◌==◌, nat_lt, if◌then◌else◌, Option, Some, None, List, [], ◌∷◌, ◌++◌, length, IsTrue}
+use Rattle.std.specs.Prelude.{◌≡◌, ℕ, ◌%◌, ◌≤◌, Bool, true, false, not, ◌&&◌, ◌||◌, ◌==◌, nat_lt, Option, Some, None, List, [], ◌∷◌, ◌++◌, length, IsTrue}
+use Rattle.ep_base.specs.Tables.{first_row}
 use Rattle.ep_defrag.specs.declared.ip_defrag_error.IpDefragError.{IpDefragError}
 use Rattle.ep_defrag.specs.declared.ip_defrag_error.IpDefragError.TheVariants.{UnalignedFragmentPayloadLen, SegmentTooBig, ConflictingEnd, AllocationFailure}
 use Rattle.ep_defrag.specs.Ranges.{touches}
@@ -14,19 +15,23 @@ abbrev pub conflicts_with : ℕ → IpFragment → Bool
 conflicts_with known_end fragment =
     nat_lt known_end (fragment_end fragment) || (is_final fragment && not (fragment_end fragment == known_end))
 
--- the refusal for the known end's sake
-abbrev pub end_refusal : Option ℕ → IpFragment → Option IpDefragError
-end_refusal None fragment = None
-end_refusal (Some known_end) fragment =
-    if conflicts_with known_end fragment then Some (ConflictingEnd known_end (fragment_end fragment)) else None
+-- the row of the known end, where it is known
+abbrev pub end_rows : Option ℕ → IpFragment → List (Bool × IpDefragError)
+end_rows None fragment = []
+end_rows (Some known_end) fragment =
+    (conflicts_with known_end fragment, ConflictingEnd known_end (fragment_end fragment))
+    ∷ []
 
--- The refusal of a fragment where the end is known or not: it is too long, it is unaligned, its end conflicts, the
--- first of these that holds. None where it fits.
+-- when a fragment is refused where the end is known or not, and with which error
+abbrev pub fragment_rows : Option ℕ → IpFragment → List (Bool × IpDefragError)
+fragment_rows known_end fragment =
+    (nat_lt 65535 (fragment_end fragment), SegmentTooBig fragment.offset (length fragment.bytes) 65535)
+    ∷ (is_unaligned fragment, UnalignedFragmentPayloadLen fragment.offset (length fragment.bytes))
+    ∷ end_rows known_end fragment
+
+-- The refusal of a fragment: the error of the first row that holds, and none where it fits.
 abbrev pub refusal_at : Option ℕ → IpFragment → Option IpDefragError
-refusal_at known_end fragment =
-    if nat_lt 65535 (fragment_end fragment) then Some (SegmentTooBig fragment.offset (length fragment.bytes) 65535)
-    else if is_unaligned fragment then Some (UnalignedFragmentPayloadLen fragment.offset (length fragment.bytes))
-    else end_refusal known_end fragment
+refusal_at known_end fragment = first_row (fragment_rows known_end fragment)
 
 -- The same after a list of accepted ones.
 abbrev pub refusal_of : List IpFragment → IpFragment → Option IpDefragError

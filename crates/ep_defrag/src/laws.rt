@@ -119,6 +119,20 @@ pub fn comparisons()
     ensures errors { (a b : IpDefragError) → ⟦<IpDefragError as Ord>⟧.cmp a b ≡ error_cmp a b }
 {}
 
+/// A clone equals its source.
+pub fn clones()
+    ensures ranges { (a b : IpFragRange) → ⟦<IpFragRange as Clone>⟧.is_clone a b → b ≡ a }
+    ensures versions { (a b : IpFragVersionSpecId) → ⟦<IpFragVersionSpecId as Clone>⟧.is_clone a b → b ≡ a }
+    ensures errors { (a b : IpDefragError) → ⟦<IpDefragError as Clone>⟧.is_clone a b → b ≡ a }
+{}
+
+/// A clone takes no memory, and so is there.
+pub fn clones_succeed()
+    ensures ranges { (a : IpFragRange) → ⟦<IpFragRange as Clone>⟧.is_infallible a }
+    ensures versions { (a : IpFragVersionSpecId) → ⟦<IpFragVersionSpecId as Clone>⟧.is_infallible a }
+    ensures errors { (a : IpDefragError) → ⟦<IpDefragError as Clone>⟧.is_infallible a }
+{}
+
 /// The parts of names are equal where they are the same. Payloads, answers of the pool and answers to frames are equal
 /// where they show the same.
 pub fn pool_comparisons()

@@ -60,7 +60,8 @@ pub encoded_read : (e : List ℕ) (h : Ipv6FragmentHeader) → EncodesFragmentHe
 encoded_read e h a =
     let more = bit_le h.more_fragments in
     let offset = offset_read h.fragment_offset a.reserved_bits _ a.fits.fragment_offset a.bits more in
-    let flag = bit_read _ h.more_fragments (flag_read h.fragment_offset a.reserved_bits _ a.fits.fragment_offset a.bits more) in
+    let flag =
+    bit_read _ h.more_fragments (flag_read h.fragment_offset a.reserved_bits _ a.fits.fragment_offset a.bits more) in
     let identification = from_be_bytes-to_be_bytes_4 h.identification a.fits.identification in
     let read : fragment_header_of (fragment_header_bytes_with a.reserved_byte a.reserved_bits h) ≡ h =
     λ i. record {

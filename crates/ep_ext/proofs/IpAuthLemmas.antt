@@ -34,7 +34,8 @@ pub whole_fits : (e : List ℕ) → AreBytes e → IsWholeIpAuth e → FitsIpAut
 whole_fits e fits a = record {
   next_header = fits 0;
   spi = four_below (slice_range e 4 8) (four_len e 4 (omega (arith, a.field, a.whole))) (AreBytes-four e 4 fits);
-  sequence_number = four_below (slice_range e 8 12) (four_len e 8 (omega (arith, a.field, a.whole))) (AreBytes-four e 8 fits);
+  sequence_number =
+      four_below (slice_range e 8 12) (four_len e 8 (omega (arith, a.field, a.whole))) (AreBytes-four e 8 fits);
   icv_len = omega (arith, length-drop 12 e, a.whole, fits 1);
   icv_words = omega (arith, length-drop 12 e, a.whole, a.field);
   icv = AreBytes-drop 12 e fits;
@@ -64,7 +65,8 @@ whole_encodes e fits a =
       fits = whole_fits e fits a;
       reserved = word_at e 2;
       bits = omega (arith, fits 2, fits 3);
-      same = twelve e long ∙ (λ i. get_or e 0 0 ∷ second i ∷ third i ∷ fourth i ∷ (spi i ++ sequence_number i ++ drop 12 e));
+      same = twelve e long
+          ∙ (λ i. get_or e 0 0 ∷ second i ∷ third i ∷ fourth i ∷ (spi i ++ sequence_number i ++ drop 12 e));
     }
 
 -- ---- the bytes of a header are read as this header

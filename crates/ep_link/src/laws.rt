@@ -168,7 +168,8 @@ pub fn equalities()
         ↔ ShowSameDoubleVlan a b }
     ensures vlan_tags_slice { (a b : VlanSlice) → IsTrue (⟦<VlanSlice<'static> as PartialEq>⟧.eq a b)
         ↔ ShowSameVlan a b }
-    ensures macsec_header_slice { (a b : MacsecHeaderSlice) → IsTrue (⟦<MacsecHeaderSlice<'static> as PartialEq>⟧.eq a b)
+    ensures macsec_header_slice { (a b : MacsecHeaderSlice) →
+        IsTrue (⟦<MacsecHeaderSlice<'static> as PartialEq>⟧.eq a b)
         ↔ (macsec_header_slice_bytes a ≡ macsec_header_slice_bytes b) }
     ensures macsec_payload { (a b : MacsecPayloadSlice) → IsTrue (⟦<MacsecPayloadSlice<'static> as PartialEq>⟧.eq a b)
         ↔ (macsec_payload_of a ≡ macsec_payload_of b) }

@@ -48,6 +48,7 @@ pub record Deciders : Type 0 where
   pub ipv6_bytes : (reading : Reading) (bytes : List ℕ) (packet : IpPacket Ipv6Header) → IsIpv6 reading bytes packet
       → AreIpv6Bytes bytes packet
   pub transport : (reading : Reading) (number : ℕ) (fragmented : Bool) (bytes : List ℕ) → AreBytes bytes
-      → IsDecided (IsTransportPart reading number fragmented bytes) (RefusesTransportPart reading number fragmented bytes)
+      → IsDecided (IsTransportPart reading number fragmented bytes)
+      (RefusesTransportPart reading number fragmented bytes)
   pub transport_bytes : (reading : Reading) (number : ℕ) (fragmented : Bool) (bytes : List ℕ)
       (part : Option TransportLayer) → IsTransportPart reading number fragmented bytes part → AreTransport bytes part

@@ -85,7 +85,8 @@ behind_bytes_are : (found : Option EtherPayload) (bytes : List ℕ) (extensions 
     → IfSome (ether_payload_behind found extensions) (λ payload. payload.bytes ≡ payload_behind bytes extensions)
 behind_bytes_are found bytes [] same = same
 behind_bytes_are found bytes (extension ∷ others) same =
-    behind_bytes_are (extension_ether_payload extension) (extension_payload extension) others (extension_bytes_are extension)
+    behind_bytes_are (extension_ether_payload extension) (extension_payload extension) others
+    (extension_bytes_are extension)
 
 protocol_bytes_are : (type : Option EtherType) (bytes : List ℕ)
     → IfSome (option_map (whole_ether_payload bytes) type) (λ payload. payload.bytes ≡ bytes)
@@ -108,8 +109,10 @@ parts_bytes_are None [] = tt
 parts_bytes_are (Some layer) [] = link_bytes_are layer
 parts_bytes_are layer (extension ∷ others) =
     with_source_bytes (extensions_len_source (extension ∷ others))
-    (ether_payload_behind (extension_ether_payload extension) others) (payload_behind (extension_payload extension) others)
-    (behind_bytes_are (extension_ether_payload extension) (extension_payload extension) others (extension_bytes_are extension))
+    (ether_payload_behind (extension_ether_payload extension) others)
+    (payload_behind (extension_payload extension) others)
+    (behind_bytes_are (extension_ether_payload extension) (extension_payload extension)
+    others (extension_bytes_are extension))
 
 -- the bytes behind a transport header
 header_bytes_are : (read : TransportHeader) (bytes : List ℕ) → payload_part_bytes (behind_header read bytes) ≡ bytes
@@ -119,7 +122,8 @@ header_bytes_are (header.Icmpv4 message) bytes = refl
 header_bytes_are (header.Icmpv6 message) bytes = refl
 
 -- the bytes of the payload of the last layer
-innermost_bytes_are : (unread : PayloadPart) (bytes : List ℕ) (net : Option NetLayer) (transport : Option TransportLayer)
+innermost_bytes_are : (unread : PayloadPart) (bytes : List ℕ) (net : Option NetLayer)
+    (transport : Option TransportLayer)
     → payload_part_bytes unread ≡ bytes
     → payload_part_bytes (innermost_part unread net transport) ≡ inner_payload bytes net transport
 innermost_bytes_are unread bytes net (Some layer) same = header_bytes_are layer.header layer.payload
@@ -201,8 +205,10 @@ ethernet_fills bytes frame base old new is alone fills = (
   },
   (frame, is, refl, fills.inside),
   fills.filled
-      ∙ ap (λ (h : Headers). filled_with h (open_behind (whole_ether_payload frame.payload frame.header.ether_type) fills.extensions) fills.extensions fills.net fills.transport) alone
-      ∙ ap (λ (p : PayloadPart). filled_with (link_alone (Some (link.Ethernet2 frame.header))) p fills.extensions fills.net fills.transport)
+      ∙ ap (λ (h : Headers). filled_with h (open_behind (whole_ether_payload frame.payload frame.header.ether_type)
+      fills.extensions) fills.extensions fills.net fills.transport) alone
+      ∙ ap (λ (p : PayloadPart). filled_with (link_alone (Some (link.Ethernet2 frame.header)))
+      p fills.extensions fills.net fills.transport)
       (open_in_ethernet frame.header frame.payload fills.extensions),
 )
 
@@ -235,8 +241,10 @@ sll_fills bytes frame type base old new is typed alone fills = (
         fills.transport) (sym typed) fills.inside,
   ),
   fills.filled
-      ∙ ap (λ (h : Headers). filled_with h (open_behind (whole_ether_payload frame.payload type) fills.extensions) fills.extensions fills.net fills.transport) alone
-      ∙ ap (λ (p : PayloadPart). filled_with (link_alone (Some (link.LinuxSll frame.header))) p fills.extensions fills.net fills.transport)
+      ∙ ap (λ (h : Headers). filled_with h (open_behind (whole_ether_payload frame.payload type) fills.extensions)
+      fills.extensions fills.net fills.transport) alone
+      ∙ ap (λ (p : PayloadPart). filled_with (link_alone (Some (link.LinuxSll frame.header)))
+      p fills.extensions fills.net fills.transport)
       (open_in_sll frame.header type frame.payload fills.extensions typed),
 )
 
@@ -273,7 +281,8 @@ ether_payload_fills bytes type base old new alone fills = (
   },
   (refl, fills.inside),
   fills.filled
-      ∙ ap (λ (h : Headers). filled_with h (open_behind (whole_ether_payload bytes type) fills.extensions) fills.extensions fills.net fills.transport) alone
+      ∙ ap (λ (h : Headers). filled_with h (open_behind (whole_ether_payload bytes type) fills.extensions)
+      fills.extensions fills.net fills.transport) alone
       ∙ ap (λ (p : PayloadPart). filled_with (link_alone None) p fills.extensions fills.net fills.transport)
       (open_in_payload type bytes fills.extensions),
 )
@@ -317,7 +326,8 @@ whole_shown : (slice : EtherPayloadSlice) (type : EtherType) (bytes : List ℕ) 
 whole_shown slice type bytes same_type whole same_bytes =
     λ i. record { ether_type = same_type i; len_source = whole i; bytes = same_bytes i }
 
-pub ethernet_filled : (bytes left : List ℕ) (frame : Ethernet2Slice) (read : Ethernet2Header) (payload : EtherPayloadSlice)
+pub ethernet_filled : (bytes left : List ℕ) (frame : Ethernet2Slice) (read : Ethernet2Header)
+    (payload : EtherPayloadSlice)
     (base : Headers) (packet new : PacketHeaders)
     → IsEthernet2 bytes (ethernet2_slice_parts frame left) → read ≡ ethernet2_slice_header frame
     → payload.ether_type ≡ (ethernet2_slice_header frame).ether_type → payload.len_source ≡ source.Slice
@@ -348,11 +358,14 @@ ethernet_behind_refused bytes left frame payload base packet read error is same_
     inr (
       parts,
       is,
-      subst (λ (b : List ℕ). RefusesInside headers most_link_exts ethernet2_header_len (Some parts.header.ether_type) b error)
+      subst (λ (b : List ℕ). RefusesInside headers most_link_exts ethernet2_header_len
+          (Some parts.header.ether_type) b error)
           same_bytes
-          (subst (λ (t : EtherType). RefusesInside headers most_link_exts ethernet2_header_len (Some t) payload.payload.now error)
+          (subst (λ (t : EtherType). RefusesInside headers most_link_exts ethernet2_header_len
+          (Some t) payload.payload.now error)
           same_type
-          (subst (λ (n : ℕ). RefusesInside headers n ethernet2_header_len (Some payload.ether_type) payload.payload.now error)
+          (subst (λ (n : ℕ). RefusesInside headers n ethernet2_header_len (Some payload.ether_type)
+          payload.payload.now error)
           (whole_room packet base read alone) refused)),
     )
 
@@ -373,7 +386,8 @@ sll_filled bytes left shown frame read type payload base packet new is header_is
     (subst (λ (n : ℕ). FillsInside n (ether_payload_of payload) (headers_of packet) (headers_of new))
     (whole_room packet base (Some (link.LinuxSll read)) alone) fills))
 
-pub sll_left_open : (bytes left shown : List ℕ) (frame : LinuxSllSlice) (read : LinuxSllHeader) (base middle new : Headers)
+pub sll_left_open : (bytes left shown : List ℕ) (frame : LinuxSllSlice) (read : LinuxSllHeader)
+    (base middle new : Headers)
     → IsLinuxSll bytes (linux_sll_slice_parts frame left) → read ≡ linux_sll_slice_header frame
     → protocol_ether_type (linux_sll_slice_header frame).protocol_type ≡ None → shown ≡ linux_sll_slice_payload frame
     → middle ≡ begun base (Some (link.LinuxSll read))
@@ -382,10 +396,12 @@ pub sll_left_open : (bytes left shown : List ℕ) (frame : LinuxSllSlice) (read 
 sll_left_open bytes left shown frame read base middle new is header_is none same_bytes alone filled =
     sll_open bytes (linux_sll_slice_parts frame left) base middle new is none
     (alone ∙ ap (λ (h : LinuxSllHeader). begun base (Some (link.LinuxSll h))) header_is)
-    (filled ∙ ap (λ (b : List ℕ). record middle { net = None; transport = None; payload = macsec_modified b }) same_bytes)
+    (filled
+    ∙ ap (λ (b : List ℕ). record middle { net = None; transport = None; payload = macsec_modified b }) same_bytes)
 
 pub sll_behind_refused : (bytes left shown : List ℕ) (frame : LinuxSllSlice) (type : EtherType)
-    (payload : EtherPayloadSlice) (base : Headers) (packet : PacketHeaders) (read : Option LinkHeader) (error : SliceError)
+    (payload : EtherPayloadSlice) (base : Headers) (packet : PacketHeaders) (read : Option LinkHeader)
+    (error : SliceError)
     → IsLinuxSll bytes (linux_sll_slice_parts frame left)
     → protocol_ether_type (linux_sll_slice_header frame).protocol_type ≡ Some type
     → ether_payload_of payload ≡ whole_ether_payload shown type → shown ≡ linux_sll_slice_payload frame
@@ -400,10 +416,13 @@ sll_behind_refused bytes left shown frame type payload base packet read error is
       is,
       subst (λ (t : Option EtherType). RefusesInside headers most_link_exts linux_sll_header_len t parts.payload error)
           (sym typed)
-          (subst (λ (b : List ℕ). RefusesInside headers most_link_exts linux_sll_header_len (Some type) b error) same_bytes
-          (subst (λ (p : EtherPayload). RefusesInside headers most_link_exts linux_sll_header_len (Some p.ether_type) p.bytes error)
+          (subst (λ (b : List ℕ). RefusesInside headers most_link_exts linux_sll_header_len
+          (Some type) b error) same_bytes
+          (subst (λ (p : EtherPayload). RefusesInside headers most_link_exts linux_sll_header_len
+          (Some p.ether_type) p.bytes error)
           whole
-          (subst (λ (n : ℕ). RefusesInside headers n linux_sll_header_len (Some payload.ether_type) payload.payload.now error)
+          (subst (λ (n : ℕ). RefusesInside headers n linux_sll_header_len (Some payload.ether_type)
+          payload.payload.now error)
           (whole_room packet base read alone) refused))),
     )
 

@@ -67,11 +67,13 @@ ethernet_refused bytes left payload frame type error is same_type same_payload r
       ethernet2_slice_parts frame left,
       is,
       along (λ (t : EtherType) (b : List ℕ). RefusesInside slices most_link_exts ethernet2_header_len (Some t) b error)
-          type (ethernet2_slice_header frame).ether_type payload (ethernet2_slice_payload frame) same_type same_payload refused,
+          type (ethernet2_slice_header frame).ether_type payload (ethernet2_slice_payload frame)
+          same_type same_payload refused,
     )
 
 -- behind the header of a Linux cooked capture
-pub linux_sll_holds : (bytes left payload : List ℕ) (frame : LinuxSllSlice) (type : Option EtherType) (packet : SlicedPacket)
+pub linux_sll_holds : (bytes left payload : List ℕ) (frame : LinuxSllSlice) (type : Option EtherType)
+    (packet : SlicedPacket)
     → bytes ≡ linux_sll_slice_bytes frame ++ left → IsLinuxSll bytes (linux_sll_slice_parts frame left)
     → type ≡ protocol_ether_type (linux_sll_slice_header frame).protocol_type → payload ≡ linux_sll_slice_payload frame
     → HoldsBehind (link.LinuxSll frame) type payload packet
@@ -90,7 +92,8 @@ linux_sll_holds bytes left payload frame type packet parts is same_type same_pay
 )
 
 -- and a refusal there
-pub linux_sll_refused : (bytes left payload : List ℕ) (frame : LinuxSllSlice) (type : Option EtherType) (error : SliceError)
+pub linux_sll_refused : (bytes left payload : List ℕ) (frame : LinuxSllSlice)
+    (type : Option EtherType) (error : SliceError)
     → IsLinuxSll bytes (linux_sll_slice_parts frame left)
     → type ≡ protocol_ether_type (linux_sll_slice_header frame).protocol_type → payload ≡ linux_sll_slice_payload frame
     → RefusesInside slices most_link_exts linux_sll_header_len type payload error
@@ -100,7 +103,8 @@ linux_sll_refused bytes left payload frame type error is same_type same_payload 
       linux_sll_slice_parts frame left,
       is,
       along (λ (t : Option EtherType) (b : List ℕ). RefusesInside slices most_link_exts linux_sll_header_len t b error)
-          type (protocol_ether_type (linux_sll_slice_header frame).protocol_type) payload (linux_sll_slice_payload frame)
+          type (protocol_ether_type (linux_sll_slice_header frame).protocol_type) payload
+          (linux_sll_slice_payload frame)
           same_type same_payload refused,
     )
 

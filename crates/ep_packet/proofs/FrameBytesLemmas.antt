@@ -56,7 +56,8 @@ behind_bytes deciders reading (arp packet) transport none =
     subst (AreTransport []) (sym none) (record { header = []; left = []; encodes = refl; parts = refl })
 
 -- what lies behind a net layer is known from it alone
-behind_same : (bytes others : List ℕ) (layer : NetLayer) → behind_net bytes (Some layer) ≡ behind_net others (Some layer)
+behind_same : (bytes others : List ℕ) (layer : NetLayer)
+    → behind_net bytes (Some layer) ≡ behind_net others (Some layer)
 behind_same bytes others (ipv4 header extensions payload) = refl
 behind_same bytes others (ipv6 header extensions payload) = refl
 behind_same bytes others (arp packet) = refl
@@ -64,7 +65,8 @@ behind_same bytes others (arp packet) = refl
 behind_any : (bytes others : List ℕ) (net : Option NetLayer) (layer : NetLayer) → net ≡ Some layer
     → behind_net bytes net ≡ behind_net others net
 behind_any bytes others net layer same =
-    subst (λ (x : Option NetLayer). behind_net bytes x ≡ behind_net others x) (sym same) (behind_same bytes others layer)
+    subst (λ (x : Option NetLayer). behind_net bytes x ≡ behind_net others x) (sym same)
+    (behind_same bytes others layer)
 
 -- the bytes of a net layer, and of the transport layer in it
 layer_net_bytes : (bytes : List ℕ) (layer : NetLayer) (transport : Option TransportLayer) → LayerBytes bytes layer
@@ -106,7 +108,8 @@ record InsideBytes (bytes : List ℕ) (extensions : List LinkExtension)
   tags_encode : EncodesTags extensions tags
   net_encodes : EncodesNet net net_header
   transport_encodes : EncodesTransport transport transport_header
-  parts : bytes ≡ tags ++ (net_header ++ (transport_header ++ (inner_payload (payload_behind bytes extensions) net transport ++ left)))
+  parts : bytes ≡ tags
+      ++ (net_header ++ (transport_header ++ (inner_payload (payload_behind bytes extensions) net transport ++ left)))
 
 -- a net layer before which no extensions stand
 bare_bytes : (bytes : List ℕ) (net : Option NetLayer) (transport : Option TransportLayer)
@@ -157,7 +160,8 @@ inside_bytes deciders reading (suc room) (Some type) bytes [] net transport part
 inside_bytes deciders reading (suc room) (Some type) bytes (extension ∷ others) net transport part =
     let front = deciders.extension.bytes type bytes (extension, part.0.0) part.0.1 in
     tagged_bytes bytes front.0 part.0.0 extension others net transport front.1 front.2
-    (inside_bytes deciders reading room (extension_type extension) (extension_payload extension) others net transport part.1)
+    (inside_bytes deciders reading room (extension_type extension) (extension_payload extension)
+    others net transport part.1)
 
 -- ---- the frame
 
@@ -197,7 +201,8 @@ ip_bytes bytes layers layer no_link no_tags same inside = record {
   net_header = inside.net_encodes;
   transport_header = inside.transport_encodes;
   parts = inside.parts
-      ∙ ap (λ (x : List ℕ). inside.net_header ++ (inside.transport_header ++ (payload_in x layers.transport ++ inside.left)))
+      ∙ ap (λ (x : List ℕ). inside.net_header ++ (inside.transport_header
+      ++ (payload_in x layers.transport ++ inside.left)))
       (behind_any bytes (payload_behind (link_payload layers.link) layers.link_exts) layers.net layer same);
 }
 

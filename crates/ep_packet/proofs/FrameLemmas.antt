@@ -76,7 +76,8 @@ frame_decided : {H : Type 0} {Is : Parts H → Type 0} {Refuses : SliceError →
 frame_decided link type deciders reading len decided payload_fits =
     decided_as (frame_layers link) (λ error. error)
     (decided_then decided
-    (λ frame is. inside_decided deciders reading most_link_exts len (type frame.header) frame.payload (payload_fits frame is)))
+    (λ frame is. inside_decided deciders reading most_link_exts len (type frame.header)
+    frame.payload (payload_fits frame is)))
     (record {
       there = λ part is. (part.0, is.0, refl, is.1);
       back = λ layers frame. (

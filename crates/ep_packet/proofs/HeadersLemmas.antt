@@ -128,7 +128,8 @@ part_content bytes (ipv6_part packet) is =
     let are = ipv6_packet_bytes headers bytes packet is in
     let cut = is.cut in
     let front = ipv6_bytes packet.header in
-    let whole : length bytes ≡ (net_header_len (ip_layer (ipv6_part packet)) + length packet.payload.bytes) + length packet.left =
+    let whole : length bytes ≡ (net_header_len (ip_layer (ipv6_part packet)) + length packet.payload.bytes)
+    + length packet.left =
     omega (
       arith,
       are.len_is,
@@ -183,7 +184,8 @@ ipv6_content bytes packet is =
     let are = ipv6_packet_bytes headers bytes packet is in
     let cut = is.cut in
     let front = ipv6_bytes packet.header in
-    let whole : length bytes ≡ (net_header_len (ip_layer (ipv6_part packet)) + length packet.payload.bytes) + length packet.left =
+    let whole : length bytes ≡ (net_header_len (ip_layer (ipv6_part packet)) + length packet.payload.bytes)
+    + length packet.left =
     omega (
       arith,
       are.len_is,
@@ -280,7 +282,8 @@ fills_kind found kind bytes unread other old new same fills = record {
         net = option_map net_header_in fills.net;
         transport = option_map transport_header_in fills.transport;
         payload = p;
-      }) (subst (λ (n : Option NetLayer). innermost_part unread n fills.transport ≡ innermost_part other n fills.transport)
+      }) (subst (λ (n : Option NetLayer). innermost_part unread n fills.transport
+      ≡ innermost_part other n fills.transport)
       (sym fills.part.2) (net_innermost fills.part.0 fills.transport unread other));
 }
 
@@ -295,7 +298,8 @@ fills_no_more room payload old new why fills = record {
   transport = fills.transport;
   inside = ends_at headers room payload.ether_type payload.bytes why fills.net fills.transport fills.part;
   filled = fills.filled
-      ∙ ap (λ (x : List LinkExtHeader). with_net (record old { link_exts = x }) (ether payload) fills.net fills.transport)
+      ∙ ap (λ (x : List LinkExtHeader). with_net (record old { link_exts = x }) (ether payload)
+      fills.net fills.transport)
       (sym (append-nil old.link_exts));
 }
 

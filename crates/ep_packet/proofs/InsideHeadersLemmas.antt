@@ -56,7 +56,8 @@ extension_source : (type : EtherType) (bytes left : List ℕ) (extension : LinkE
     → (inside : EtherPayload) → extension_ether_payload extension ≡ Some inside → (outer : LenSource)
     → cut_by outer inside.len_source ≡ (if has_short_len extension then source.MacsecShortLength else outer)
 extension_source type bytes left (vlan tag payload) is inside same outer =
-    let found = ap (λ (p : EtherPayload). p.len_source) (some_inside (whole_ether_payload payload tag.ether_type) inside same) in
+    let found = ap (λ (p : EtherPayload). p.len_source)
+    (some_inside (whole_ether_payload payload tag.ether_type) inside same) in
     ap (cut_by outer) (sym found)
 extension_source type bytes left (macsec tag (unmodified t found b)) is inside same outer =
     let shown = ap (λ (p : EtherPayload). p.len_source)
@@ -88,9 +89,11 @@ pub open_step : (type : EtherType) (bytes left : List ℕ) (extension : LinkExte
 open_step type bytes left extension others outer inside is same =
     let set = cut_by outer.len_source inside.len_source in
     let ends : source_behind set others ≡ source_behind outer.len_source (extension ∷ others) =
-    ap (λ (s : LenSource). source_behind s others) (extension_source type bytes left extension is inside same outer.len_source)
+    ap (λ (s : LenSource). source_behind s others)
+    (extension_source type bytes left extension is inside same outer.len_source)
     ∙ sym (source_step (has_short_len extension) (have_short_len others) outer.len_source) in
-    ap (λ (s : LenSource). open_part (option_map (ending_by s) (ether_payload_behind (Some (ending_by set inside)) others))
+    ap (λ (s : LenSource). open_part (option_map (ending_by s)
+    (ether_payload_behind (Some (ending_by set inside)) others))
     (payload_behind inside.bytes others)) ends
     ∙ ap (λ x. open_part x (payload_behind inside.bytes others))
     (sym (behind_again (source_behind outer.len_source (extension ∷ others)) set inside others))
@@ -130,9 +133,11 @@ fills_one room rest payload inside left found old middle new more is same there 
                 behind.net behind.transport) (sym typed.1) behind.inside),
           );
       filled = behind.filled
-          ∙ ap (λ (h : Headers). with_net (record h { link_exts = h.link_exts ++ tags }) (open_behind unread behind.extensions)
+          ∙ ap (λ (h : Headers). with_net (record h { link_exts = h.link_exts ++ tags })
+          (open_behind unread behind.extensions)
           behind.net behind.transport) there
-          ∙ ap (λ (x : List LinkExtHeader). with_net (record old { link_exts = x }) (open_behind unread behind.extensions)
+          ∙ ap (λ (x : List LinkExtHeader). with_net (record old { link_exts = x })
+          (open_behind unread behind.extensions)
           behind.net behind.transport) (append_assoc old.link_exts (extension_header found ∷ []) tags)
           ∙ ap (λ (p : PayloadPart). with_net
           (record old { link_exts = old.link_exts ++ map extension_header (found ∷ behind.extensions) }) p
@@ -155,14 +160,16 @@ fills_modified room rest payload left found old new more is none filled = record
   extensions = found ∷ [];
   net = None;
   transport = None;
-  inside = subst (λ (n : ℕ). IsInside headers n (Some payload.ether_type) payload.bytes (found ∷ []) None None) (sym more) (
-    (left, is),
-    subst (λ (t : Option EtherType). IsInside headers rest t (extension_payload found) [] None None)
-        (sym (untyped_there found none)) (refl, refl, refl),
-  );
+  inside = subst (λ (n : ℕ). IsInside headers n (Some payload.ether_type) payload.bytes
+      (found ∷ []) None None) (sym more) (
+        (left, is),
+        subst (λ (t : Option EtherType). IsInside headers rest t (extension_payload found) [] None None)
+            (sym (untyped_there found none)) (refl, refl, refl),
+      );
   filled = filled
       ∙ ap (λ x. with_net (with_tag old found)
-      (open_part (option_map (ending_by (source_behind payload.len_source (found ∷ []))) x) (extension_payload found)) None None)
+      (open_part (option_map (ending_by (source_behind payload.len_source (found ∷ []))) x)
+      (extension_payload found)) None None)
       (sym none);
 }
 
@@ -181,7 +188,9 @@ tag_refused room rest offset len payload inside left found error more is same ta
       found,
       left,
       is,
-      subst (λ (t : Option EtherType). RefusesInside headers rest behind t (extension_payload found) error) (sym typed.0)
+      subst (λ (t : Option EtherType). RefusesInside headers rest behind t (extension_payload found)
+          error) (sym typed.0)
           (subst (λ (b : List ℕ). RefusesInside headers rest behind (Some inside.ether_type) b error) (sym typed.1)
-          (subst (λ (n : ℕ). RefusesInside headers rest (offset + n) (Some inside.ether_type) inside.bytes error) tag_len refused)),
+          (subst (λ (n : ℕ). RefusesInside headers rest (offset + n) (Some inside.ether_type) inside.bytes error)
+          tag_len refused)),
     )))

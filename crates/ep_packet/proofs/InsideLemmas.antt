@@ -51,7 +51,8 @@ abbrev RefusesTagInside : Reading → ℕ → ℕ → EtherType → List ℕ →
 RefusesTagInside reading room offset type bytes = RefusesEither
     (IsLinkExtension type bytes)
     (RefusesExtensionAt offset type bytes)
-    (λ (part : ExtensionPart). RefusesInside reading room (behind offset part) (extension_type part.0) (extension_payload part.0))
+    (λ (part : ExtensionPart). RefusesInside reading room (behind offset part)
+    (extension_type part.0) (extension_payload part.0))
 
 -- bytes whose type can't be read hold nothing
 untyped_only : (reading : Reading) (room : ℕ) (bytes : List ℕ) (inside : Inside)
@@ -80,7 +81,8 @@ no_tag_back laws reading room type bytes none (extension ∷ others, net, transp
 -- and they are refused as such
 no_tag_refused_back : ExtensionLaws → (reading : Reading) (room offset : ℕ) (type : EtherType) (bytes : List ℕ)
     → (¬ BeginsLinkExtension type) → (error : SliceError)
-    → RefusesInside reading (suc room) offset (Some type) bytes error → RefusesNetPart reading offset (net_kind type) bytes error
+    → RefusesInside reading (suc room) offset (Some type) bytes error
+    → RefusesNetPart reading offset (net_kind type) bytes error
 no_tag_refused_back laws reading room offset type bytes none error (inl refused) = refused.1
 no_tag_refused_back laws reading room offset type bytes none error (inr (inl refused)) =
     absurd (none (laws.refused type bytes refused.0 refused.1))
@@ -134,5 +136,6 @@ inside_decided deciders reading (suc room) offset (Some type) bytes fits =
           (tag_refused_back reading room offset type bytes begins))
       | inr none ↦ decided_as bare (λ error. error) (net_decided deciders reading offset (net_kind type) bytes fits)
           (record { there = λ part is. (none, is); back = no_tag_back deciders.extension reading room type bytes none })
-          (same_image (λ error refused. inl (none, refused)) (no_tag_refused_back deciders.extension reading room offset type bytes none))
+          (same_image (λ error refused. inl (none, refused))
+          (no_tag_refused_back deciders.extension reading room offset type bytes none))
     ]

@@ -126,7 +126,8 @@ pub ipv4_payload_refused : (offset len : ℕ) (net : NetSlice) (packet : Ipv4Sli
     → len ≡ net_header_len (net_layer_of (slice.Ipv4 packet)) → RefusesTransportIn slices (offset + len) payload error
     → RefusesTransportBehind slices (offset + net_header_len (net_layer_of net)) (net_payload (net_layer_of net)) error
 ipv4_payload_refused offset len net packet payload error is same lens refused =
-    subst (λ (n : NetSlice). RefusesTransportBehind slices (offset + net_header_len (net_layer_of n)) (net_payload (net_layer_of n)) error)
+    subst (λ (n : NetSlice). RefusesTransportBehind slices (offset + net_header_len (net_layer_of n))
+    (net_payload (net_layer_of n)) error)
     (sym is)
     (along (λ (l : ℕ) (p : IpPayload). RefusesTransportIn slices (offset + l) p error)
     len (net_header_len (net_layer_of (slice.Ipv4 packet))) payload (ipv4_slice_payload packet) lens same refused)

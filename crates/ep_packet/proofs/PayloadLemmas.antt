@@ -31,7 +31,8 @@ behind_last extension [] = refl
 behind_last extension (next ∷ others) = behind_last next others
 
 ether_behind_last : (extension : LinkExtension) (others : List LinkExtension)
-    → ether_payload_behind (extension_ether_payload extension) others ≡ extension_ether_payload (last_of extension others)
+    → ether_payload_behind (extension_ether_payload extension) others
+    ≡ extension_ether_payload (last_of extension others)
 unfolding last_of
 ether_behind_last extension [] = refl
 ether_behind_last extension (next ∷ others) = ether_behind_last next others
@@ -47,7 +48,8 @@ found_last extension others last is =
 
 -- the extension that the last of some slices shows is the last one
 pub last_shown : (slices : List LinkExtSlice) (last : LinkExtSlice) → slice_get slices (length slices - 1) ≡ Some last
-    → slice_get (map link_extension_of slices) (length (map link_extension_of slices) - 1) ≡ Some (link_extension_of last)
+    → slice_get (map link_extension_of slices) (length (map link_extension_of slices) - 1)
+    ≡ Some (link_extension_of last)
 last_shown slices last is =
     ap (λ (n : ℕ). slice_get (map link_extension_of slices) (n - 1)) (length-map slices link_extension_of)
     ∙ slice_get-map link_extension_of slices (length slices - 1) ∙ ap (option_map link_extension_of) is
@@ -57,7 +59,8 @@ pub payload_of_last : (bytes : List ℕ) (extensions : List LinkExtension) (last
     → slice_get extensions (length extensions - 1) ≡ Some last
     → payload_behind bytes extensions ≡ extension_payload last
 payload_of_last bytes [] last is = absurd (cc is)
-payload_of_last bytes (extension ∷ others) last is = behind_last extension others ∙ ap extension_payload (found_last extension others last is)
+payload_of_last bytes (extension ∷ others) last is =
+    behind_last extension others ∙ ap extension_payload (found_last extension others last is)
 
 -- a payload whose end this set
 abbrev pub with_source : LenSource → EtherPayload → EtherPayload
@@ -66,7 +69,8 @@ with_source source payload = record payload { len_source = source }
 -- and so it is with its type
 pub ether_payload_of_last : (link : Option LinkLayer) (extensions : List LinkExtension) (last : LinkExtension)
     → slice_get extensions (length extensions - 1) ≡ Some last
-    → ether_payload_of_parts link extensions ≡ option_map (with_source (extensions_len_source extensions)) (extension_ether_payload last)
+    → ether_payload_of_parts link extensions
+    ≡ option_map (with_source (extensions_len_source extensions)) (extension_ether_payload last)
 ether_payload_of_last link [] last is = absurd (cc is)
 ether_payload_of_last link (extension ∷ others) last is =
     ap (option_map (with_source (extensions_len_source (extension ∷ others))))

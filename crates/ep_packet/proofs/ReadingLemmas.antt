@@ -44,7 +44,8 @@ ipv4_reads law bytes packet is = record {
   cut = is.cut;
   chain = law version_4 packet.header.protocol.0 is.content
       (chain_of packet.extensions packet.payload.number packet.payload.bytes) is.chain
-      (one_at_most packet.header.protocol.0 is.content packet.extensions packet.payload.number packet.payload.bytes is.chain);
+      (one_at_most packet.header.protocol.0 is.content packet.extensions packet.payload.number
+      packet.payload.bytes is.chain);
   fragmented = is.fragmented;
   source = is.source;
 }
@@ -119,7 +120,8 @@ last_agrees : (bytes : List ℕ) (net : Option NetLayer) (transport other : Opti
     → LastAgrees transport (inner_payload bytes net transport) (inner_payload bytes net other)
 last_agrees bytes net None other none = ap (inner_payload bytes net) (sym none)
 last_agrees bytes net (Some layer) other (second, is, same, agrees) =
-    subst (λ (o : Option TransportLayer). LastAgrees (Some layer) layer.payload (inner_payload bytes net o)) (sym is) agrees
+    subst (λ (o : Option TransportLayer). LastAgrees (Some layer) layer.payload (inner_payload bytes net o))
+    (sym is) agrees
 
 -- ---- the frame
 
@@ -148,7 +150,8 @@ inside_reads law (suc room) (Some type) bytes [] net transport (begins, part) on
     let reads = net_part_reads law (net_kind type) bytes net transport part once in
     (reads.0, (begins, reads.1), reads.2)
 inside_reads law (suc room) (Some type) bytes (extension ∷ others) net transport (tag, part) once =
-    let reads = inside_reads law room (extension_type extension) (extension_payload extension) others net transport part once in
+    let reads = inside_reads law room (extension_type extension) (extension_payload extension)
+    others net transport part once in
     (reads.0, (tag, reads.1), reads.2)
 
 -- the same layers with another transport layer
@@ -163,7 +166,8 @@ transport_agrees layers other agrees = record {
   link_exts = refl;
   net = refl;
   transport = agrees;
-  payload = last_agrees (payload_behind (link_payload layers.link) layers.link_exts) layers.net layers.transport other agrees;
+  payload = last_agrees (payload_behind (link_payload layers.link) layers.link_exts) layers.net
+      layers.transport other agrees;
 }
 
 -- a frame as slices are read is one as headers are read
@@ -171,14 +175,17 @@ pub frame_reads : ChainLaw → (entry : Entry) (bytes : List ℕ) (layers : Laye
     → HasNoSecondKind layers.net
     → (other : Layers) × IsFrameIn headers entry bytes other × Agree layers other
 frame_reads law ethernet bytes layers (frame, is, link, inside) once =
-    let reads = inside_reads law most_link_exts (Some frame.header.ether_type) frame.payload layers.link_exts layers.net layers.transport inside once in
+    let reads = inside_reads law most_link_exts (Some frame.header.ether_type) frame.payload
+    layers.link_exts layers.net layers.transport inside once in
     (with_transport layers reads.0, (frame, is, link, reads.1), transport_agrees layers reads.0 reads.2)
 frame_reads law linux_sll bytes layers (frame, is, link, inside) once =
     let type = protocol_ether_type frame.header.protocol_type in
-    let reads = inside_reads law most_link_exts type frame.payload layers.link_exts layers.net layers.transport inside once in
+    let reads = inside_reads law most_link_exts type frame.payload layers.link_exts layers.net
+    layers.transport inside once in
     (with_transport layers reads.0, (frame, is, link, reads.1), transport_agrees layers reads.0 reads.2)
 frame_reads law (ether_type type) bytes layers (link, inside) once =
-    let reads = inside_reads law most_link_exts (Some type) bytes layers.link_exts layers.net layers.transport inside once in
+    let reads = inside_reads law most_link_exts (Some type) bytes layers.link_exts layers.net
+    layers.transport inside once in
     (with_transport layers reads.0, (link, reads.1), transport_agrees layers reads.0 reads.2)
 frame_reads law ip bytes layers (no_link, no_tags, part) once =
     let reads = net_part_reads law (Some any_ip) bytes layers.net layers.transport part once in

@@ -38,7 +38,8 @@ pub found_there : (type : EtherType) (bytes : List ℕ) (answer : Option LinkExt
     → (left : List ℕ) × (bytes ≡ link_ext_slice_bytes found ++ left)
     × IsLinkExtension type bytes (link_extension_of found, left)
 found_there type bytes answer found same ok =
-    subst (λ (o : Option LinkExtSlice). IfSome o (λ shown. (left : List ℕ) × (bytes ≡ link_ext_slice_bytes shown ++ left)
+    subst (λ (o : Option LinkExtSlice). IfSome o
+    (λ shown. (left : List ℕ) × (bytes ≡ link_ext_slice_bytes shown ++ left)
     × IsLinkExtension type bytes (link_extension_of shown, left))) same ok
 
 -- and that it has found none

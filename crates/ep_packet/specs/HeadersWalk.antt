@@ -34,7 +34,8 @@ ending_by outer payload = record payload { len_source = outer }
 -- the payload behind some extensions, which lie in a payload
 abbrev pub open_behind : EtherPayload → List LinkExtension → PayloadPart
 open_behind payload extensions = open_part
-    (option_map (ending_by (source_behind payload.len_source extensions)) (ether_payload_behind (Some payload) extensions))
+    (option_map (ending_by (source_behind payload.len_source extensions))
+    (ether_payload_behind (Some payload) extensions))
     (payload_behind payload.bytes extensions)
 
 -- these headers, with what was found behind the link extensions

@@ -30,7 +30,8 @@ HasHeaders net =
     length (net_slice_bytes net) ≡ net_header_len (net_layer_of net) + length (net_slice_payload net)
 
 -- The packet has this link layer, and its other layers are what bytes of a type hold, and show these bytes.
-pub record HoldsBehind (link : LinkSlice) (type : Option EtherType) (bytes : List ℕ) (packet : SlicedPacket) : Type 0 where
+pub record HoldsBehind (link : LinkSlice) (type : Option EtherType) (bytes : List ℕ)
+    (packet : SlicedPacket) : Type 0 where
   pub has_link : packet.link ≡ Some link
   pub inside : IsInside slices most_link_exts type bytes (map link_extension_of packet.link_exts.items)
       (option_map net_layer_of packet.net) (option_map transport_layer_of packet.transport)

@@ -111,4 +111,20 @@ pub fn clones()
     ensures ip_headers { (a b : IpHeaders) → ⟦<IpHeaders as Clone>⟧.is_clone a b → b ≡ a }
     ensures net_headers { (a b : NetHeaders) → ⟦<NetHeaders as Clone>⟧.is_clone a b → b ≡ a }
     ensures net_slices { (a b : NetSlice) → ⟦<NetSlice<'static> as Clone>⟧.is_clone a b → b ≡ a }
+    ensures sliced_packets { (a b : SlicedPacket) → ⟦<SlicedPacket<'static> as Clone>⟧.is_clone a b → b ≡ a }
+    ensures packet_headers { (a b : PacketHeaders) → ⟦<PacketHeaders<'static> as Clone>⟧.is_clone a b → b ≡ a }
+{}
+
+/// A clone takes no memory, and so is there.
+pub fn clones_succeed()
+    ensures entries { (a : Entry) → ⟦<Entry as Clone>⟧.is_infallible a }
+    ensures slice_errors { (a : SliceError) → ⟦<SliceError as Clone>⟧.is_infallible a }
+    ensures write_errors { (a : HeadersWriteError) → ⟦<HeadersWriteError as Clone>⟧.is_infallible a }
+    ensures net_errors { (a : NetSetNextHeaderError) → ⟦<NetSetNextHeaderError as Clone>⟧.is_infallible a }
+    ensures payloads { (a : PayloadSlice) → ⟦<PayloadSlice<'static> as Clone>⟧.is_infallible a }
+    ensures ip_headers { (a : IpHeaders) → ⟦<IpHeaders as Clone>⟧.is_infallible a }
+    ensures net_headers { (a : NetHeaders) → ⟦<NetHeaders as Clone>⟧.is_infallible a }
+    ensures net_slices { (a : NetSlice) → ⟦<NetSlice<'static> as Clone>⟧.is_infallible a }
+    ensures sliced_packets { (a : SlicedPacket) → ⟦<SlicedPacket<'static> as Clone>⟧.is_infallible a }
+    ensures packet_headers { (a : PacketHeaders) → ⟦<PacketHeaders<'static> as Clone>⟧.is_infallible a }
 {}

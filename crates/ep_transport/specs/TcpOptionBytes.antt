@@ -9,6 +9,36 @@ use Rattle.ep_transport.specs.declared.tcp_option_element.TcpOptionElement.TheVa
 use Rattle.ep_transport.specs.declared.tcp_option_element.TcpOptionReadError.{TcpOptionReadError}
 use Rattle.ep_transport.specs.declared.tcp_option_element.TcpOptionReadError.TheVariants.{UnexpectedEndOfSlice, UnexpectedSize, UnknownId}
 
+-- ---- the kinds of options, their first byte
+
+-- the end of the list of options, behind which no other follows (RFC 9293, 3.2)
+abbrev pub end_of_list_kind : ℕ
+end_of_list_kind = 0
+
+-- no operation, a byte between options (RFC 9293, 3.2)
+abbrev pub no_operation_kind : ℕ
+no_operation_kind = 1
+
+-- the maximum segment size (RFC 9293, 3.2 and 3.7.1)
+abbrev pub maximum_segment_size_kind : ℕ
+maximum_segment_size_kind = 2
+
+-- the window scale (RFC 7323, 2.2)
+abbrev pub window_scale_kind : ℕ
+window_scale_kind = 3
+
+-- selective acknowledgements are permitted (RFC 2018, 2)
+abbrev pub selective_acknowledgement_permitted_kind : ℕ
+selective_acknowledgement_permitted_kind = 4
+
+-- a selective acknowledgement (RFC 2018, 3)
+abbrev pub selective_acknowledgement_kind : ℕ
+selective_acknowledgement_kind = 5
+
+-- timestamps (RFC 7323, 3.2)
+abbrev pub timestamps_kind : ℕ
+timestamps_kind = 8
+
 -- bytes, filled up with zero bytes to whole words of 4
 abbrev pub in_words : List ℕ → List ℕ
 in_words bytes = padded ((length bytes + 3) / 4 * 4) bytes
@@ -34,13 +64,14 @@ blocks_bytes (block ∷ others) = block_bytes block ++ blocks_bytes others
 
 -- The bytes of an option: its kind, its length, and what it holds. A block that is not there is passed over.
 abbrev pub option_bytes : TcpOptionElement → List ℕ
-option_bytes Noop = 1 ∷ []
-option_bytes (MaximumSegmentSize size) = 2 ∷ 4 ∷ to_be_bytes w16 size
-option_bytes (WindowScale shift) = 3 ∷ 3 ∷ shift ∷ []
-option_bytes SelectiveAcknowledgementPermitted = 4 ∷ 2 ∷ []
+option_bytes Noop = no_operation_kind ∷ []
+option_bytes (MaximumSegmentSize size) = maximum_segment_size_kind ∷ 4 ∷ to_be_bytes w16 size
+option_bytes (WindowScale shift) = window_scale_kind ∷ 3 ∷ shift ∷ []
+option_bytes SelectiveAcknowledgementPermitted = selective_acknowledgement_permitted_kind ∷ 2 ∷ []
 option_bytes (SelectiveAcknowledgement first others) =
-    5 ∷ (10 + 8 * length (present others)) ∷ (block_bytes first ++ blocks_bytes (present others))
-option_bytes (Timestamp time echo) = 8 ∷ 10 ∷ (to_be_bytes w32 time ++ to_be_bytes w32 echo)
+    selective_acknowledgement_kind ∷ (10 + 8 * length (present others))
+    ∷ (block_bytes first ++ blocks_bytes (present others))
+option_bytes (Timestamp time echo) = timestamps_kind ∷ 10 ∷ (to_be_bytes w32 time ++ to_be_bytes w32 echo)
 
 -- the bytes of some options
 abbrev pub options_bytes : List TcpOptionElement → List ℕ
@@ -86,10 +117,10 @@ pub record IsOption (bytes : List ℕ) (read : TcpOptionElement × List ℕ) : T
   pub blocks : as_read read.0 ≡ read.0
   pub parts : bytes ≡ option_bytes read.0 ++ read.1
 
--- no option follows: there are no bytes, or the first one is the end of the list (kind 0)
+-- no option follows: there are no bytes, or the first one is the kind of the end of the list
 abbrev pub EndsOptions : List ℕ → Type 0
 EndsOptions [] = ⊤
-EndsOptions (kind ∷ rest) = kind ≡ 0
+EndsOptions (kind ∷ rest) = kind ≡ end_of_list_kind
 
 -- what the bytes begin with: an option and the rest, or the end
 abbrev pub IsNextOption : List ℕ → Option (TcpOptionElement × List ℕ) → Type 0
@@ -111,21 +142,22 @@ is_blocks_size size = size == 10 || size == 18 || size == 26 || size == 34
 abbrev pub blocks_rows : List ℕ → List (Bool × TcpOptionReadError)
 blocks_rows bytes =
     let size = slice_index bytes 1 in
-    (nat_lt (length bytes) 2, UnexpectedEndOfSlice 5 2 (length bytes))
-    ∷ (not (is_blocks_size size), UnexpectedSize 5 size)
-    ∷ (nat_lt (length bytes) size, UnexpectedEndOfSlice 5 size (length bytes))
+    (nat_lt (length bytes) 2, UnexpectedEndOfSlice selective_acknowledgement_kind 2 (length bytes))
+    ∷ (not (is_blocks_size size), UnexpectedSize selective_acknowledgement_kind size)
+    ∷ (nat_lt (length bytes) size, UnexpectedEndOfSlice selective_acknowledgement_kind size (length bytes))
     ∷ []
 
 -- the rows of a kind
 abbrev pub kind_rows : ℕ → List ℕ → List (Bool × TcpOptionReadError)
 kind_rows kind bytes =
-    if kind == 0 then []
-    else if kind == 1 then []
-    else if kind == 2 then sized_rows 2 4 bytes
-    else if kind == 3 then sized_rows 3 3 bytes
-    else if kind == 4 then sized_rows 4 2 bytes
-    else if kind == 5 then blocks_rows bytes
-    else if kind == 8 then sized_rows 8 10 bytes
+    if kind == end_of_list_kind then []
+    else if kind == no_operation_kind then []
+    else if kind == maximum_segment_size_kind then sized_rows maximum_segment_size_kind 4 bytes
+    else if kind == window_scale_kind then sized_rows window_scale_kind 3 bytes
+    else if kind == selective_acknowledgement_permitted_kind
+    then sized_rows selective_acknowledgement_permitted_kind 2 bytes
+    else if kind == selective_acknowledgement_kind then blocks_rows bytes
+    else if kind == timestamps_kind then sized_rows timestamps_kind 10 bytes
     else (true, UnknownId kind) ∷ []
 
 -- why bytes begin with no option where no end stands

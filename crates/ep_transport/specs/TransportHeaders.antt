@@ -1,11 +1,10 @@
 -- The header of a transport layer, whichever it is.
-use Rattle.std.specs.Prelude.{◌≡◌, ℕ, ◌-◌, nat_lt, Bool, true, List, [], ◌∷◌, length, Option, Some, None}
+use Rattle.std.specs.Prelude.{◌≡◌, ℕ, Bool, true, List, [], ◌∷◌, Option, Some, None}
 use Rattle.ep_base.specs.declared.err.value_too_big.ValueTooBigError.{ValueTooBigError}
-use Rattle.ep_base.specs.declared.err.value_type.ValueType.{ValueType}
-use Rattle.ep_base.specs.declared.err.value_type.ValueType.TheVariants as value_type
 use Rattle.ep_ip.specs.declared.ipv4_header.Ipv4Header.{Ipv4Header}
 use Rattle.ep_ip.specs.declared.ipv6_header.Ipv6Header.{Ipv6Header}
 use Rattle.ep_base.specs.Checksum.{checksum_of}
+use Rattle.ep_base.specs.Tables.{rows_as}
 use Rattle.ep_transport.specs.declared.udp_header.UdpHeader.{UdpHeader}
 use Rattle.ep_transport.specs.declared.tcp_header.TcpHeader.{TcpHeader}
 use Rattle.ep_transport.specs.declared.icmpv4_header.Icmpv4Header.{Icmpv4Header}
@@ -19,6 +18,7 @@ use Rattle.ep_transport.specs.Tcp.{EncodesTcp, tcp_bytes, tcp_header_len}
 use Rattle.ep_transport.specs.Icmpv4.{EncodesIcmpv4, icmpv4_bytes, icmpv4_kind, icmpv4_len, icmpv4_message}
 use Rattle.ep_transport.specs.Icmpv6.{EncodesIcmpv6, icmpv6_bytes, icmpv6_checksum}
 use Rattle.ep_transport.specs.PseudoHeaders.{udp_checksum_ipv4, udp_checksum_ipv6, tcp_checksum_ipv4, tcp_checksum_ipv6}
+use Rattle.ep_transport.specs.PseudoHeaders.{udp_length_rows_ipv4, udp_length_rows_ipv6, tcp_length_rows_ipv4, tcp_length_rows_ipv6, icmpv6_length_rows}
 
 -- ---- which header it is
 
@@ -63,31 +63,19 @@ EncodesTransportHeader (Icmpv6 header) bytes = EncodesIcmpv6 bytes header
 
 -- ---- its checksum
 
--- a payload is above what the sum can count
-abbrev pub too_long : List ℕ → ℕ → ValueType → ValueTooBigError ℕ
-too_long payload max_allowed value_type =
-    record { actual = length payload; max_allowed = max_allowed; value_type = value_type }
-
 -- why there is no checksum of a header and this payload over IPv4: the length does not fit, or IPv4 does not carry it
 abbrev pub checksum_rows_ipv4 : TransportHeader → List ℕ → List (Bool × TransportChecksumError)
-checksum_rows_ipv4 (Udp header) payload =
-    (nat_lt 65527 (length payload), PayloadLen (too_long payload 65527 value_type.UdpPayloadLengthIpv4)) ∷ []
-checksum_rows_ipv4 (Tcp header) payload =
-    let most = 65535 - tcp_header_len header in
-    (nat_lt most (length payload), PayloadLen (too_long payload most value_type.TcpPayloadLengthIpv4)) ∷ []
+checksum_rows_ipv4 (Udp header) payload = rows_as PayloadLen (udp_length_rows_ipv4 payload)
+checksum_rows_ipv4 (Tcp header) payload = rows_as PayloadLen (tcp_length_rows_ipv4 header payload)
 checksum_rows_ipv4 (Icmpv4 header) payload = []
 checksum_rows_ipv4 (Icmpv6 header) payload = (true, Icmpv6InIpv4) ∷ []
 
 -- why there is none over IPv6: the length does not fit
 abbrev pub checksum_rows_ipv6 : TransportHeader → List ℕ → List (Bool × ValueTooBigError ℕ)
-checksum_rows_ipv6 (Udp header) payload =
-    (nat_lt 4294967287 (length payload), too_long payload 4294967287 value_type.UdpPayloadLengthIpv6) ∷ []
-checksum_rows_ipv6 (Tcp header) payload =
-    let most = 4294967295 - tcp_header_len header in
-    (nat_lt most (length payload), too_long payload most value_type.TcpPayloadLengthIpv6) ∷ []
+checksum_rows_ipv6 (Udp header) payload = udp_length_rows_ipv6 payload
+checksum_rows_ipv6 (Tcp header) payload = tcp_length_rows_ipv6 header payload
 checksum_rows_ipv6 (Icmpv4 header) payload = []
-checksum_rows_ipv6 (Icmpv6 header) payload =
-    (nat_lt 4294967287 (length payload), too_long payload 4294967287 value_type.Icmpv6PayloadLength) ∷ []
+checksum_rows_ipv6 (Icmpv6 header) payload = icmpv6_length_rows payload
 
 -- a header of ICMP with its checksum, which is summed without a pseudo header, whatever the IP header
 abbrev pub with_icmpv4_checksum : List ℕ → Icmpv4Header → TransportHeader

@@ -1,9 +1,9 @@
 //! The header of ICMPv6 (RFC 4443).
 
-ghost use Rattle.std.specs.Prelude.{◌≡◌, ◌+◌, ◌<◌, ◌≤◌, ◌++◌, length, IfOk, IfErr, OnOk, OnErr, IsOkAnd, MatchResult, List, ℕ, [], vec_len, vec_capacity};
-ghost use Rattle.ep_base.specs.Tables.{Parts, parts_of};
-ghost use Rattle.ep_base.specs.declared.err.value_type.ValueType.TheVariants as value_type;
+ghost use Rattle.std.specs.Prelude.{◌≡◌, ◌+◌, ◌<◌, ◌≤◌, ◌++◌, length, IfOk, IfErr, OnOk, OnErr, IsOkAnd, MatchResult, None, List, ℕ, [], vec_len, vec_capacity};
+ghost use Rattle.ep_base.specs.Tables.{Parts, parts_of, Refuses, first_row};
 ghost use Rattle.ep_transport.specs.Icmpv6.{IsIcmpv6, RefusesIcmpv6, icmpv6_bytes, icmpv6_checksum};
+ghost use Rattle.ep_transport.specs.PseudoHeaders.{icmpv6_length_rows};
 
 use crate::icmpv6_slice::Icmpv6Slice;
 use crate::icmpv6_type::Icmpv6Type;
@@ -97,13 +97,9 @@ impl Icmpv6Header {
         payload: &[u8],
     ) -> Result<(), ValueTooBigError<usize>>
         ensures { MatchResult result
-            (λ _. (length payload.now ≤ 4294967287)
+            (λ _. (first_row (icmpv6_length_rows payload.now) ≡ None)
             × (self.new ≡ record self.old { checksum = icmpv6_checksum source destination self.old payload.now }))
-            (λ error. (4294967287 < length payload.now) × (self.new ≡ self.old) × (error ≡ record {
-              actual = length payload.now;
-              max_allowed = 4294967287;
-              value_type = value_type.Icmpv6PayloadLength;
-            })) }
+            (λ error. Refuses (icmpv6_length_rows payload.now) error × (self.new ≡ self.old)) }
     {
         const MAX_PAYLOAD_LEN: usize = 4294967287;
         if payload.len() > MAX_PAYLOAD_LEN {

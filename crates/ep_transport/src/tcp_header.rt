@@ -1,12 +1,11 @@
 //! The header of TCP (RFC 9293, 3.1).
 
-ghost use Rattle.std.specs.Prelude.{◌≡◌, ◌+◌, ◌-◌, ◌^◌, ◌<◌, ◌≤◌, ◌%◌, ◌++◌, length, min, IfOk, IfErr, OnOk, OnErr, IsOkAnd, MatchResult, List, ℕ, [], vec_len, vec_capacity};
+ghost use Rattle.std.specs.Prelude.{◌≡◌, ◌+◌, ◌-◌, ◌^◌, ◌<◌, ◌≤◌, ◌%◌, ◌++◌, length, min, IfOk, IfErr, OnOk, OnErr, IsOkAnd, MatchResult, None, List, ℕ, [], vec_len, vec_capacity};
 ghost use Rattle.ep_base.specs.Checksum.{ones_sum, checksum_of};
-ghost use Rattle.ep_base.specs.declared.err.value_type.ValueType.TheVariants as value_type;
-ghost use Rattle.ep_transport.specs.PseudoHeaders.{tcp_message, tcp_checksum_ipv4, tcp_checksum_ipv6};
+ghost use Rattle.ep_transport.specs.PseudoHeaders.{tcp_message, tcp_checksum_ipv4, tcp_checksum_ipv6, tcp_length_rows_ipv4, tcp_length_rows_ipv6};
 ghost use Rattle.std.specs.List.{All};
 ghost use Rattle.ep_base.specs.Bytes.{bit};
-ghost use Rattle.ep_base.specs.Tables.{Parts, parts_of};
+ghost use Rattle.ep_base.specs.Tables.{Parts, parts_of, Refuses, first_row};
 ghost use Rattle.ep_transport.specs.Tcp.{IsTcp, RefusesTcp, tcp_bytes, tcp_header_len, tcp_data_offset, tcp_flags, default_tcp_header};
 ghost use Rattle.ep_transport.specs.declared.tcp_options.TcpOptionWriteError.TheVariants.{NotEnoughSpace};
 ghost use Rattle.ep_transport.specs.TcpOptionBytes.{FitsOption, in_words, options_bytes};
@@ -182,13 +181,9 @@ impl TcpHeader {
         payload: &[u8],
     ) -> Result<u16, ValueTooBigError<usize>>
         ensures { MatchResult result
-            (λ sum. (length payload.now ≤ 65535 - tcp_header_len self.now)
+            (λ sum. (first_row (tcp_length_rows_ipv4 self.now payload.now) ≡ None)
             × (sum ≡ tcp_checksum_ipv4 ip_header.now.source ip_header.now.destination self.now payload.now))
-            (λ error. (65535 - tcp_header_len self.now < length payload.now) × (error ≡ record {
-              actual = length payload.now;
-              max_allowed = 65535 - tcp_header_len self.now;
-              value_type = value_type.TcpPayloadLengthIpv4;
-            })) }
+            (Refuses (tcp_length_rows_ipv4 self.now payload.now)) }
     {
         self.calc_checksum_ipv4_raw(ip_header.source, ip_header.destination, payload)
     }
@@ -202,13 +197,9 @@ impl TcpHeader {
         payload: &[u8],
     ) -> Result<u16, ValueTooBigError<usize>>
         ensures { MatchResult result
-            (λ sum. (length payload.now ≤ 65535 - tcp_header_len self.now)
+            (λ sum. (first_row (tcp_length_rows_ipv4 self.now payload.now) ≡ None)
             × (sum ≡ tcp_checksum_ipv4 source destination self.now payload.now))
-            (λ error. (65535 - tcp_header_len self.now < length payload.now) × (error ≡ record {
-              actual = length payload.now;
-              max_allowed = 65535 - tcp_header_len self.now;
-              value_type = value_type.TcpPayloadLengthIpv4;
-            })) }
+            (Refuses (tcp_length_rows_ipv4 self.now payload.now)) }
     {
         let max_allowed = u16::MAX as usize - self.header_len();
         if payload.len() > max_allowed {
@@ -231,13 +222,9 @@ impl TcpHeader {
         payload: &[u8],
     ) -> Result<u16, ValueTooBigError<usize>>
         ensures { MatchResult result
-            (λ sum. (length payload.now ≤ 4294967295 - tcp_header_len self.now)
+            (λ sum. (first_row (tcp_length_rows_ipv6 self.now payload.now) ≡ None)
             × (sum ≡ tcp_checksum_ipv6 ip_header.now.source ip_header.now.destination self.now payload.now))
-            (λ error. (4294967295 - tcp_header_len self.now < length payload.now) × (error ≡ record {
-              actual = length payload.now;
-              max_allowed = 4294967295 - tcp_header_len self.now;
-              value_type = value_type.TcpPayloadLengthIpv6;
-            })) }
+            (Refuses (tcp_length_rows_ipv6 self.now payload.now)) }
     {
         self.calc_checksum_ipv6_raw(ip_header.source, ip_header.destination, payload)
     }
@@ -251,13 +238,9 @@ impl TcpHeader {
         payload: &[u8],
     ) -> Result<u16, ValueTooBigError<usize>>
         ensures { MatchResult result
-            (λ sum. (length payload.now ≤ 4294967295 - tcp_header_len self.now)
+            (λ sum. (first_row (tcp_length_rows_ipv6 self.now payload.now) ≡ None)
             × (sum ≡ tcp_checksum_ipv6 source destination self.now payload.now))
-            (λ error. (4294967295 - tcp_header_len self.now < length payload.now) × (error ≡ record {
-              actual = length payload.now;
-              max_allowed = 4294967295 - tcp_header_len self.now;
-              value_type = value_type.TcpPayloadLengthIpv6;
-            })) }
+            (Refuses (tcp_length_rows_ipv6 self.now payload.now)) }
     {
         let max_allowed = u32::MAX as usize - self.header_len();
         if payload.len() > max_allowed {

@@ -62,13 +62,13 @@ impl<'a> Iterator for TcpOptionsIterator<'a> {
 ghost use Rattle.std.specs.Prelude.{◌≡◌, ◌≢◌, ◌+◌, ◌<◌, ◌≤◌, length, slice_index, if◌then◌else◌, nat_lt, true, Some, None, IfOk, IfErr, OnOk, MatchResult};
 ghost use Rattle.ep_base.specs.Tables.{Refuses};
 ghost use Rattle.ep_transport.specs.Tcp.{long_at};
-ghost use Rattle.ep_transport.specs.TcpOptionBytes.{IsOption, RefusesOption, sized_rows, blocks_rows, is_blocks_size};
+ghost use Rattle.ep_transport.specs.TcpOptionBytes.{IsOption, RefusesOption, end_of_list_kind, sized_rows, blocks_rows, is_blocks_size};
 ghost use Rattle.ep_transport.specs.TcpOptionSteps.{block_at};
 
 /// The option at the front of bytes whose first one is no end of the list, and the bytes behind it.
 fn read_option(options: &[u8]) -> Result<(TcpOptionElement, &[u8]), TcpOptionReadError>
     requires some { 0 < length options.now }
-    requires no_end { slice_index options.now 0 ≢ 0 }
+    requires no_end { slice_index options.now 0 ≢ end_of_list_kind }
     ensures ok { IfOk result (λ read. IsOption options.now (read.0, read.1.now)) }
     ensures err { IfErr result (RefusesOption options.now) }
 {

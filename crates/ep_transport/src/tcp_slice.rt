@@ -30,11 +30,10 @@ pub struct TcpSlice<'a> {
 }
 
 impl<'a> TcpSlice<'a> {
-    ghost use Rattle.std.specs.Prelude.{◌≡◌, ◌<◌, ◌≤◌, ◌%◌, ◌++◌, IfOk, IfErr, IsOkAnd, MatchResult, List, ℕ, [], length};
+    ghost use Rattle.std.specs.Prelude.{◌≡◌, ◌≤◌, ◌%◌, ◌++◌, IfOk, IfErr, IsOkAnd, MatchResult, None, List, ℕ, [], length};
     ghost use Rattle.ep_base.specs.Checksum.{ones_sum, checksum_of};
-    ghost use Rattle.ep_base.specs.declared.err.value_type.ValueType.TheVariants as value_type;
-    ghost use Rattle.ep_transport.specs.PseudoHeaders.{tcp_bytes_without_checksum, segment_checksum_ipv4, segment_checksum_ipv6};
-    ghost use Rattle.ep_base.specs.Tables.{Parts};
+    ghost use Rattle.ep_transport.specs.PseudoHeaders.{tcp_bytes_without_checksum, segment_checksum_ipv4, segment_checksum_ipv6, segment_length_rows_ipv4, segment_length_rows_ipv6};
+    ghost use Rattle.ep_base.specs.Tables.{Parts, Refuses, first_row};
     ghost use Rattle.ep_transport.specs.declared.tcp_header.TcpHeader.{TcpHeader};
     ghost use Rattle.ep_transport.specs.Tcp.{IsTcp, RefusesTcp, tcp_data_offset};
     ghost use Rattle.ep_transport.specs.TcpOptionSteps.{options_left};
@@ -295,13 +294,9 @@ impl<'a> TcpSlice<'a> {
         destination: [u8; 4],
     ) -> Result<u16, ValueTooBigError<usize>>
         ensures { MatchResult result
-            (λ sum. (length (tcp_slice_bytes self.now) ≤ 65535)
+            (λ sum. (first_row (segment_length_rows_ipv4 (tcp_slice_bytes self.now)) ≡ None)
             × (sum ≡ segment_checksum_ipv4 source destination (tcp_slice_bytes self.now)))
-            (λ error. (65535 < length (tcp_slice_bytes self.now)) × (error ≡ record {
-              actual = length (tcp_slice_bytes self.now);
-              max_allowed = 65535;
-              value_type = value_type.TcpPayloadLengthIpv4;
-            })) }
+            (Refuses (segment_length_rows_ipv4 (tcp_slice_bytes self.now))) }
     {
         let len = self.bytes.slice.len();
         let max_allowed = u16::MAX as usize;
@@ -324,13 +319,9 @@ impl<'a> TcpSlice<'a> {
         destination: [u8; 16],
     ) -> Result<u16, ValueTooBigError<usize>>
         ensures { MatchResult result
-            (λ sum. (length (tcp_slice_bytes self.now) ≤ 4294967295)
+            (λ sum. (first_row (segment_length_rows_ipv6 (tcp_slice_bytes self.now)) ≡ None)
             × (sum ≡ segment_checksum_ipv6 source destination (tcp_slice_bytes self.now)))
-            (λ error. (4294967295 < length (tcp_slice_bytes self.now)) × (error ≡ record {
-              actual = length (tcp_slice_bytes self.now);
-              max_allowed = 4294967295;
-              value_type = value_type.TcpPayloadLengthIpv6;
-            })) }
+            (Refuses (segment_length_rows_ipv6 (tcp_slice_bytes self.now))) }
     {
         let len = self.bytes.slice.len();
         let max_allowed = u32::MAX as usize;

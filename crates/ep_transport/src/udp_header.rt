@@ -1,9 +1,9 @@
 //! The header of UDP (RFC 768).
 
-ghost use Rattle.std.specs.Prelude.{◌≡◌, ◌+◌, ◌%◌, ◌<◌, ◌≤◌, ◌++◌, IfOk, IfErr, OnOk, OnErr, IsOkAnd, MatchResult, List, ℕ, length, vec_len, vec_capacity};
+ghost use Rattle.std.specs.Prelude.{◌≡◌, ◌+◌, ◌%◌, ◌<◌, ◌≤◌, ◌++◌, IfOk, IfErr, OnOk, OnErr, IsOkAnd, MatchResult, None, List, ℕ, length, vec_len, vec_capacity};
 ghost use Rattle.ep_base.specs.Checksum.{ones_sum, checksum_of, no_zero};
-ghost use Rattle.ep_base.specs.declared.err.value_type.ValueType.TheVariants as value_type;
-ghost use Rattle.ep_transport.specs.PseudoHeaders.{udp_message, udp_checksum_ipv4, udp_checksum_ipv6};
+ghost use Rattle.ep_base.specs.Tables.{Refuses, first_row};
+ghost use Rattle.ep_transport.specs.PseudoHeaders.{udp_message, udp_checksum_ipv4, udp_checksum_ipv6, udp_length_rows_ipv4, udp_length_rows_ipv6};
 ghost use Rattle.ep_transport.specs.Udp.{udp_bytes, IsUdpHeader, RefusesUdpHeader};
 
 use crate::pseudo_header;
@@ -103,13 +103,9 @@ impl UdpHeader {
         payload: &[u8],
     ) -> Result<u16, ValueTooBigError<usize>>
         ensures { MatchResult result
-            (λ sum. (length payload.now ≤ 65527)
+            (λ sum. (first_row (udp_length_rows_ipv4 payload.now) ≡ None)
             × (sum ≡ udp_checksum_ipv4 ip_header.now.source ip_header.now.destination self.now payload.now))
-            (λ error. (65527 < length payload.now) × (error ≡ record {
-              actual = length payload.now;
-              max_allowed = 65527;
-              value_type = value_type.UdpPayloadLengthIpv4;
-            })) }
+            (Refuses (udp_length_rows_ipv4 payload.now)) }
     {
         self.calc_checksum_ipv4_raw(ip_header.source, ip_header.destination, payload)
     }
@@ -123,12 +119,9 @@ impl UdpHeader {
         payload: &[u8],
     ) -> Result<u16, ValueTooBigError<usize>>
         ensures { MatchResult result
-            (λ sum. (length payload.now ≤ 65527) × (sum ≡ udp_checksum_ipv4 source destination self.now payload.now))
-            (λ error. (65527 < length payload.now) × (error ≡ record {
-              actual = length payload.now;
-              max_allowed = 65527;
-              value_type = value_type.UdpPayloadLengthIpv4;
-            })) }
+            (λ sum. (first_row (udp_length_rows_ipv4 payload.now) ≡ None)
+            × (sum ≡ udp_checksum_ipv4 source destination self.now payload.now))
+            (Refuses (udp_length_rows_ipv4 payload.now)) }
     {
         const MAX_PAYLOAD_LEN: usize = 65527;
         if payload.len() > MAX_PAYLOAD_LEN {
@@ -150,13 +143,9 @@ impl UdpHeader {
         payload: &[u8],
     ) -> Result<u16, ValueTooBigError<usize>>
         ensures { MatchResult result
-            (λ sum. (length payload.now ≤ 4294967287)
+            (λ sum. (first_row (udp_length_rows_ipv6 payload.now) ≡ None)
             × (sum ≡ udp_checksum_ipv6 ip_header.now.source ip_header.now.destination self.now payload.now))
-            (λ error. (4294967287 < length payload.now) × (error ≡ record {
-              actual = length payload.now;
-              max_allowed = 4294967287;
-              value_type = value_type.UdpPayloadLengthIpv6;
-            })) }
+            (Refuses (udp_length_rows_ipv6 payload.now)) }
     {
         self.calc_checksum_ipv6_raw(ip_header.source, ip_header.destination, payload)
     }
@@ -170,13 +159,9 @@ impl UdpHeader {
         payload: &[u8],
     ) -> Result<u16, ValueTooBigError<usize>>
         ensures { MatchResult result
-            (λ sum. (length payload.now ≤ 4294967287)
+            (λ sum. (first_row (udp_length_rows_ipv6 payload.now) ≡ None)
             × (sum ≡ udp_checksum_ipv6 source destination self.now payload.now))
-            (λ error. (4294967287 < length payload.now) × (error ≡ record {
-              actual = length payload.now;
-              max_allowed = 4294967287;
-              value_type = value_type.UdpPayloadLengthIpv6;
-            })) }
+            (Refuses (udp_length_rows_ipv6 payload.now)) }
     {
         const MAX_PAYLOAD_LEN: usize = 4294967287;
         if payload.len() > MAX_PAYLOAD_LEN {

@@ -1,14 +1,15 @@
-//! Building frames anew from their headers.
+//! Building frames anew from their headers and their payloads.
 
-ghost use Rattle.std.specs.Prelude.{◌≡◌, ◌<◌, ◌^◌, map, slice_index, Some, IfOk};
+ghost use Rattle.std.specs.Prelude.{◌≡◌, ◌<◌, ◌^◌, map, slice_index, Some, IfErr, IfOk};
 ghost use Rattle.std.specs.Option.{option_map};
+ghost use Rattle.ep_base.specs.Bytes.{word_at};
 ghost use Rattle.ep_packet.specs.PacketHeaders.{headers_of, ip_headers, net_header_of};
 ghost use Rattle.ep_packet.specs.PayloadParts.{payload_part_of};
 ghost use Rattle.ep_build.specs.Steps.{ip_link, ip_step_headers};
 ghost use Rattle.ep_build.specs.declared.link_part.LinkPart.{LinkPart};
 ghost use Rattle.slice_bench.specs.Building.{AppendsBuilt, GivesBuilt, HasParts, IsBuiltSum, behind_parts, built_sum};
 ghost use Rattle.slice_bench.specs.Building.{ethernet2_in, link_with, net_parts_in, parts_in, parts_of, parts_with};
-ghost use Rattle.slice_bench.specs.Building.{tags_in, word_at};
+ghost use Rattle.slice_bench.specs.Building.{tags_in};
 ghost use Rattle.slice_bench.specs.Corpora.{AreFound};
 ghost use Rattle.slice_bench.specs.Sums.{kept_sum};
 
@@ -41,7 +42,7 @@ pub struct FrameParts<'a> {
 pub enum Inside<'a> {
     /// The headers of IPv4, and what stands behind them.
     Ipv4(Ipv4Header, Ipv4Extensions, Behind<'a>),
-    /// Those of IPv6.
+    /// The headers of IPv6, and what stands behind them.
     Ipv6(Ipv6Header, Ipv6Extensions, Behind<'a>),
     /// An ARP packet.
     Arp(ArpPacket),
@@ -50,19 +51,21 @@ pub enum Inside<'a> {
 /// What a frame is built from behind its IP headers.
 #[derive(Drop)]
 pub enum Behind<'a> {
-    /// A payload of this number.
+    /// A payload in which no transport header was read, and its IP number.
     Payload(IpNumber, &'a [u8]),
     /// A transport header and its payload.
     Transport(TransportHeader, &'a [u8]),
 }
 
-/// What frames are built from anew, each where it is decoded and the builder has a step for each of its headers.
+/// What frames are built anew from, in their order. One that is not decoded, or for whose headers the builder has no
+/// steps, is left out.
 pub fn frame_parts_of<'a>(
     alloc: Global,
     frames: &[&'a [u8]],
 ) -> Result<Vec<FrameParts<'a>>, BenchError>
-    ensures { IfOk result (λ all.
+    ensures found { IfOk result (λ all.
         AreFound HasParts (map (λ frame. frame.now) frames.now) (map parts_of all.items)) }
+    ensures err { IfErr result (λ error. error ≡ BenchError.OutOfMemory) }
 {
     let mut all = Vec::new(alloc);
     for frame in frames {
@@ -75,7 +78,7 @@ pub fn frame_parts_of<'a>(
     Ok(all)
 }
 
-/// What a frame is built from anew.
+/// What a frame is built anew from, where it is decoded and the builder has a step for each of its headers.
 fn parts_of_frame(frame: &[u8]) -> Option<FrameParts<'_>>
     ensures { HasParts frame.now (option_map parts_of result) }
 {
@@ -85,7 +88,7 @@ fn parts_of_frame(frame: &[u8]) -> Option<FrameParts<'_>>
     }
 }
 
-/// What headers are built from.
+/// What the frame of these headers is built anew from, where the builder has a step for each.
 fn parts_in(packet: PacketHeaders<'_>) -> Option<FrameParts<'_>>
     ensures { option_map parts_of result ≡ parts_in (headers_of packet.entry) }
 {
@@ -105,7 +108,8 @@ fn ethernet2_in(link: Option<LinkHeader>) -> Option<Ethernet2Header>
     }
 }
 
-/// The VLAN tags that link extensions are, where there are no others and at most two.
+/// The VLAN tags that link extensions are, or that there are none: where there is no other extension and at most two,
+/// since the builder has no step for more.
 fn tags_in(link_exts: &[LinkExtHeader]) -> Option<Option<VlanHeader>>
     ensures { result ≡ tags_in link_exts.now }
 {
@@ -121,7 +125,7 @@ fn tags_in(link_exts: &[LinkExtHeader]) -> Option<Option<VlanHeader>>
     }
 }
 
-/// What the headers behind the link layer are built from.
+/// What stands behind the link layer and its extensions, where the builder has steps for it.
 fn inside_of<'a>(
     net: Option<NetHeaders>,
     transport: Option<TransportHeader>,
@@ -143,7 +147,7 @@ fn inside_of<'a>(
     }
 }
 
-/// What stands behind IP headers.
+/// What stands behind IP headers, where it is a transport header and its payload, or the payload of an IP packet.
 fn behind_of<'a>(
     transport: Option<TransportHeader>,
     payload: PayloadSlice<'a>,
@@ -166,9 +170,10 @@ fn behind_of<'a>(
     }
 }
 
-/// Builds the frames of these, one after the other in one buffer, and sums what is summed of each.
+/// Builds the frame of each of these, one after the other in one buffer, and adds up what is summed of them.
 pub fn built(alloc: Global, all: &[FrameParts<'_>]) -> Result<u64, BenchError>
-    ensures { IfOk result (IsBuiltSum (map parts_of all.now)) }
+    ensures sum { IfOk result (IsBuiltSum (map parts_of all.now)) }
+    ensures err { IfErr result (λ error. error ≡ BenchError.OutOfMemory) }
 {
     let mut buffer = Vec::new(alloc);
     let mut total: u64 = 0;
@@ -178,9 +183,11 @@ pub fn built(alloc: Global, all: &[FrameParts<'_>]) -> Result<u64, BenchError>
     Ok(total)
 }
 
-/// What is summed of the frame that is built of these, in a buffer whose bytes are overwritten.
+/// What is summed of the frame that is built of these, and 0 where the builder refuses them. The buffer's bytes are
+/// overwritten.
 fn number_of(parts: &FrameParts<'_>, buffer: &mut Vec<u8>) -> Result<u64, BenchError>
-    ensures { IfOk result (GivesBuilt (parts_of parts.now)) }
+    ensures number { IfOk result (GivesBuilt (parts_of parts.now)) }
+    ensures err { IfErr result (λ error. error ≡ BenchError.OutOfMemory) }
 {
     buffer.clear();
     match build(parts, buffer) {
@@ -190,7 +197,7 @@ fn number_of(parts: &FrameParts<'_>, buffer: &mut Vec<u8>) -> Result<u64, BenchE
     }
 }
 
-/// Appends the frame that is built of these.
+/// Appends the frame that is built of these, and nothing at an error.
 pub fn build(parts: &FrameParts<'_>, buffer: &mut Vec<u8>) -> Result<(), BuildWriteError>
     ensures { AppendsBuilt (parts_of parts.now) buffer.old.items result buffer.new.items }
 {
@@ -224,8 +231,8 @@ fn copy_of(extensions: &Ipv6Extensions) -> Ipv6Extensions
     extensions.clone().unwrap()
 }
 
-/// Appends the frame of a link header, its tags, these IP headers and what stands behind them. Its code stands once for
-/// each version of IP and each kind of what is behind: so the headers, which are large, stay where they are made.
+/// Appends the frame of the link header and the tags of these parts, these IP headers and what stands behind them. It
+/// is inlined, once for each version of IP: so the headers, which are large, stay where they are made.
 #[inline(always)]
 fn build_ip(
     parts: &FrameParts<'_>,
@@ -243,7 +250,7 @@ fn build_ip(
     }
 }
 
-/// Appends the frame of these IP headers and what stands behind them.
+/// Appends the frame of a step of IP headers and what stands behind them. It is inlined for the same reason.
 #[inline(always)]
 fn build_behind(
     step: PacketBuilderStep<IpHeaders>,

@@ -1,6 +1,6 @@
 //! What is measured.
 
-ghost use Rattle.std.specs.Prelude.{◌≡◌, map, IfOk};
+ghost use Rattle.std.specs.Prelude.{◌≡◌, map, IfErr, IfOk};
 ghost use Rattle.std.specs.Option.{option_map};
 ghost use Rattle.ep_link.specs.EtherPayloads.{ether_payload_of};
 ghost use Rattle.ep_packet.specs.Layers.{layers_of};
@@ -13,8 +13,9 @@ use std::alloc::Global;
 
 /// The IP packets in frames, each where its frame has one, with what its length field leaves.
 pub fn ip_packets_of<'a>(alloc: Global, frames: &[&'a [u8]]) -> Result<Vec<&'a [u8]>, BenchError>
-    ensures { IfOk result (λ packets.
+    ensures found { IfOk result (λ packets.
         AreFound HasIpPacket (map (λ frame. frame.now) frames.now) (map (λ packet. packet.now) packets.items)) }
+    ensures err { IfErr result (λ error. error ≡ BenchError.OutOfMemory) }
 {
     let mut packets = Vec::new(alloc);
     for frame in frames {

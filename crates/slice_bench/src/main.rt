@@ -11,6 +11,7 @@ mod building;
 mod columns;
 mod corpus;
 mod files;
+pub mod laws;
 mod measure;
 mod reassembly;
 #[cfg(test)]

@@ -65,6 +65,19 @@ fn linux_sll() -> LinuxSllHeader {
     }
 }
 
+/// An ARP packet of the greatest size.
+fn greatest_arp() -> Result<ArpPacket, Fail> {
+    Ok(ArpPacket::new(
+        ArpHardwareId::ETHERNET,
+        EtherType::IPV4,
+        ArpOperation::REPLY,
+        &[3; 255],
+        &[4; 255],
+        &[5; 255],
+        &[6; 255],
+    )?)
+}
+
 #[test]
 fn link_layers(rt: HostRuntime) -> Result<(), Fail> {
     let mut buf = begun(rt.alloc())?;
@@ -108,18 +121,31 @@ fn link_layers(rt: HostRuntime) -> Result<(), Fail> {
     let mut buf = begun(rt.alloc())?;
     LinkExtHeader::Vlan(tag()).write(&mut buf)?;
     check(&rt, &buf, 4, 0x10, 0);
-    let packet = ArpPacket::new(
-        ArpHardwareId::ETHERNET,
-        EtherType::IPV4,
-        ArpOperation::REPLY,
-        &[3; 255],
-        &[4; 255],
-        &[5; 255],
-        &[6; 255],
-    )?;
+    let packet = greatest_arp()?;
     let mut buf = begun(rt.alloc())?;
     packet.write(&mut buf)?;
     check(&rt, &buf, 1028, 0, 6);
+    Ok(())
+}
+
+#[test]
+fn arp_behind_tags(rt: HostRuntime) -> Result<(), Fail> {
+    let step = ethernet()
+        .double_vlan(VlanId::try_new(0xfff)?, VlanId::try_new(0xabc)?)
+        .arp(greatest_arp()?);
+    assert_eq!(rt; step.size(), 1050);
+    let mut buf = begun(rt.alloc())?;
+    step.write(&mut buf)?;
+    let mut expected = Vec::new(rt.alloc());
+    expected.extend_from_slice(
+        b"\x07\x08\x09\x0a\x0b\x0c\x01\x02\x03\x04\x05\x06\x88\xa8\x0f\xff\x81\x00\x0a\xbc\x08\x06".as_slice(),
+    )?;
+    expected.extend_from_slice(b"\x00\x01\x08\x00\xff\xff\x00\x02".as_slice())?;
+    expected.extend_from_slice(&[3; 255])?;
+    expected.extend_from_slice(&[4; 255])?;
+    expected.extend_from_slice(&[5; 255])?;
+    expected.extend_from_slice(&[6; 255])?;
+    assert_eq!(rt; appended(&rt, &buf), expected.as_slice());
     Ok(())
 }
 

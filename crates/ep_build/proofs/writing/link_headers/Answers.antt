@@ -24,4 +24,5 @@ returns-in-Err c =
     let last = c.args.last in
     let linked = c.set_next_headers-ether_type.ensures.linked in
     sym (ap first_row (rows_linked old last c.args.len))
-    ∙ subst (λ (h : IpHeaders). first_row (payload_len_rows h c.args.len) ≡ Some c.in-Err.error) linked c.in-Err.ensures.1
+    ∙ subst (λ (h : IpHeaders). first_row (payload_len_rows h c.args.len) ≡ Some c.in-Err.error) linked
+    c.in-Err.ensures.1

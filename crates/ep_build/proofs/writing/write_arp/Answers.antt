@@ -46,7 +46,8 @@ returns-clause-ok c =
     let front = link_part_bytes (link_before c.args.link.now (as_ether_type arp_type)) in
     let packet = arp_bytes (arp_of c.args.packet.now) in
     on_ok c.write.result _ (ap is_ok c.unwrap.ensures) c.write.ensures.ok
-    ∙ ap (λ (l : List ℕ). l ++ packet) (c.write_before.ensures.items ∙ ap (λ (l : List ℕ). l ++ front) c.reserve.ensures.items)
+    ∙ ap (λ (l : List ℕ). l ++ packet)
+    (c.write_before.ensures.items ∙ ap (λ (l : List ℕ). l ++ front) c.reserve.ensures.items)
     ∙ append_assoc old front packet
     ∙ ap (λ (l : List ℕ). old ++ (front ++ l)) (sym (append-nil packet))
 

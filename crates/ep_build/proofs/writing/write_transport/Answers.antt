@@ -70,8 +70,8 @@ returns-clause-ok c =
     (transport_bytes filled) payload _ _ c.extend_from_slice.new.self.items c.append_headers.ensures.items
     (on_ok c.write.result _ (ap is_ok c.unwrap.ensures) c.write.ensures.ok)
     (chosen _ _ _ _ (ap is_ok c.unwrap-2.ensures) c.extend_from_slice.ensures.items) in
-    let ok = transport_ok c.args.link.now c.args.headers.now linked c.args.transport.now c.set_length.new.transport filled
-    c.number_of-last.result (c.header_len.result + length payload) c.in-Ok.ether_type payload c.in-Ok.ensures.1
+    let ok = transport_ok c.args.link.now c.args.headers.now linked c.args.transport.now c.set_length.new.transport
+    filled c.number_of-last.result (c.header_len.result + length payload) c.in-Ok.ether_type payload c.in-Ok.ensures.1
     c.number_of-last.ensures c.set_length.ensures summed.0 summed.1 counts c.transport_fits.ensures c.in-Ok.ensures.2
     c.in-Ok.ensures.0 in
     (ok.0, appended _ _ _ _ _ whole c.reserve.ensures.items ok.1)

@@ -11,8 +11,11 @@ pub returns-clause-ok : goal.returns-clause-ok
 returns-clause-ok c =
     let read = c.in-Ok in
     let content = read.read.1.now in
-    let ok = read.ensures.ok in
-    (ok.0, subst (λ (h : Ipv6Header). IsIpv6Packet c.args.slice.now (parts_of h content ok.0)) (sym c.to_header.ensures) ok.2)
+    let ok = read.ensures.ok in (
+      ok.0,
+      subst (λ (h : Ipv6Header). IsIpv6Packet c.args.slice.now (parts_of h content ok.0))
+          (sym c.to_header.ensures) ok.2,
+    )
 
 pub returns-clause-source : goal.returns-clause-source
 returns-clause-source c =

@@ -14,7 +14,8 @@ pub returns-in-Ipv4-clause-err : goal.returns-in-Ipv4-clause-err
 returns-in-Ipv4-clause-err c =
     let packet = c.in-Ipv4.packet in
     let len = net_header_len (net_layer_of (slice.Ipv4 packet)) in
-    let lens = headers_len (ipv4_slice_bytes packet) (ipv4_header_slice_bytes c.header.result) (ipv4_slice_content packet)
+    let lens = headers_len (ipv4_slice_bytes packet) (ipv4_header_slice_bytes c.header.result)
+    (ipv4_slice_content packet)
     (extension_bytes c.extensions.result) (ipv4_slice_payload packet).bytes len c.header.ensures.bytes
     c.extensions.ensures.bytes (subst HasHeaders c.in-Ipv4.is c.requires.headers) in
     let same : c.header_len.result + c.ipv4_extensions_len-extensions_len.result ≡ len =

@@ -15,7 +15,7 @@ returns-in-Tcp c =
     ∙ ap (λ h. whole (held_behind step (transport.Tcp h))) copied
     ∙ ap (λ t. whole (held_behind step (begun_transport t))) (sym c.in-Tcp.is)
     ∙ ap (behind_parts (ip_link step) (ip_step_headers step)) (sym c.in-Transport.is))
-    (c.write-in-Tcp.ensures.ok, c.write-in-Tcp.ensures.refused)
+    (c.write-in-Tcp.ensures.ok, c.write-in-Tcp.ensures.err, c.write-in-Tcp.ensures.refused)
 
 pub returns-in-Icmpv4 : goal.returns-in-Icmpv4
 returns-in-Icmpv4 c =
@@ -27,7 +27,7 @@ returns-in-Icmpv4 c =
     ∙ ap (λ h. whole (held_behind step (transport.Icmpv4 (record { icmp_type = h; checksum = 0 })))) copied
     ∙ ap (λ t. whole (held_behind step (begun_transport t))) (sym c.in-Icmpv4.is)
     ∙ ap (behind_parts (ip_link step) (ip_step_headers step)) (sym c.in-Transport.is))
-    (c.write-in-Icmpv4.ensures.ok, c.write-in-Icmpv4.ensures.refused)
+    (c.write-in-Icmpv4.ensures.ok, c.write-in-Icmpv4.ensures.err, c.write-in-Icmpv4.ensures.refused)
 
 pub returns-in-Icmpv6 : goal.returns-in-Icmpv6
 returns-in-Icmpv6 c =
@@ -39,4 +39,4 @@ returns-in-Icmpv6 c =
     ∙ ap (λ h. whole (held_behind step (transport.Icmpv6 (record { icmp_type = h; checksum = 0 })))) copied
     ∙ ap (λ t. whole (held_behind step (begun_transport t))) (sym c.in-Icmpv6.is)
     ∙ ap (behind_parts (ip_link step) (ip_step_headers step)) (sym c.in-Transport.is))
-    (c.write-in-Icmpv6.ensures.ok, c.write-in-Icmpv6.ensures.refused)
+    (c.write-in-Icmpv6.ensures.ok, c.write-in-Icmpv6.ensures.err, c.write-in-Icmpv6.ensures.refused)

@@ -12,4 +12,4 @@ loop-parts-preserved c =
     let here : get_or all at item ≡ item = sym c.parts-item.is in
     rw (map_take-next parts_of all at item c.loop-parts-test.true, here)
     (total-push GivesBuilt (map parts_of (take at all)) c.loop-parts.total (parts_of item)
-    c.in_ok-total.field-0 c.loop-parts.invariant c.in_ok-total.ensures)
+    c.in_ok-total.field-0 c.loop-parts.invariant c.in_ok-total.ensures.number)

@@ -5,4 +5,5 @@ use Rattle.slice_bench.proofs.corpus.ip_packets_of.Given as goal
 -- the packets of the frames so far
 abbrev pub invariant-loop-frame : goal.invariant-loop-frame
 invariant-loop-frame l =
-    AreFound HasIpPacket (map (λ frame. frame.now) (take l.frame-index l.frames)) (map (λ packet. packet.now) l.packets.items)
+    AreFound HasIpPacket (map (λ frame. frame.now) (take l.frame-index l.frames))
+    (map (λ packet. packet.now) l.packets.items)

@@ -10,7 +10,14 @@ invariant_of-result c =
     let copied : length c.copy_from_slice.new.self ≡ n = ap length c.copy_from_slice.ensures.after in
     let whole : words ≡ n = omega (arith, c.requires.words) in
     let behind : drop n zeros ≡ drop words zeros = ap (λ (k : ℕ). drop k zeros) (sym whole) in (
-      omega (arith, length-append c.copy_from_slice.new.self (drop n zeros), length-drop n zeros, copied, c.requires.bound),
+      omega (
+        arith,
+        length-append c.copy_from_slice.new.self (drop n zeros),
+        length-drop n zeros,
+        copied,
+        c.requires.bound,
+      ),
       omega (arith, c.requires.bound),
-      drop_at c.copy_from_slice.new.self (drop n zeros) words (omega (arith, copied, whole)) ∙ behind ∙ drop-replicate words 1016 0,
+      drop_at c.copy_from_slice.new.self (drop n zeros) words (omega (arith, copied, whole))
+          ∙ behind ∙ drop-replicate words 1016 0,
     )

@@ -4,5 +4,8 @@ use Rattle.ep_ext.proofs.ipv6_fragment_header_slice.Ipv6FragmentHeaderSlice.from
 
 pub returns-clause-ok : goal.returns-clause-ok
 returns-clause-ok c =
-    let bytes = c.args.slice.now in
-    (drop 8 bytes, sym (take-append-drop 8 bytes), front_is bytes 8 refl (λ i. omega (arith, c.type_inv.slice i)) (omega arith))
+    let bytes = c.args.slice.now in (
+      drop 8 bytes,
+      sym (take-append-drop 8 bytes),
+      front_is bytes 8 refl (λ i. omega (arith, c.type_inv.slice i)) (omega arith),
+    )

@@ -6,7 +6,8 @@ use Rattle.ep_ext.proofs.ipv6_raw_ext_header.Ipv6RawExtHeader.to_bytes.Goals as 
 pub returns-clause-fits : goal.returns-clause-fits
 returns-clause-fits c =
     let payload = c.payload-payload in
-    let len : length payload.result.now ≡ length (raw_extension_payload c.args.self.now) = ap length payload.ensures.value in
+    let len : length payload.result.now ≡ length (raw_extension_payload c.args.self.now) =
+    ap length payload.ensures.value in
     record {
       next_header = search rules;
       payload_least = omega (arith, len, payload.ensures.least);

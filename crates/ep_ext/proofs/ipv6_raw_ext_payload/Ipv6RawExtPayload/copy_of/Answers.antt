@@ -10,7 +10,14 @@ invariant_of-result c =
     let copied : length c.copy_from_slice.new.self ≡ n = ap length c.copy_from_slice.ensures.after in
     let whole : units ≡ n = omega (arith, c.requires.least, c.requires.units) in
     let behind : drop n zeros ≡ drop units zeros = ap (λ (k : ℕ). drop k zeros) (sym whole) in (
-      omega (arith, length-append c.copy_from_slice.new.self (drop n zeros), length-drop n zeros, copied, c.requires.bound),
+      omega (
+        arith,
+        length-append c.copy_from_slice.new.self (drop n zeros),
+        length-drop n zeros,
+        copied,
+        c.requires.bound,
+      ),
       omega (arith, c.requires.bound),
-      drop_at c.copy_from_slice.new.self (drop n zeros) units (omega (arith, copied, whole)) ∙ behind ∙ drop-replicate units 2046 0,
+      drop_at c.copy_from_slice.new.self (drop n zeros) units (omega (arith, copied, whole))
+          ∙ behind ∙ drop-replicate units 2046 0,
     )

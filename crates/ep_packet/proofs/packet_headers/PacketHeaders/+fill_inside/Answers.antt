@@ -19,29 +19,35 @@ use Rattle.ep_packet.proofs.packet_headers.PacketHeaders.+fill_inside.Goals as g
 pub returns-then-is_full-clause-ok : goal.returns-then-is_full-clause-ok
 returns-then-is_full-clause-ok t c =
     IfOk-weaker c.fill_net.result _ _
-    (λ done fills. fills_no_more (most_link_exts - length c.args.self.now.link_exts.items) (ether_payload_of c.args.payload)
+    (λ done fills. fills_no_more (most_link_exts - length c.args.self.now.link_exts.items)
+    (ether_payload_of c.args.payload)
     (headers_of c.args.self.now) (headers_of c.fill_net.new.self) (inl (grind (arith, common_steps))) fills)
     c.fill_net.ensures.ok
 
 pub returns-in-Ok-None-clause-ok : goal.returns-in-Ok-None-clause-ok
 returns-in-Ok-None-clause-ok t c =
-    let none = none_there c.args.payload.ether_type c.in-Ok-None.field-0 c.in-Ok-None.field-0-is c.in-Ok-None.ensures.none in
+    let none = none_there c.args.payload.ether_type c.in-Ok-None.field-0 c.in-Ok-None.field-0-is
+    c.in-Ok-None.ensures.none in
     IfOk-weaker c.fill_net-in-Ok-None.result _ _
-    (λ done fills. fills_no_more (most_link_exts - length c.args.self.now.link_exts.items) (ether_payload_of c.args.payload)
+    (λ done fills. fills_no_more (most_link_exts - length c.args.self.now.link_exts.items)
+    (ether_payload_of c.args.payload)
     (headers_of c.args.self.now) (headers_of c.fill_net-in-Ok-None.new.self) (inr none) fills)
     c.fill_net-in-Ok-None.ensures.ok
 
 pub overflow_add-offset : goal.overflow_add-offset
 overflow_add-offset t c =
     let found = c.in-Ok-Some.extension in
-    let there = found_there c.args.payload.ether_type c.args.payload.payload.now c.in-Ok-Some.field-0 found c.in-Ok-Some.field-0-is c.in-Ok-Some.ensures.ok in
-    let len = extension_len c.args.payload.ether_type c.args.payload.payload.now (link_extension_of found, there.0) there.2 in
+    let there = found_there c.args.payload.ether_type c.args.payload.payload.now
+    c.in-Ok-Some.field-0 found c.in-Ok-Some.field-0-is c.in-Ok-Some.ensures.ok in
+    let len = extension_len c.args.payload.ether_type c.args.payload.payload.now
+    (link_extension_of found, there.0) there.2 in
     omega (arith, len, c.header_len.ensures, c.requires.place)
 
 pub returns-in-Some-clause-ok : goal.returns-in-Some-clause-ok
 returns-in-Some-clause-ok t c =
     let found = link_extension_of c.in-Ok-Some.extension in
-    let there = found_there c.args.payload.ether_type c.args.payload.payload.now c.in-Ok-Some.field-0 c.in-Ok-Some.extension
+    let there = found_there c.args.payload.ether_type c.args.payload.payload.now
+    c.in-Ok-Some.field-0 c.in-Ok-Some.extension
     c.in-Ok-Some.field-0-is c.in-Ok-Some.ensures.ok in
     let old = headers_of c.args.self.now in
     let pushed = c.push.new.self.items in
@@ -56,7 +62,8 @@ returns-in-Some-clause-ok t c =
     let middle = record old { link_exts = pushed } in
     let new = headers_of c.fill_inside.new.self in
     IfOk-weaker c.fill_inside.result _ _
-    (λ done behind. fills_one room rest (ether_payload_of c.args.payload) (ether_payload_of c.in-Some.inside) there.0 found
+    (λ done behind. fills_one room rest (ether_payload_of c.args.payload)
+    (ether_payload_of c.in-Some.inside) there.0 found
     old middle new more there.2 same (ap (λ (x : List LinkExtHeader). record old { link_exts = x }) tagged)
     (subst (λ (s : LenSource). FillsInside rest (ending_by s (ether_payload_of c.in-Some.inside)) middle new)
     c.cut_by.ensures behind))
@@ -65,7 +72,8 @@ returns-in-Some-clause-ok t c =
 pub returns-in-Some-clause-err : goal.returns-in-Some-clause-err
 returns-in-Some-clause-err t c =
     let found = link_extension_of c.in-Ok-Some.extension in
-    let there = found_there c.args.payload.ether_type c.args.payload.payload.now c.in-Ok-Some.field-0 c.in-Ok-Some.extension
+    let there = found_there c.args.payload.ether_type c.args.payload.payload.now
+    c.in-Ok-Some.field-0 c.in-Ok-Some.extension
     c.in-Ok-Some.field-0-is c.in-Ok-Some.ensures.ok in
     let pushed = c.push.new.self.items in
     let room = most_link_exts - length c.args.self.now.link_exts.items in
@@ -83,7 +91,8 @@ returns-in-Some-clause-err t c =
 pub returns-in-None-clause-ok : goal.returns-in-None-clause-ok
 returns-in-None-clause-ok t c =
     let found = link_extension_of c.in-Ok-Some.extension in
-    let there = found_there c.args.payload.ether_type c.args.payload.payload.now c.in-Ok-Some.field-0 c.in-Ok-Some.extension
+    let there = found_there c.args.payload.ether_type c.args.payload.payload.now
+    c.in-Ok-Some.field-0 c.in-Ok-Some.extension
     c.in-Ok-Some.field-0-is c.in-Ok-Some.ensures.ok in
     let old = headers_of c.args.self.now in
     let pushed = c.push.new.self.items in

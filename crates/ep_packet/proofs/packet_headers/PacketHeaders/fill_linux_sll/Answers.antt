@@ -11,7 +11,8 @@ returns-in-Some-clause-ok c =
     let typed = sym (c.ether_type.ensures ∙ ap protocol_ether_type c.protocol_type.ensures) ∙ c.in-Some.is in
     IfOk-weaker c.fill_inside.result _ _
     (λ done fills. sll_filled c.args.bytes.now ok.0 c.payload_slice-payload.result.now c.in-Ok.frame c.to_header.result
-    c.in-Some.ether_type c.whole_payload.result (headers_of c.args.self.now) c.begin.new.self c.fill_inside.new.self ok.2
+    c.in-Some.ether_type c.whole_payload.result (headers_of c.args.self.now) c.begin.new.self
+    c.fill_inside.new.self ok.2
     c.to_header.ensures typed c.whole_payload.ensures c.payload_slice-payload.ensures c.begin.ensures fills)
     c.fill_inside.ensures.ok
 

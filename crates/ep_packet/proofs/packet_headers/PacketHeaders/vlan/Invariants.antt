@@ -5,4 +5,5 @@ use Rattle.ep_packet.proofs.packet_headers.PacketHeaders.vlan.Given as goal
 
 abbrev pub invariant-loop-extension : goal.invariant-loop-extension
 invariant-loop-extension l =
-    vlan_headers l.self.link_exts.items ≡ headers_with l.outer (vlan_headers (drop l.extension-index l.self.link_exts.items))
+    vlan_headers l.self.link_exts.items ≡ headers_with l.outer
+    (vlan_headers (drop l.extension-index l.self.link_exts.items))

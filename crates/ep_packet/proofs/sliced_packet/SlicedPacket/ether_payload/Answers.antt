@@ -15,7 +15,8 @@ returns-in_err-payload c =
     let extensions = map link_extension_of slices in
     let last = link_extension_of c.in-Some.last.now in
     let found : slice_get slices (length slices - 1) ≡ Some c.in-Some.last.now = search (rules, tests) in
-    let shown = ether_payload_of_last (option_map link_layer_of c.args.self.now.link) extensions last (last_shown slices c.in-Some.last.now found) in
+    let shown = ether_payload_of_last (option_map link_layer_of c.args.self.now.link)
+    extensions last (last_shown slices c.in-Some.last.now found) in
     let source = with_source (extensions_len_source extensions) in
     ap (option_map ether_payload_of) c.from_residual-in_err-payload.ensures
     ∙ ap (λ o. option_map source (option_map ether_payload_of o)) (sym c.in_err-payload.was)
@@ -27,8 +28,10 @@ returns c =
     let extensions = map link_extension_of slices in
     let last = link_extension_of c.in-Some.last.now in
     let found : slice_get slices (length slices - 1) ≡ Some c.in-Some.last.now = search (rules, tests) in
-    let shown = ether_payload_of_last (option_map link_layer_of c.args.self.now.link) extensions last (last_shown slices c.in-Some.last.now found) in
+    let shown = ether_payload_of_last (option_map link_layer_of c.args.self.now.link)
+    extensions last (last_shown slices c.in-Some.last.now found) in
     let source = with_source (extensions_len_source extensions) in
-    ap (λ (s : LenSource). Some (with_source s (ether_payload_of c.in_ok-payload.payload))) c.extensions_len_source.ensures
+    ap (λ (s : LenSource). Some (with_source s (ether_payload_of c.in_ok-payload.payload)))
+    c.extensions_len_source.ensures
     ∙ ap (λ o. option_map source (option_map ether_payload_of o)) (sym c.in_ok-payload.was)
     ∙ ap (option_map source) c.ether_payload-2.ensures ∙ sym shown

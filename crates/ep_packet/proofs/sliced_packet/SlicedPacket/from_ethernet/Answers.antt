@@ -11,7 +11,8 @@ use Rattle.ep_packet.proofs.sliced_packet.SlicedPacket.from_ethernet.Goals as go
 
 pub returns-in-Err-clause-only : goal.returns-in-Err-clause-only
 returns-in-Err-clause-only c = λ layers is.
-    absurd ((frame_law ethernet c.args.slice.now (λ i. omega (arith, c.type_inv.slice i))).not_both layers c.in-Err.error is
+    absurd ((frame_law ethernet c.args.slice.now (λ i. omega (arith, c.type_inv.slice i))).not_both
+    layers c.in-Err.error is
     c.in-Err.ensures.err)
 
 pub returns-in-Ok : goal.returns-in-Ok

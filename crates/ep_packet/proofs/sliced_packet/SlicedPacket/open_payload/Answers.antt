@@ -12,5 +12,6 @@ returns-in-Some c =
     let slices = c.args.self.now.link_exts.items in
     let found : slice_get slices (length slices - 1) ≡ Some c.in-Some.extension.now = search (rules, tests) in
     let last = payload_of_last (link_payload (option_map link_layer_of c.args.self.now.link))
-    (map link_extension_of slices) (link_extension_of c.in-Some.extension.now) (last_shown slices c.in-Some.extension.now found) in
+    (map link_extension_of slices) (link_extension_of c.in-Some.extension.now)
+    (last_shown slices c.in-Some.extension.now found) in
     c.payload_slice.ensures ∙ sym last

@@ -1,5 +1,6 @@
 use Rattle.std.proofs.Common.{◌≡◌, ◌+◌, ◌-◌, ◌%◌, ◌++◌, ℕ, length, ap, ◌∙◌, sym, append_assoc, arith}
 use Rattle.std.proofs.lemmas.List.{length-append}
+use Rattle.std.proofs.lemmas.Grind.{common_steps}
 use Rattle.ep_base.specs.Checksum.{ones_sum}
 use Rattle.ep_base.specs.IpNumbers.{icmpv6_number}
 use Rattle.ep_transport.specs.Icmpv6.{icmpv6_bytes}
@@ -22,4 +23,4 @@ returns c =
     let sum =
     c.ones_complement-self.ensures
     ∙ ap (λ (n : ℕ). 65535 - n) (second ∙ ap ones_sum (append_assoc front bytes payload)) in
-    (omega arith, λ i. record { icmp_type = header.icmp_type; checksum = sum i })
+    (grind (arith, common_steps), λ i. record { icmp_type = header.icmp_type; checksum = sum i })

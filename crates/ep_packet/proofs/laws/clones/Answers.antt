@@ -1,0 +1,20 @@
+use Rattle.std.proofs.Common.{◌≡◌, rules}
+use Rattle.std.proofs.lemmas.List.Elements.{same_from_all_zip}
+use Rattle.ep_packet.proofs.laws.clones.Goals as goal
+
+pub returns-clause-sliced_packets : goal.returns-clause-sliced_packets
+returns-clause-sliced_packets c a b same =
+    let link : b.link ≡ a.link = search rules in
+    let tags = same_from_all_zip _ _ _ same.1.0 (λ x y r. search rules) in
+    let net : b.net ≡ a.net = search rules in
+    let transport : b.transport ≡ a.transport = search rules in
+    search (link, tags, net, transport, rules)
+
+pub returns-clause-packet_headers : goal.returns-clause-packet_headers
+returns-clause-packet_headers c a b same =
+    let link : b.link ≡ a.link = search rules in
+    let tags = same_from_all_zip _ _ _ same.1.0 (λ x y r. search rules) in
+    let net : b.net ≡ a.net = search rules in
+    let transport : b.transport ≡ a.transport = search rules in
+    let payload : b.payload ≡ a.payload = search rules in
+    search (link, tags, net, transport, payload, rules)

@@ -1,0 +1,21 @@
+//! What holds of constants and of comparisons, each law the contract of a function that does nothing.
+
+ghost use Rattle.std.specs.Prelude.{◌≡◌, ◌↔◌, ◌∷◌, [], IsTrue};
+ghost use Rattle.slice_bench.specs.declared.measure.Measurement.TheVariants.{Building, Decoding, Filling};
+ghost use Rattle.slice_bench.specs.declared.measure.Measurement.TheVariants.{ReadingIpHeaders, Reassembly, Rereading};
+ghost use Rattle.slice_bench.specs.declared.measure.Measurement.TheVariants.{Slicing, SlicingApart, SlicingIpv4};
+
+use crate::bench_error::BenchError;
+use crate::measure::Measurement;
+
+/// All measurements are each of them once, in the order in which they are made.
+pub fn constants()
+    ensures { Measurement.ALL ≡ Slicing ∷ SlicingApart ∷ Filling ∷ Decoding ∷ Rereading ∷ SlicingIpv4
+        ∷ ReadingIpHeaders ∷ Building ∷ Reassembly ∷ [] }
+{}
+
+/// Measurements and errors are equal where they are the same.
+pub fn comparisons()
+    ensures measurements { (a b : Measurement) → IsTrue (⟦<Measurement as PartialEq>⟧.eq a b) ↔ (a ≡ b) }
+    ensures errors { (a b : BenchError) → IsTrue (⟦<BenchError as PartialEq>⟧.eq a b) ↔ (a ≡ b) }
+{}
