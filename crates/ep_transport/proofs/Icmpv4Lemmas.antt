@@ -66,7 +66,8 @@ kind_refuses_none bytes found is long none =
 none_refuses : (bytes : List ℕ) → 8 ≤ length bytes
     → (icmpv4_len (icmpv4_kind_at bytes) ≡ 20 → length bytes ≡ 20) → first_row (icmpv4_rows bytes) ≡ None
 none_refuses bytes long exact =
-    kind_refuses_none bytes (icmpv4_kind_at bytes) refl long (timestamp_none (icmpv4_kind_at bytes) (length bytes) exact)
+    kind_refuses_none bytes (icmpv4_kind_at bytes) refl long
+    (timestamp_none (icmpv4_kind_at bytes) (length bytes) exact)
 
 -- a header has whole words of 16 bits
 pub len_even : (found : Option Icmpv4Kind) → icmpv4_len found % 2 ≡ 0
@@ -213,7 +214,8 @@ header_fits bytes fits long =
     }
 
 header_front : (bytes : List ℕ) → AreBytes bytes → Stands (icmpv4_kind_at bytes) (length bytes)
-    → bytes ≡ icmpv4_bytes_with (four_at bytes) (icmpv4_header_of bytes) ++ drop (icmpv4_len (icmpv4_kind_at bytes)) bytes
+    → bytes ≡ icmpv4_bytes_with (four_at bytes) (icmpv4_header_of bytes)
+    ++ drop (icmpv4_len (icmpv4_kind_at bytes)) bytes
 header_front bytes fits a =
     let found = icmpv4_kind_at bytes in
     let in_row = kind_in-row icmpv4_row icmpv4_kinds (slice_index bytes 0) (slice_index bytes 1) found refl in
@@ -256,7 +258,8 @@ record Holds (value : Icmpv4Type) (bytes payload : List ℕ) : Type 0 where
 mtu_holds : (used : Bool) (code a b c d checksum mtu : ℕ) (payload : List ℕ) → (code == 4) ≡ used → mtu < 2 ^ 16
     → (used ≡ true) ⊎ (mtu ≡ 0)
     → Holds (message.DestinationUnreachable code mtu)
-    (message_bytes 3 code checksum (if used then a ∷ b ∷ to_be_bytes w16 mtu else a ∷ b ∷ c ∷ d ∷ []) ++ payload) payload
+    (message_bytes 3 code checksum (if used then a ∷ b ∷ to_be_bytes w16 mtu else a ∷ b ∷ c ∷ d ∷ []) ++ payload)
+    payload
 mtu_holds true code a b c d checksum mtu payload same fits is =
     let bytes = message_bytes 3 code checksum (a ∷ b ∷ to_be_bytes w16 mtu) ++ payload in
     let number : mtu ≡ word_at bytes 6 = omega (arith, fits) in
@@ -315,8 +318,8 @@ timestamp_read type checksum times payload fits =
     }
 
 value_read : (a b c d : ℕ) (value : Icmpv4Type) (checksum : ℕ) (payload : List ℕ) → FitsIcmpv4Fields value
-    → Holds value (icmpv4_bytes_with (a ∷ b ∷ c ∷ d ∷ []) (record { icmp_type = value; checksum = checksum }) ++ payload)
-    payload
+    → Holds value
+    (icmpv4_bytes_with (a ∷ b ∷ c ∷ d ∷ []) (record { icmp_type = value; checksum = checksum }) ++ payload) payload
 value_read a b c d (message.Unknown type code (p ∷ q ∷ r ∷ s ∷ [])) checksum payload fits =
     record { read = refl; behind = refl; len = omega arith }
 value_read a b c d (message.Unknown type code _) checksum payload fits = absurd (omega (arith, fits.2))

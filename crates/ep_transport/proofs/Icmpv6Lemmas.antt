@@ -55,7 +55,8 @@ kind_same (Some kind.ParameterProblem) bytes = refl
 kind_same (Some kind.EchoRequest) bytes = refl
 kind_same (Some kind.EchoReply) bytes = refl
 
-number_same : (bytes : List ℕ) → AreBytes bytes → four_at bytes ≡ icmpv6_rest_with [] (message.PacketTooBig (long_at bytes 4))
+number_same : (bytes : List ℕ) → AreBytes bytes
+    → four_at bytes ≡ icmpv6_rest_with [] (message.PacketTooBig (long_at bytes 4))
 number_same bytes fits =
     let number =
     long_bytes (slice_index bytes 4) (slice_index bytes 5) (slice_index bytes 6) (slice_index bytes 7) (fits 4) (fits 5)
@@ -125,8 +126,8 @@ record Holds (value : Icmpv6Type) (bytes payload : List ℕ) : Type 0 where
   long : 8 ≤ length bytes
 
 value_read : (a b c d : ℕ) (value : Icmpv6Type) (checksum : ℕ) (payload : List ℕ) → FitsIcmpv6Fields value
-    → Holds value (icmpv6_bytes_with (a ∷ b ∷ c ∷ d ∷ []) (record { icmp_type = value; checksum = checksum }) ++ payload)
-    payload
+    → Holds value
+    (icmpv6_bytes_with (a ∷ b ∷ c ∷ d ∷ []) (record { icmp_type = value; checksum = checksum }) ++ payload) payload
 value_read a b c d (message.Unknown type code (p ∷ q ∷ r ∷ s ∷ [])) checksum payload fits =
     record { read = refl; behind = refl; long = omega arith }
 value_read a b c d (message.Unknown type code _) checksum payload fits = absurd (omega (arith, fits.2))
@@ -141,7 +142,8 @@ value_read a b c d (message.TimeExceeded code) checksum payload fits =
     record { read = ap message.TimeExceeded (exceeded_read code); behind = refl; long = omega arith }
 value_read a b c d (message.ParameterProblem code pointer) checksum payload fits =
     let bytes =
-    icmpv6_bytes_with [] (record { icmp_type = message.ParameterProblem code pointer; checksum = checksum }) ++ payload in
+    icmpv6_bytes_with [] (record { icmp_type = message.ParameterProblem code pointer; checksum = checksum })
+    ++ payload in
     let number : pointer ≡ long_at bytes 4 = omega (arith, fits) in
     record { read = ap (message.ParameterProblem code) number; behind = refl; long = omega arith }
 value_read a b c d (message.EchoRequest echo) checksum payload fits = record {

@@ -45,7 +45,8 @@ udp_at_start headers bytes = (refl, tt)
 
 rows_at_start : (reading : Reading) (number : ℕ) (bytes : List ℕ) → AllAtStart (transport_rows reading number bytes)
 rows_at_start reading number bytes =
-    either_at_start (number == udp_number) (rows_as error.Len (udp_part_rows reading bytes)) _ (udp_at_start reading bytes)
+    either_at_start (number == udp_number) (rows_as error.Len (udp_part_rows reading bytes)) _
+    (udp_at_start reading bytes)
     (either_at_start (number == tcp_number) (tcp_rows bytes) _ (refl, (refl, (refl, tt)))
     (either_at_start (number == icmpv4_number) (rows_as error.Len (icmpv4_rows bytes)) _
     (refl, timestamps_at_start (icmpv4_kind_at bytes) (length bytes))
