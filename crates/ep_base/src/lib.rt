@@ -11,8 +11,6 @@ mod ip_payload_slice;
 pub mod laws;
 mod len_source;
 mod numbers;
-#[cfg(test)]
-mod tests;
 
 pub use at_least::AtLeast;
 pub use ether_payload_slice::EtherPayloadSlice;

@@ -19,6 +19,3 @@ pub use ep_transport::{
     TcpOptionWriteError, UdpHeader,
 };
 pub use packet_builder::{PacketBuilder, PacketBuilderStep};
-
-#[cfg(test)]
-mod tests;

@@ -2,6 +2,7 @@ pub mod Ranges
 pub mod Fragments
 pub mod Refusals
 pub mod Buffers
+pub mod Rooms
 pub mod Runs
 pub mod Cuts
 pub mod Texts

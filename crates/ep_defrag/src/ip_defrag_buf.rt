@@ -7,6 +7,7 @@ ghost use Rattle.ep_defrag.specs.Ranges.{merges, SharePoint};
 ghost use Rattle.ep_defrag.specs.Fragments.{IpFragment, fragment_with, fragment_end, range_of, IsComplete};
 ghost use Rattle.ep_defrag.specs.Refusals.{Fits, RefusesFragment, MayNeedMemory, refusal_at};
 ghost use Rattle.ep_defrag.specs.Buffers.{ip_number_of, data_of, sections_of, known_end_of, IsUnchanged, HoldsFragments, extended, overwritten, data_after, data_with, end_after, union_of, sections_after, is_whole};
+ghost use Rattle.ep_defrag.specs.Rooms.{data_room_of, sections_room_of, KeepsRoom};
 
 use crate::MAX_IP_DEFRAG_LEN_U16;
 use crate::ip_defrag_error::IpDefragError;
@@ -38,6 +39,8 @@ impl IpDefragBuf {
         ensures data { data_of result ≡ [] }
         ensures sections { sections_of result ≡ [] }
         ensures end { known_end_of result ≡ None }
+        ensures data_room { data_room_of result ≡ vec_capacity bytes }
+        ensures sections_room { sections_room_of result ≡ vec_capacity sections }
     {
         bytes.clear();
         sections.clear();
@@ -90,10 +93,12 @@ impl IpDefragBuf {
         is_whole(self.end, &self.sections)
     }
 
-    /// The vectors of the data and of the sections.
+    /// The vectors of the data and of the sections, with their room.
     pub fn take_bufs(self) -> (Vec<u8>, Vec<IpFragRange>)
         ensures data { result.0.items ≡ data_of self }
         ensures sections { result.1.items ≡ sections_of self }
+        ensures data_room { vec_capacity result.0 ≡ data_room_of self }
+        ensures sections_room { vec_capacity result.1 ≡ sections_room_of self }
     {
         (self.bytes, self.sections)
     }
@@ -163,6 +168,9 @@ impl IpDefragBuf {
         ensures end { let fragment = fragment_with offset more_fragments payload.now in
             OnOk result (known_end_of self.new ≡ end_after (known_end_of self.old) fragment) }
         ensures ip_number { ip_number_of self.new ≡ ip_number_of self.old }
+
+        // Whatever is answered, the vectors keep their room.
+        ensures room { KeepsRoom self.old self.new }
     {
         let range = checked_range(self.end, offset, more_fragments, payload)?;
         if self.accept(range, more_fragments, payload).is_err() {
@@ -188,6 +196,7 @@ impl IpDefragBuf {
             (known_end_of self.new ≡ (if more_fragments then known_end_of self.old else Some range.end)) }
         ensures ip_number { ip_number_of self.new ≡ ip_number_of self.old }
         ensures err { OnErr result (IsUnchanged self.old self.new) }
+        ensures room { KeepsRoom self.old self.new }
         ensures in_place { range.end ≤ length (data_of self.old) →
             IsTrue (list_any (merges range) (sections_of self.old)) → IsOk result }
     {
@@ -263,7 +272,9 @@ fn make_room(
 ) -> Result<(), AllocError>
     ensures bytes { bytes.new.items ≡ bytes.old.items }
     ensures bytes_room { OnOk result (range.end ≤ vec_capacity bytes.new) }
+    ensures bytes_capacity { vec_capacity bytes.old ≤ vec_capacity bytes.new }
     ensures sections { sections.new.items ≡ sections.old.items }
+    ensures sections_capacity { vec_capacity sections.old ≤ vec_capacity sections.new }
     ensures sections_room { OnOk result
         (IsFalse (list_any (merges range) sections.old.items) → vec_len sections.new < vec_capacity sections.new) }
     ensures in_place { range.end ≤ vec_len bytes.old →
@@ -279,7 +290,8 @@ fn make_room(
 fn put(bytes: &mut Vec<u8>, range: IpFragRange, payload: &[u8])
     requires len { range.end ≡ range.start + length payload.now }
     requires room { range.end ≤ vec_capacity bytes.old }
-    ensures { bytes.new.items ≡ overwritten (extended bytes.old.items range.end) range.start payload.now }
+    ensures items { bytes.new.items ≡ overwritten (extended bytes.old.items range.end) range.start payload.now }
+    ensures capacity { vec_capacity bytes.old ≤ vec_capacity bytes.new }
 {
     let start = usize::from(range.start);
     fill_gap(bytes, start);
@@ -303,7 +315,8 @@ fn fill_gap(bytes: &mut Vec<u8>, start: usize)
 /// the copy would cost a call.
 fn overwrite(bytes: &mut Vec<u8>, start: usize, part: &[u8])
     requires { start + length part.now ≤ vec_len bytes.old }
-    ensures { bytes.new.items ≡ overwritten bytes.old.items start part.now }
+    ensures items { bytes.new.items ≡ overwritten bytes.old.items start part.now }
+    ensures capacity { vec_capacity bytes.new ≡ vec_capacity bytes.old }
 {
     if part.is_empty() {
         return;
@@ -348,7 +361,8 @@ fn remove_merging(sections: &mut Vec<IpFragRange>, range: IpFragRange)
 /// Lets a range join the sections: the first that merges with it becomes their union, the others that merge go.
 fn join_section(sections: &mut Vec<IpFragRange>, range: IpFragRange)
     requires { IsFalse (list_any (merges range) sections.old.items) → vec_len sections.old < vec_capacity sections.old }
-    ensures { IsPermutation sections.new.items (sections_after range sections.old.items) }
+    ensures items { IsPermutation sections.new.items (sections_after range sections.old.items) }
+    ensures capacity { vec_capacity sections.old ≤ vec_capacity sections.new }
 {
     match first_merging(sections.as_slice(), range) {
         None => sections.push(range).unwrap(),

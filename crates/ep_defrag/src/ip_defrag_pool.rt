@@ -187,9 +187,11 @@ impl<Timestamp: Drop, CustomChannelId: Eq + Hash + Drop> IpDefragPool<Timestamp,
         );
     }
 
-    /// Takes a payload's memory back.
+    /// Takes a payload's memory back. The streams stay as they are.
     pub fn return_buf(&mut self, buf: IpDefragPayloadVec)
-        ensures { self.new ≡ self.old }
+        ensures holds { (table : IpFragId CustomChannelId → Option (Kept Timestamp)) →
+            HoldsTable CustomChannelId.eq self.old table → HoldsTable CustomChannelId.eq self.new table }
+        ensures streams { streams_of self.new ≡ streams_of self.old }
     {
         let _ = buf;
     }

@@ -34,6 +34,3 @@ pub const MAX_IP_DEFRAG_LEN_U16: u16 = u16::MAX;
 
 /// The greatest length of a payload that is put together, in bytes.
 pub const MAX_IP_DEFRAG_LEN: usize = 65535;
-
-#[cfg(test)]
-mod tests;

@@ -9,7 +9,11 @@ use Rattle.ep_base.specs.Tables.{first_row}
 use Rattle.ep_base.proofs.BytesLemmas.{AreBytes-take, AreBytes-drop, bit_le, bit_read, bit_of_read}
 use Rattle.ep_base.proofs.TableLemmas.{IsReadBy, cut_at, cut_same}
 use Rattle.ep_ext.specs.declared.ipv6_fragment_header.Ipv6FragmentHeader.{Ipv6FragmentHeader}
-use Rattle.ep_ext.specs.FragmentHeader.{FitsFragmentHeader, EncodesFragmentHeader, IsFragmentHeader, fragment_header_bytes_with, fragment_header_of, fragment_header_parts, fragment_header_rows}
+use Rattle.ep_ext.specs.FragmentHeader.{FitsFragmentHeader, EncodesFragmentHeader, IsFragmentHeader, fragment_header_bytes_with, fragment_header_of, fragment_header_rows}
+
+-- the header that bytes are, and what is behind it
+abbrev pub fragment_header_parts : List ℕ → List ℕ → Ipv6FragmentHeader × List ℕ
+fragment_header_parts bytes rest = (fragment_header_of bytes, rest)
 
 -- ---- 8 bytes are those of the header that is read from them
 

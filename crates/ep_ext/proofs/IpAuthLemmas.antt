@@ -9,7 +9,11 @@ use Rattle.ep_base.specs.Tables.{first_row}
 use Rattle.ep_base.proofs.BytesLemmas.{AreBytes-take, AreBytes-drop}
 use Rattle.ep_base.proofs.TableLemmas.{IsReadBy, cut_at, cut_same}
 use Rattle.ep_ext.specs.declared.ip_auth_header.IpAuthHeader.{IpAuthHeader}
-use Rattle.ep_ext.specs.IpAuth.{FitsIpAuth, EncodesIpAuth, IsIpAuth, ip_auth_bytes_with, ip_auth_len_of, ip_auth_of, ip_auth_parts, ip_auth_rows}
+use Rattle.ep_ext.specs.IpAuth.{FitsIpAuth, EncodesIpAuth, IsIpAuth, ip_auth_bytes_with, ip_auth_len_of, ip_auth_of, ip_auth_rows}
+
+-- the header that bytes are, and what is behind it
+abbrev pub ip_auth_parts : List ℕ → List ℕ → IpAuthHeader × List ℕ
+ip_auth_parts bytes rest = (ip_auth_of bytes, rest)
 
 -- the bytes are a whole header: as long as their length field, which is not 0, says
 pub record IsWholeIpAuth (bytes : List ℕ) : Type 0 where

@@ -8,8 +8,10 @@ pub mod LinkLemmas
 pub mod PartLemmas
 pub mod RawExtensionLemmas
 pub mod ReadLemmas
+pub mod RefusalLemmas
 pub mod ShownLemmas
 pub mod ValueLaws
 pub mod ValueLemmas
 pub mod WalkLaws
 pub mod WalkLemmas
+pub mod WalkMarks

@@ -20,10 +20,11 @@ use Rattle.ep_ext.specs.ExtensionParts.{ExtensionPart, hop_by_hop, destination_o
 use Rattle.ep_ext.specs.Chains.{ipv4, ipv6, is_first, is_ipv6_extension, parts_bytes, chain_of, FitParts, IsChainBehind, IsExtensionChain}
 use Rattle.ep_ext.specs.Ipv4Chains.{ipv4_first, ipv4_linked, ipv4_parts, ipv4_walk}
 use Rattle.ep_ext.specs.Ipv6Chains.{no_ipv6_extensions, extensions_of, with_part, with_parts, final_by, routing_header, header_for, IsWalkBehind, missing_number, WalksAll, ipv6_first, ipv6_linked, ipv6_parts}
-use Rattle.ep_ext.specs.Walks.{no_marks, marked, header_at, missing_at}
+use Rattle.ep_ext.specs.Walks.{marked, header_at, missing_at}
 use Rattle.ep_ext.proofs.ChainLemmas.{ends_at_once, one_authentication}
 use Rattle.ep_ext.proofs.ValueLemmas.{headers_take, headers_end, first_none_taken}
 use Rattle.ep_ext.proofs.WalkLemmas.{IsMarked, marked_none, mark_more, found_is, found_kind, left_is}
+use Rattle.ep_ext.proofs.WalkMarks.{no_marks}
 
 -- ---- where all headers were taken, no further one is
 

@@ -7,7 +7,11 @@ use Rattle.ep_base.specs.Tables.{first_row}
 use Rattle.ep_base.proofs.BytesLemmas.{elements, drop-elements, AreBytes-take, AreBytes-drop}
 use Rattle.ep_base.proofs.TableLemmas.{IsReadBy, cut_at, cut_same}
 use Rattle.ep_ext.specs.declared.ipv6_raw_ext_header.Ipv6RawExtHeader.{Ipv6RawExtHeader}
-use Rattle.ep_ext.specs.RawExtension.{FitsRawExtension, IsRawExtension, raw_extension_bytes, raw_extension_len_of, raw_extension_of, raw_extension_parts, raw_extension_rows}
+use Rattle.ep_ext.specs.RawExtension.{FitsRawExtension, IsRawExtension, raw_extension_bytes, raw_extension_len_of, raw_extension_of, raw_extension_rows}
+
+-- the header that bytes are, and what is behind it
+abbrev pub raw_extension_parts : List ℕ → List ℕ → Ipv6RawExtHeader × List ℕ
+raw_extension_parts bytes rest = (raw_extension_of bytes, rest)
 
 -- ---- bytes of the length that they demand are those of the header that is read from them
 

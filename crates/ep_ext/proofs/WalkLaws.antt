@@ -8,9 +8,10 @@ use Rattle.ep_ext.specs.declared.ipv6_exts_walk.Marks.{Marks}
 use Rattle.ep_ext.specs.ExtensionParts.{ExtensionPart, part_next}
 use Rattle.ep_ext.specs.Chains.{is_taken}
 use Rattle.ep_ext.specs.Ipv6Chains.{no_ipv6_extensions, extensions_of, with_part, header_for, IsWalkBehind, missing_number, walk_refusal, IsWalk, RefusesWalk, ipv6_first, ipv6_linked, ipv6_parts}
-use Rattle.ep_ext.specs.Walks.{no_marks, marked, marks_left}
+use Rattle.ep_ext.specs.Walks.{marked}
 use Rattle.ep_ext.proofs.WalkLemmas.{IsMarked, marked_none, mark_more, fewer_after, found_kind, one_walk, one_walk_refusal, walks_not_refused}
 use Rattle.ep_ext.proofs.LinkLemmas.{linked_walk}
+use Rattle.ep_ext.proofs.WalkMarks.{no_marks, marks_left}
 
 option_cases : {A : Type 0} (answer : Option A) → (answer ≡ None) ⊎ ((some : A) × (answer ≡ Some some))
 option_cases None = inl refl

@@ -70,7 +70,3 @@ fragment_header_of bytes = record {
   more_fragments = slice_index bytes 3 % 2 == 1;
   identification = from_be_bytes w32 (slice_range bytes 4 8);
 }
-
--- the header that bytes are, and what is behind it
-abbrev pub fragment_header_parts : List ℕ → List ℕ → Ipv6FragmentHeader × List ℕ
-fragment_header_parts bytes rest = (fragment_header_of bytes, rest)

@@ -93,10 +93,6 @@ ip_auth_of bytes = ip_auth_with
     (from_be_bytes w32 (slice_range bytes 8 12))
     (drop 12 bytes)
 
--- the header that bytes are, and what is behind it
-abbrev pub ip_auth_parts : List ℕ → List ℕ → IpAuthHeader × List ℕ
-ip_auth_parts bytes rest = (ip_auth_of bytes, rest)
-
 -- ---- integrity check values that no header has
 
 -- when so many bytes are no integrity check value, and with which error

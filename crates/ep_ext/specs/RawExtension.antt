@@ -70,10 +70,6 @@ RefusesRawExtension bytes error = Refuses (raw_extension_rows bytes) error
 abbrev pub raw_extension_of : List ℕ → Ipv6RawExtHeader
 raw_extension_of bytes = raw_extension_with (record { 0 = slice_index bytes 0 }) (drop 2 bytes)
 
--- the header that bytes are, and what is behind it
-abbrev pub raw_extension_parts : List ℕ → List ℕ → Ipv6RawExtHeader × List ℕ
-raw_extension_parts bytes rest = (raw_extension_of bytes, rest)
-
 -- ---- payloads that no header has
 
 -- when so many bytes are no payload, and with which error

@@ -1,5 +1,5 @@
 -- What a walk along the extension headers of IPv6 remembers.
-use Rattle.std.specs.Prelude.{ℕ, ◌+◌, ◌==◌, ◌&&◌, not, Bool, true, false, if◌then◌else◌, Option, Some, None, option_map, is_some}
+use Rattle.std.specs.Prelude.{ℕ, ◌==◌, ◌&&◌, not, Bool, true, false, if◌then◌else◌, Option, Some, None, option_map, is_some}
 use Rattle.ep_base.specs.IpNumbers.{hop_by_hop_number, routing_number, fragment_number, authentication_number, destination_options_number}
 use Rattle.ep_ext.specs.declared.ipv6_exts.Ipv6Extensions.{Ipv6Extensions}
 use Rattle.ep_ext.specs.declared.ipv6_exts_walk.HeaderRef.{HeaderRef}
@@ -16,18 +16,6 @@ header_ref_part (header.Routing there) = routing there.now
 header_ref_part (header.Fragment there) = fragment there.now
 header_ref_part (header.Authentication there) = authentication there.now
 
--- no header was taken
-abbrev pub no_marks : Marks
-no_marks = record {
-  any = false;
-  hop_by_hop = false;
-  destination_options = false;
-  routing = false;
-  fragment = false;
-  auth = false;
-  final_destination_options = false;
-}
-
 -- a header was taken
 abbrev pub marked : Marks → ExtensionPart → Marks
 marked marks (hop_by_hop header) = record marks { any = true; hop_by_hop = true }
@@ -37,17 +25,6 @@ marked marks (destination_options header) =
 marked marks (routing header) = record marks { any = true; routing = true; final_destination_options = false }
 marked marks (fragment header) = record marks { any = true; fragment = true }
 marked marks (authentication header) = record marks { any = true; auth = true }
-
--- one, where there is no mark
-abbrev pub unmarked : Bool → ℕ
-unmarked true = 0
-unmarked false = 1
-
--- how many headers can still be taken
-abbrev pub marks_left : Marks → ℕ
-marks_left marks =
-    unmarked marks.hop_by_hop + unmarked marks.destination_options + unmarked marks.fragment + unmarked marks.auth
-    + (if marks.routing then unmarked marks.final_destination_options else 2)
 
 -- the header that is taken at a number
 abbrev pub header_at : Ipv6Extensions → Marks → ℕ → Option ExtensionPart

@@ -1,8 +1,6 @@
 //! The extension headers of IP: the authentication header of IPv4 and IPv6, and the extension headers of IPv6.
 #![tactic(auto)]
 
-#[cfg(test)]
-mod chain_tests;
 pub mod err;
 mod ip_auth_header;
 mod ip_auth_header_slice;
@@ -22,8 +20,6 @@ mod ipv6_raw_ext_header_slice;
 mod ipv6_raw_ext_payload;
 mod ipv6_routing_exts;
 pub mod laws;
-#[cfg(test)]
-mod tests;
 
 pub use arrayvec::ArrayVec;
 pub use ep_base::err::{Layer, LenError};

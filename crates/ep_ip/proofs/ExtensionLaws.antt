@@ -1,23 +1,19 @@
 -- What is known of the extension headers of IP from the laws of their crate, and where their refusals lie.
-use Rattle.std.proofs.Common.{◌≡◌, ℕ, ◌+◌, ◌≤◌, ◌==◌, Bool, true, false, if◌then◌else◌, List, [], ◌∷◌, length, refl, ap, inl, inr, arith}
+use Rattle.std.proofs.Common.{◌≡◌, ℕ, ◌+◌, ◌≤◌, List, [], ◌∷◌, length, ap, inl, inr, arith}
 use Rattle.ep_base.specs.Bytes.{AreBytes}
 use Rattle.ep_base.specs.Layer.{Reading}
-use Rattle.ep_base.specs.Tables.{IsDecided, rows_as}
-use Rattle.ep_base.specs.IpNumbers.{authentication_number, fragment_number}
+use Rattle.ep_base.specs.Tables.{IsDecided}
 use Rattle.ep_base.specs.declared.err.len_error.LenError.{LenError}
 use Rattle.ep_base.specs.declared.err.ip_auth.HeaderSliceError.{HeaderSliceError as AuthSliceError}
 use Rattle.ep_base.specs.declared.err.ip_auth.HeaderSliceError.TheVariants as auth_error
 use Rattle.ep_base.specs.declared.err.ipv6_exts.HeaderSliceError.{HeaderSliceError}
 use Rattle.ep_base.specs.declared.err.ipv6_exts.HeaderSliceError.TheVariants as header_error
-use Rattle.ep_base.proofs.TableLemmas.{AllErrors, refusal_is}
-use Rattle.ep_ext.specs.IpAuth.{ip_auth_rows}
-use Rattle.ep_ext.specs.FragmentHeader.{fragment_header_rows}
-use Rattle.ep_ext.specs.RawExtension.{raw_extension_rows}
-use Rattle.ep_ext.specs.ExtensionParts.{ExtensionPart, part_len, part_next, auth_refusal, extension_part_rows, RefusesExtensionPart}
+use Rattle.ep_ext.specs.ExtensionParts.{ExtensionPart, part_len, part_next, auth_refusal}
 use Rattle.ep_ext.specs.Chains.{IpVersion, ipv4, ipv6, IsExtensionChain, RefusesExtensionChain, RefusesChainBehind, further_in, offset_of}
 use Rattle.ep_ext.proofs.HeaderLaws.{header_laws}
 use Rattle.ep_ext.proofs.ChainLemmas.{chain_decided}
 use Rattle.ep_ext.proofs.PartLemmas.{part_lens}
+use Rattle.ep_ext.proofs.RefusalLemmas.{AtStart, part_at_start}
 
 -- a chain is decided
 pub extension_chain : (version : IpVersion) (reading : Reading) (number : ℕ) (bytes : List ℕ) → AreBytes bytes
@@ -25,24 +21,6 @@ pub extension_chain : (version : IpVersion) (reading : Reading) (number : ℕ) (
 extension_chain = chain_decided header_laws
 
 -- ---- a refusal lies within the bytes
-
-abbrev AtStart : HeaderSliceError → Type 0
-AtStart error = offset_of error ≡ 0
-
-rows_at_start : (auth fragment : Bool) (bytes : List ℕ) → AllErrors AtStart
-    (if auth then rows_as auth_refusal (ip_auth_rows bytes)
-    else if fragment then rows_as header_error.Len (fragment_header_rows bytes)
-    else rows_as header_error.Len (raw_extension_rows bytes))
-rows_at_start true fragment bytes = (refl, (refl, (refl, tt)))
-rows_at_start false true bytes = (refl, tt)
-rows_at_start false false bytes = (refl, (refl, tt))
-
--- a single header is refused at its start
-part_at_start : (number : ℕ) (bytes : List ℕ) (error : HeaderSliceError) → RefusesExtensionPart number bytes error
-    → AtStart error
-part_at_start number bytes error refused =
-    refusal_is AtStart (extension_part_rows number bytes)
-    (rows_at_start (number == authentication_number) (number == fragment_number) bytes) error refused
 
 further_offset : (offset : ℕ) (error : HeaderSliceError) → AtStart error → offset_of (further_in offset error) ≤ offset
 further_offset offset (header_error.Len error) start = omega (arith, start)

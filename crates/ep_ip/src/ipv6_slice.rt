@@ -1,7 +1,8 @@
 //! An IPv6 packet in a slice (RFC 8200).
 
 ghost use Rattle.std.specs.Prelude.{◌≡◌, ◌++◌, IfOk, IfErr, IsOkAnd, List, ℕ};
-ghost use Rattle.ep_ip.specs.Ipv6Slices.{ipv6_header_slice_header, ipv6_header_slice_bytes};
+ghost use Rattle.ep_ext.specs.Ipv6Slices.{ipv6_slice_number as extension_number};
+ghost use Rattle.ep_ip.specs.Ipv6.{ipv6_header_of};
 
 use crate::ipv6_header::Ipv6Header;
 use crate::ipv6_header_slice::Ipv6HeaderSlice;
@@ -9,13 +10,36 @@ use ep_base::IpPayloadSlice;
 use ep_base::err::ipv6::SliceError;
 use ep_base::err::ipv6_exts;
 use ep_ext::Ipv6ExtensionsSlice;
+use std::alloc::AllocError;
 
 /// An IPv6 packet (RFC 8200) that lies in a slice: header, extension headers and payload, cut by the payload length.
-#[derive(Clone, Debug, PartialEq, Eq, Drop)]
+#[derive(Debug, PartialEq, Eq, Drop)]
 pub struct Ipv6Slice<'a> {
     header: Ipv6HeaderSlice<'a>,
     extensions: Ipv6ExtensionsSlice<'a>,
     payload: IpPayloadSlice<'a>,
+    ghost follows: { extension_number extensions ≡ (ipv6_header_of header.bytes.slice.now).next_header.0 },
+}
+
+impl<'a> Clone for Ipv6Slice<'a> {
+    ghost use Rattle.std.specs.Prelude.{◌≡◌, ⊤};
+
+    ghost is_clone = { λ source copy. copy ≡ source };
+
+    ghost is_infallible = { λ _. ⊤ };
+
+    fn clone(&self) -> Result<Ipv6Slice<'a>, AllocError> {
+        Ok(Ipv6Slice {
+            header: self.header.copied(),
+            extensions: self.extensions.clone()?,
+            payload: IpPayloadSlice {
+                ip_number: self.payload.ip_number,
+                fragmented: self.payload.fragmented,
+                len_source: self.payload.len_source,
+                payload: self.payload.payload,
+            },
+        })
+    }
 }
 
 impl<'a> Ipv6Slice<'a> {
@@ -24,6 +48,7 @@ impl<'a> Ipv6Slice<'a> {
     ghost use Rattle.ep_ext.specs.Ipv6Slices.{ipv6_slice_parts as extension_parts, ipv6_slice_bytes as extension_bytes};
     ghost use Rattle.ep_ip.specs.declared.ipv6_header.Ipv6Header.{Ipv6Header};
     ghost use Rattle.ep_ip.specs.IpPackets.{IpPacket, IsIpv6, RefusesIpv6};
+    ghost use Rattle.ep_ip.specs.Ipv6Slices.{ipv6_header_slice_header, ipv6_header_slice_bytes};
     ghost use Rattle.ep_ip.specs.Ipv6Slices.{ipv6_slice_bytes, ipv6_slice_header, ipv6_slice_extensions};
     ghost use Rattle.ep_ip.specs.Ipv6Slices.{ipv6_slice_payload, ipv6_slice_content, ipv6_slice_packet};
     ghost use Rattle.ep_ip.specs.Ipv6Slices.{FollowsIpv6Header};
@@ -77,6 +102,7 @@ impl<'a> Ipv6Slice<'a> {
     pub fn extensions(&self) -> Ipv6ExtensionsSlice<'a>
         ensures headers { extension_parts result ≡ ipv6_slice_extensions self.now }
         ensures bytes { extension_bytes result ++ (ipv6_slice_payload self.now).bytes ≡ ipv6_slice_content self.now }
+        ensures number { extension_number result ≡ (ipv6_slice_header self.now).next_header.0 }
     {
         self.extensions.clone().unwrap()
     }

@@ -10,14 +10,18 @@ mod ipv6_header;
 mod ipv6_header_slice;
 mod ipv6_slice;
 pub mod laws;
-#[cfg(test)]
-mod tests;
 mod widths;
 
 pub use arrayvec::ArrayVec;
-pub use ep_base::err::{Layer, LenError, ValueTooBigError, ValueType, ip, ipv4, ipv6};
+pub use ep_base::err::{
+    Layer, LenError, ValueTooBigError, ValueType, ip, ip_auth, ipv4, ipv6, ipv6_exts,
+};
 pub use ep_base::{
     IpFragOffset, IpNumber, IpPayloadSlice, Ipv4Dscp, Ipv4Ecn, Ipv6FlowLabel, LenSource,
+};
+pub use ep_ext::{
+    IpAuthHeaderSlice, Ipv4ExtensionsSlice, Ipv6ExtensionSlice, Ipv6ExtensionSliceIter,
+    Ipv6ExtensionsSlice, Ipv6FragmentHeaderSlice, Ipv6RawExtHeaderSlice,
 };
 pub use ip_slice::IpSlice;
 pub use ipv4_header::Ipv4Header;

@@ -11,6 +11,7 @@ use Rattle.ep_base.specs.Tables.{first_row}
 use Rattle.ep_base.proofs.BytesLemmas.{same_parts, elements, drop-elements, AreBytes-take, AreBytes-drop}
 use Rattle.ep_base.proofs.TableLemmas.{IsReadBy, cut_at, cut_same}
 use Rattle.ep_link.specs.Arp.{Arp, FitsArp, IsArp, arp_bytes, arp_len_of, arp_packet_of, arp_parts, arp_rows}
+use Rattle.ep_link.specs.Arp.{arp_address_rows}
 
 -- ---- parts of a list
 
@@ -50,14 +51,14 @@ word_bytes upper lower a b =
 -- ---- the addresses of a whole packet
 
 -- the addresses have the lengths that stand in front of them, and are all that stands there
-record HasAddresses (bytes : List ℕ) (p : Arp) : Type 0 where
-  sender_hw : length p.sender_hw_addr ≡ get_or bytes 4 0
-  sender_protocol : length p.sender_protocol_addr ≡ get_or bytes 5 0
-  target_hw : length p.target_hw_addr ≡ get_or bytes 4 0
-  target_protocol : length p.target_protocol_addr ≡ get_or bytes 5 0
-  behind : drop 8 bytes ≡ p.sender_hw_addr ++ p.sender_protocol_addr ++ p.target_hw_addr ++ p.target_protocol_addr
+pub record HasAddresses (bytes : List ℕ) (p : Arp) : Type 0 where
+  pub sender_hw : length p.sender_hw_addr ≡ get_or bytes 4 0
+  pub sender_protocol : length p.sender_protocol_addr ≡ get_or bytes 5 0
+  pub target_hw : length p.target_hw_addr ≡ get_or bytes 4 0
+  pub target_protocol : length p.target_protocol_addr ≡ get_or bytes 5 0
+  pub behind : drop 8 bytes ≡ p.sender_hw_addr ++ p.sender_protocol_addr ++ p.target_hw_addr ++ p.target_protocol_addr
 
-addresses : (bytes : List ℕ) → length bytes ≡ arp_len_of bytes → HasAddresses bytes (arp_packet_of bytes)
+pub addresses : (bytes : List ℕ) → length bytes ≡ arp_len_of bytes → HasAddresses bytes (arp_packet_of bytes)
 addresses bytes whole =
     let hw = get_or bytes 4 0 in
     let protocol = get_or bytes 5 0 in
@@ -72,6 +73,11 @@ addresses bytes whole =
       target_protocol = length-between bytes c d (omega (arith, whole)) ∙ omega arith;
       behind = four_parts bytes 8 a b c d (omega arith) (omega arith) (omega arith) (omega (arith, whole));
     }
+
+-- two addresses of one length each, of at most 255 bytes, are no reason to make no packet
+pub addresses_taken : (a b x y : List ℕ) → length x ≡ length a → length a ≤ 255 → length y ≡ length b
+    → length b ≤ 255 → first_row (arp_address_rows a b x y) ≡ None
+addresses_taken a b x y hw hw_len protocol protocol_len = grind (arith, common_steps)
 
 -- ---- whole bytes are those of the packet that is read from them
 

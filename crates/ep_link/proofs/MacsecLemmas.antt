@@ -1,17 +1,21 @@
 -- MACsec tags and packets at the front of bytes.
-use Rattle.std.proofs.Common.{◌≡◌, ◌⊎◌, ℕ, zero, suc, ◌+◌, ◌-◌, ◌*◌, ◌/◌, ◌%◌, ◌<◌, ◌≤◌, List, [], ◌∷◌, None}
+use Rattle.std.proofs.Common.{◌≡◌, ◌⊎◌, Bool, ltb, ℕ, zero, suc, ◌+◌, ◌-◌, ◌*◌, ◌/◌, ◌%◌, ◌<◌, ◌≤◌, List, [], ◌∷◌, None}
 use Rattle.std.proofs.Common.{Some, ◌++◌, length, take, drop, get_or, refl, sym, ap, subst, ◌∙◌, arith, inl, inr}
-use Rattle.std.proofs.lemmas.Bool.{cases_eq}
+use Rattle.std.proofs.lemmas.Bool.{cases_eq, lt-ltb}
 use Rattle.std.proofs.lemmas.Grind.{common_steps}
 use Rattle.std.proofs.lemmas.Option.{none-some}
 use Rattle.std.proofs.lemmas.List.{get_or-take, get_or_append_left, length-take, length-drop, length-append}
 use Rattle.std.proofs.lemmas.List.{take-append-drop, append_assoc, take_at, drop_at, drop-drop}
 use Rattle.ep_base.specs.Bytes.{AreBytes, word_at}
+use Rattle.ep_base.specs.Layer.{len_error}
 use Rattle.ep_base.specs.Tables.{Parts, first_row, parts_of}
 use Rattle.ep_base.proofs.BytesLemmas.{AreBytes-take}
-use Rattle.ep_base.proofs.TableLemmas.{IsReadBy, cut_at, cut_same, shown_is}
+use Rattle.ep_base.proofs.TableLemmas.{IsReadBy, cut_at, cut_same, shown_is, first_row-append_none}
+use Rattle.ep_base.specs.declared.err.layer.Layer.TheVariants as layer
 use Rattle.ep_base.specs.declared.err.macsec.HeaderSliceError.{HeaderSliceError}
+use Rattle.ep_base.specs.declared.err.macsec.HeaderSliceError.TheVariants as header_error
 use Rattle.ep_base.specs.declared.len_source.LenSource.{LenSource}
+use Rattle.ep_base.specs.declared.len_source.LenSource.TheVariants as source
 use Rattle.ep_link.specs.declared.link_ext.macsec_ptype.MacsecPType.{MacsecPType}
 use Rattle.ep_link.specs.declared.link_ext.macsec_ptype.MacsecPType.TheVariants as ptype
 use Rattle.ep_link.specs.declared.link_ext.macsec_header.MacsecHeader.{MacsecHeader}
@@ -313,6 +317,20 @@ ends bytes tag rest n end parts whole len at =
         grind (arith, common_steps, all.0, all.1, short_len),
       )
     ]
+
+-- bytes that end before the packet whose tag stands in front of them are refused
+pub cut_refused : (bytes tag rest : List ℕ) (n end : ℕ) → bytes ≡ tag ++ rest → IsWhole tag → n ≡ length tag
+    → EndsAt tag n (length bytes) end → length bytes < end
+    → first_row (macsec_rows bytes)
+    ≡ Some (header_error.Len (len_error end (length bytes) source.Slice layer.MacsecPacket))
+cut_refused bytes tag rest n end parts whole len at past =
+    let begins : BeginsMacsec bytes = subst BeginsMacsec (sym parts) (front_begins tag rest whole) in
+    let error : ℕ → HeaderSliceError =
+    λ m. header_error.Len (len_error m (length bytes) source.Slice layer.MacsecPacket) in
+    let row : ℕ → List (Bool × HeaderSliceError) = λ m. (ltb (length bytes) m, error m) ∷ [] in
+    first_row-append_none (macsec_header_rows bytes) (row (macsec_len_of bytes)) (none_refuses_header bytes begins)
+    ∙ ap (λ (m : ℕ). first_row (row m)) (ends bytes tag rest n end parts whole len at).1
+    ∙ ap (λ (r : Bool). first_row ((r, error end) ∷ [])) (lt-ltb (length bytes) end past)
 
 -- a packet in two slices: its tag, and what follows up to its end
 pub record IsSliced (bytes tag payload left : List ℕ) : Type 0 where

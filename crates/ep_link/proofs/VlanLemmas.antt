@@ -10,7 +10,11 @@ use Rattle.ep_base.proofs.TableLemmas.{IsReadBy}
 use Rattle.ep_link.specs.declared.link_ext.single_vlan_header.SingleVlanHeader.{SingleVlanHeader}
 use Rattle.ep_link.specs.declared.link_ext.double_vlan_header.DoubleVlanHeader.{DoubleVlanHeader}
 use Rattle.ep_link.specs.Vlan.{FitsVlan, IsVlan, vlan_bytes, vlan_header_of, vlan_parts}
-use Rattle.ep_link.specs.Vlan.{vlan_rows, IsDoubleVlan, double_vlan_header_of, double_vlan_rows}
+use Rattle.ep_link.specs.Vlan.{vlan_rows, IsDoubleVlan, double_vlan_rows}
+
+-- the tags that stand at the front of 8 bytes and more
+abbrev pub double_vlan_header_of : List ℕ → DoubleVlanHeader
+double_vlan_header_of bytes = record { outer = vlan_header_of bytes; inner = vlan_header_of (drop 4 bytes) }
 
 -- ---- one tag
 

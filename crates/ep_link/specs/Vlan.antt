@@ -81,10 +81,6 @@ double_vlan_rows bytes = vlan_rows bytes ++ (nat_lt (length bytes) 8, inner_vlan
 abbrev pub RefusesDoubleVlan : List ℕ → LenError → Type 0
 RefusesDoubleVlan bytes = Refuses (double_vlan_rows bytes)
 
--- the tags that stand at the front of 8 bytes and more
-abbrev pub double_vlan_header_of : List ℕ → DoubleVlanHeader
-double_vlan_header_of bytes = record { outer = vlan_header_of bytes; inner = vlan_header_of (drop 4 bytes) }
-
 -- the bytes of one tag or of two
 abbrev pub vlan_tags_bytes : VlanHeader → List ℕ
 vlan_tags_bytes (tags.Single header) = vlan_bytes header

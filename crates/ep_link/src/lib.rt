@@ -6,8 +6,6 @@ pub mod err;
 pub mod laws;
 mod link;
 mod link_ext;
-#[cfg(test)]
-mod tests;
 
 pub use arp::{ArpHardwareId, ArpOperation, ArpPacket, ArpPacketSlice};
 pub use arrayvec::ArrayVec;

@@ -33,7 +33,15 @@ use Rattle.ep_packet.specs.PacketHeaders.{Headers, arp_packet, net_header_in, ne
 use Rattle.ep_packet.specs.PayloadParts.{PayloadPart, empty, ether, ip, innermost_part}
 use Rattle.ep_packet.specs.Refusals.{RefusesNetLayer, RefusesNetPart, RefusesTransportBehind, RefusesTransportIn, ip_content_refusal, net_header_len}
 use Rattle.ep_packet.proofs.WalkLemmas.{ends_at}
-use Rattle.ep_packet.specs.HeadersWalk.{FillsInside, FillsNet, FillsIp, FillsTransport, content_end, with_net}
+use Rattle.ep_packet.specs.HeadersWalk.{FillsInside, FillsNet, FillsIp, FillsTransport, with_net}
+use Rattle.ep_packet.specs.declared.ip_headers.IpHeaders.{IpHeaders}
+use Rattle.ep_packet.specs.declared.ip_headers.IpHeaders.TheVariants as variant
+
+-- where the content ends that the length field of IP headers counts, from the header's first byte on, of so many bytes
+abbrev pub content_end : IpHeaders → ℕ → ℕ
+content_end (variant.Ipv4 header extensions) len = header.total_len
+content_end (variant.Ipv6 header extensions) len =
+    if header.payload_length == 0 then len else 40 + header.payload_length
 
 -- ---- IP packets
 

@@ -339,7 +339,7 @@ same_walk_error (walk_error.Ipv4Exts a) (walk_error.Ipv6Exts b) same = absurd (c
 same_walk_error (walk_error.Ipv6Exts a) (walk_error.Ipv4Exts b) same = absurd (cc)
 same_walk_error (walk_error.Ipv6Exts a) (walk_error.Ipv6Exts b) same = cc
 
-not_memory : (error : ExtsWalkError) → write_error.OutOfMemory ≡ of_walk_error error → ⊥
+pub not_memory : (error : ExtsWalkError) → write_error.OutOfMemory ≡ of_walk_error error → ⊥
 not_memory (walk_error.Ipv4Exts a) same = absurd (cc)
 not_memory (walk_error.Ipv6Exts a) same = absurd (cc)
 

@@ -1,5 +1,5 @@
 -- What the walk over a frame has filled in, as the private calls of it say it.
-use Rattle.std.specs.Prelude.{◌≡◌, ℕ, ◌+◌, ◌≤◌, ◌==◌, if◌then◌else◌, List, [], ◌++◌, length, map, Option, Some, None}
+use Rattle.std.specs.Prelude.{◌≡◌, ℕ, ◌+◌, ◌≤◌, if◌then◌else◌, List, [], ◌++◌, length, map, Option, Some, None}
 use Rattle.std.specs.Option.{option_map}
 use Rattle.ep_base.specs.IpPayload.{IpPayload}
 use Rattle.ep_base.specs.Layer.{headers}
@@ -18,8 +18,6 @@ use Rattle.ep_packet.specs.NetHeaders.{net_headers_of}
 use Rattle.ep_packet.specs.PacketHeaders.{Headers, net_header_in, transport_header_in}
 use Rattle.ep_packet.specs.PayloadParts.{PayloadPart, ip, innermost_part, open_part}
 use Rattle.ep_packet.specs.Payloads.{ether_payload_behind, have_short_len}
-use Rattle.ep_packet.specs.declared.ip_headers.IpHeaders.{IpHeaders}
-use Rattle.ep_packet.specs.declared.ip_headers.IpHeaders.TheVariants as variant
 use Rattle.ep_packet.specs.declared.net_headers.NetHeaders.{NetHeaders}
 use Rattle.ep_packet.specs.Refusals.{net_header_len}
 
@@ -84,9 +82,3 @@ pub record FillsInside (room : ℕ) (payload : EtherPayload) (old new : Headers)
   pub filled : new ≡ with_net
       (record old { link_exts = old.link_exts ++ map extension_header extensions })
       (open_behind payload extensions) net transport
-
--- where the content ends that the length field of IP headers counts, from the header's first byte on, of so many bytes
-abbrev pub content_end : IpHeaders → ℕ → ℕ
-content_end (variant.Ipv4 header extensions) len = header.total_len
-content_end (variant.Ipv6 header extensions) len =
-    if header.payload_length == 0 then len else 40 + header.payload_length

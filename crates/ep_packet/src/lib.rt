@@ -34,6 +34,3 @@ pub use net_slice::{InternetSlice, NetSlice};
 pub use packet_headers::PacketHeaders;
 pub use payload_slice::PayloadSlice;
 pub use sliced_packet::SlicedPacket;
-
-#[cfg(test)]
-mod tests;

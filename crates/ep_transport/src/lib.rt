@@ -17,8 +17,6 @@ mod tcp_option_element;
 mod tcp_options;
 mod tcp_options_iterator;
 mod tcp_slice;
-#[cfg(test)]
-mod tests;
 mod transport_checksum_error;
 mod transport_header;
 mod transport_slice;

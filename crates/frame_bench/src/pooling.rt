@@ -66,7 +66,7 @@ fn give_back(
     pool: &mut IpDefragPool<u64, u64>,
     answer: Result<Option<IpDefragPayloadVec>, IpDefragError>,
 )
-    ensures { pool.new ≡ pool.old }
+    ensures { (calls : List NumberCall) → HoldsCalls calls pool.old → HoldsCalls calls pool.new }
 {
     if let Ok(Some(payload)) = answer {
         pool.return_buf(payload);

@@ -5,42 +5,35 @@ use Rattle.std.proofs.lemmas.Nat.{from_le_bytes-to_le_bytes_4, le_bytes_4}
 use Rattle.std.specs.Int.{w32, from_le_bytes, to_le_bytes}
 use Rattle.ep_base.specs.Bytes.{AreBytes}
 use Rattle.ep_base.proofs.BytesLemmas.{AreBytes-take, same_parts}
-use Rattle.slice_bench.specs.Files.{FitsFile, HoldsFrames, length_field}
+use Rattle.slice_bench.specs.Files.{HoldsFrames, StartsWith}
 
--- the first frame of a file is one only
-pub one_frame : (a b x y : List ℕ) → FitsFile a → FitsFile b
-    → length_field a ++ (a ++ x) ≡ length_field b ++ (b ++ y) → (a ≡ b) × (x ≡ y)
-one_frame a b x y fits_a fits_b same =
-    let fields = same_parts (length_field a) (length_field b) (a ++ x) (b ++ y) refl same in
+-- bytes start with one frame only
+pub one_frame : (bytes a b x y : List ℕ) → StartsWith bytes a x → StartsWith bytes b y → (a ≡ b) × (x ≡ y)
+one_frame bytes a b x y (fits_a, is_a) (fits_b, is_b) =
+    let fields =
+    same_parts (to_le_bytes w32 (length a)) (to_le_bytes w32 (length b)) (a ++ x) (b ++ y) refl (sym is_a ∙ is_b) in
     let lengths : length a ≡ length b =
     sym (from_le_bytes-to_le_bytes_4 (length a) fits_a) ∙ ap (from_le_bytes w32) fields.0
     ∙ from_le_bytes-to_le_bytes_4 (length b) fits_b in
     same_parts a b x y lengths fields.1
 
 -- behind the first frame stand the other frames of the file
-pub frames_behind : (bytes frame behind : List ℕ) (more : List (List ℕ)) → FitsFile frame
-    → bytes ≡ length_field frame ++ (frame ++ behind) → HoldsFrames bytes more
-    → (others : List (List ℕ)) × HoldsFrames behind others
-frames_behind bytes frame behind [] fits is held = absurd (omega (arith, ap length (sym held ∙ is)))
-frames_behind bytes frame behind (first ∷ others) fits is held = (
-  others,
-  subst (λ rest. HoldsFrames rest others)
-      (one_frame first frame held.0 behind held.1 fits (sym held.2 ∙ is)).1 held.3,
-)
+pub frames_behind : (bytes frame behind : List ℕ) (more : List (List ℕ)) → StartsWith bytes frame behind
+    → HoldsFrames bytes more → (others : List (List ℕ)) × HoldsFrames behind others
+frames_behind bytes frame behind [] front held = absurd (omega (arith, ap length (sym held ∙ front.1)))
+frames_behind bytes frame behind (first ∷ others) front held =
+    (others, subst (λ r. HoldsFrames r others) (one_frame bytes first frame held.0 behind held.1 front).1 held.2)
 
--- bytes that begin with no frame are those of no frames
+-- bytes that start with no frame are those of no frames
 pub no_frames : (bytes : List ℕ) (frames : List (List ℕ)) → 0 < length bytes
-    → ((frame rest : List ℕ) → FitsFile frame → bytes ≡ length_field frame ++ (frame ++ rest) → ⊥)
-    → HoldsFrames bytes frames → ⊥
+    → ((frame rest : List ℕ) → StartsWith bytes frame rest → ⊥) → HoldsFrames bytes frames → ⊥
 no_frames bytes [] some none held = omega (arith, some, ap length held)
-no_frames bytes (frame ∷ frames) some none held = none frame held.0 held.1 held.2
+no_frames bytes (frame ∷ frames) some none held = none frame held.0 held.1
 
 -- the frame at the front of some bytes, whose first four say its length
 pub frame_in_front : (bytes field rest : List ℕ) (len : ℕ) → AreBytes bytes
     → field ≡ take 4 bytes → rest ≡ drop 4 bytes → length rest + 4 ≡ length bytes → len ≡ from_le_bytes w32 field
-    → len < 2 ^ 32 → len ≤ length rest
-    → FitsFile (take len rest)
-    × (bytes ≡ length_field (take len rest) ++ (take len rest ++ take (length rest - len) (drop len rest)))
+    → len < 2 ^ 32 → len ≤ length rest → StartsWith bytes (take len rest) (take (length rest - len) (drop len rest))
 frame_in_front bytes field rest len below field_is rest_is whole len_is small room =
     let count : length (take len rest) ≡ len = length-take-le len rest room in
     let four : length field ≡ 4 = ap length field_is ∙ length-take-le 4 bytes (omega (arith, whole)) in
@@ -52,6 +45,6 @@ frame_in_front bytes field rest len below field_is rest_is whole len_is small ro
           ∙ ap (λ behind. field ++ behind) (sym rest_is)
           ∙ ap (λ front. front ++ rest) (sym (le_bytes_4 field len four each len_is))
           ∙ ap (λ n. to_le_bytes w32 n ++ rest) (sym count)
-          ∙ ap (λ behind. length_field (take len rest) ++ behind)
+          ∙ ap (λ behind. to_le_bytes w32 (length (take len rest)) ++ behind)
           (sym (take-append-drop len rest) ∙ ap (λ behind. take len rest ++ behind) (sym back)),
     )

@@ -1,4 +1,1 @@
 mod FileLemmas
-mod SumLemmas
-mod FrameLists
-mod HandedOut

@@ -2,16 +2,12 @@
 use Rattle.std.specs.Prelude.{◌≡◌, ℕ, ◌<◌, ◌^◌, List, [], ◌∷◌, ◌++◌, length}
 use Rattle.std.specs.Int.{w32, to_le_bytes}
 
--- the length of a frame in four bytes, the lowest first
-abbrev pub length_field : List ℕ → List ℕ
-length_field frame = to_le_bytes w32 (length frame)
+-- the bytes are the length of a frame, in four bytes, the lowest first, the frame, and then these
+abbrev pub StartsWith : (bytes frame rest : List ℕ) → Type 0
+StartsWith bytes frame rest =
+    (length frame < 2 ^ 32) × (bytes ≡ to_le_bytes w32 (length frame) ++ (frame ++ rest))
 
--- a frame's length has room in four bytes
-abbrev pub FitsFile : List ℕ → Type 0
-FitsFile frame = length frame < 2 ^ 32
-
--- the bytes are those of these frames in order: of each its length, and then its bytes
+-- the bytes are those of these frames in order
 abbrev pub HoldsFrames : List ℕ → List (List ℕ) → Type 0
 HoldsFrames bytes [] = bytes ≡ []
-HoldsFrames bytes (frame ∷ frames) =
-    (rest : List ℕ) × FitsFile frame × (bytes ≡ length_field frame ++ (frame ++ rest)) × HoldsFrames rest frames
+HoldsFrames bytes (frame ∷ frames) = (rest : List ℕ) × StartsWith bytes frame rest × HoldsFrames rest frames

@@ -1,25 +1,28 @@
--- What the program says where nothing is measured.
+-- What the program says: the line of an error, and the names of measurements.
 use Rattle.std.specs.Prelude.{ℕ, List, codes}
 use Rattle.slice_bench.specs.declared.bench_error.BenchError.{BenchError}
-use Rattle.slice_bench.specs.declared.bench_error.BenchError.TheVariants.{Usage, File, Cut, OutOfMemory, Clock}
-use Rattle.slice_bench.specs.declared.bench_error.BenchError.TheVariants.{Unsteady, Output}
+use Rattle.slice_bench.specs.declared.bench_error.BenchError.TheVariants as error
+use Rattle.slice_bench.specs.declared.measure.Measurement.{Measurement}
+use Rattle.slice_bench.specs.declared.measure.Measurement.TheVariants as measurement
 
 -- the line for standard error, without its line feed
 abbrev pub error_line : BenchError → List ℕ
-error_line Usage = codes "usage: slice_bench FILE [ROUNDS [MEASUREMENT]]"
-error_line File = codes "slice_bench: the file can't be read"
-error_line Cut = codes "slice_bench: the last frame of the file is cut"
-error_line OutOfMemory = codes "slice_bench: out of memory"
-error_line Clock = codes "slice_bench: the clock can't be read"
-error_line Unsteady = codes "slice_bench: two rounds gave two sums"
-error_line Output = codes "slice_bench: write failed"
+error_line error.Usage = codes "usage: slice_bench FILE [ROUNDS [MEASUREMENT]]"
+error_line error.File = codes "slice_bench: the file can't be read"
+error_line error.Cut = codes "slice_bench: the last frame of the file is cut"
+error_line error.OutOfMemory = codes "slice_bench: out of memory"
+error_line error.Clock = codes "slice_bench: the clock can't be read"
+error_line error.Unsteady = codes "slice_bench: two rounds gave two sums"
+error_line error.Output = codes "slice_bench: write failed"
 
--- the status of the process: 2 where the call itself is wrong
-abbrev pub error_status : BenchError → ℕ
-error_status Usage = 2
-error_status File = 1
-error_status Cut = 1
-error_status OutOfMemory = 1
-error_status Clock = 1
-error_status Unsteady = 1
-error_status Output = 1
+-- what a measurement is called, as an argument and in the first column
+abbrev pub measurement_name : Measurement → List ℕ
+measurement_name measurement.Slicing = codes "slicing"
+measurement_name measurement.SlicingApart = codes "slicing-apart"
+measurement_name measurement.Filling = codes "filling"
+measurement_name measurement.Decoding = codes "decoding"
+measurement_name measurement.Rereading = codes "rereading"
+measurement_name measurement.SlicingIpv4 = codes "ipv4-slice"
+measurement_name measurement.ReadingIpHeaders = codes "ip-headers"
+measurement_name measurement.Building = codes "building"
+measurement_name measurement.Reassembly = codes "reassembly"

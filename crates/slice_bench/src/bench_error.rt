@@ -1,13 +1,13 @@
 //! Why nothing was measured.
 
-ghost use Rattle.std.specs.Prelude.{◌≡◌};
-ghost use Rattle.slice_bench.specs.Texts.{error_line, error_status};
+ghost use Rattle.std.specs.Prelude.{◌≡◌, ◌≢◌};
+ghost use Rattle.slice_bench.specs.Texts.{error_line};
 ghost use Rattle.slice_bench.specs.declared.bench_error.BenchError.TheVariants.{OutOfMemory};
 
 use std::alloc::AllocError;
 
 /// Why a measurement ended early.
-#[derive(Debug, PartialEq, Eq, Drop)]
+#[derive(Debug, Drop)]
 pub enum BenchError {
     /// The arguments are not those of the usage line.
     Usage,
@@ -43,7 +43,8 @@ impl BenchError {
 
     /// The status of the process: 2 where the call itself is wrong, and else 1.
     pub fn status(&self) -> u8
-        ensures { result ≡ error_status self.now }
+        ensures usage { self.now ≡ BenchError.Usage → result ≡ 2 }
+        ensures other { self.now ≢ BenchError.Usage → result ≡ 1 }
     {
         match self {
             BenchError::Usage => 2,

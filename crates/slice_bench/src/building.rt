@@ -1,17 +1,6 @@
 //! Building frames anew from their headers and their payloads.
 
-ghost use Rattle.std.specs.Prelude.{◌≡◌, ◌<◌, ◌^◌, map, slice_index, Some, IfErr, IfOk};
-ghost use Rattle.std.specs.Option.{option_map};
-ghost use Rattle.ep_base.specs.Bytes.{word_at};
-ghost use Rattle.ep_packet.specs.PacketHeaders.{headers_of, ip_headers, net_header_of};
-ghost use Rattle.ep_packet.specs.PayloadParts.{payload_part_of};
-ghost use Rattle.ep_build.specs.Steps.{ip_link, ip_step_headers};
-ghost use Rattle.ep_build.specs.declared.link_part.LinkPart.{LinkPart};
-ghost use Rattle.slice_bench.specs.Building.{AppendsBuilt, GivesBuilt, HasParts, IsBuiltSum, behind_parts, built_sum};
-ghost use Rattle.slice_bench.specs.Building.{ethernet2_in, link_with, net_parts_in, parts_in, parts_of, parts_with};
-ghost use Rattle.slice_bench.specs.Building.{tags_in};
-ghost use Rattle.slice_bench.specs.Corpora.{AreFound};
-ghost use Rattle.slice_bench.specs.Sums.{kept_sum};
+ghost use Rattle.std.specs.Prelude.{◌≡◌, ◌<◌, ◌^◌, IfErr};
 
 use crate::bench_error::BenchError;
 use ep_base::IpNumber;
@@ -63,8 +52,6 @@ pub fn frame_parts_of<'a>(
     alloc: Global,
     frames: &[&'a [u8]],
 ) -> Result<Vec<FrameParts<'a>>, BenchError>
-    ensures found { IfOk result (λ all.
-        AreFound HasParts (map (λ frame. frame.now) frames.now) (map parts_of all.items)) }
     ensures err { IfErr result (λ error. error ≡ BenchError.OutOfMemory) }
 {
     let mut all = Vec::new(alloc);
@@ -79,9 +66,7 @@ pub fn frame_parts_of<'a>(
 }
 
 /// What a frame is built anew from, where it is decoded and the builder has a step for each of its headers.
-fn parts_of_frame(frame: &[u8]) -> Option<FrameParts<'_>>
-    ensures { HasParts frame.now (option_map parts_of result) }
-{
+fn parts_of_frame(frame: &[u8]) -> Option<FrameParts<'_>> {
     match PacketHeaders::from_ethernet_slice(frame) {
         Ok(packet) => parts_in(packet),
         Err(_) => None,
@@ -89,9 +74,7 @@ fn parts_of_frame(frame: &[u8]) -> Option<FrameParts<'_>>
 }
 
 /// What the frame of these headers is built anew from, where the builder has a step for each.
-fn parts_in(packet: PacketHeaders<'_>) -> Option<FrameParts<'_>>
-    ensures { option_map parts_of result ≡ parts_in (headers_of packet.entry) }
-{
+fn parts_in(packet: PacketHeaders<'_>) -> Option<FrameParts<'_>> {
     let link = ethernet2_in(packet.link)?;
     let tags = tags_in(packet.link_exts.as_slice())?;
     let inside = inside_of(packet.net, packet.transport, packet.payload)?;
@@ -99,9 +82,7 @@ fn parts_in(packet: PacketHeaders<'_>) -> Option<FrameParts<'_>>
 }
 
 /// The Ethernet II header among link headers.
-fn ethernet2_in(link: Option<LinkHeader>) -> Option<Ethernet2Header>
-    ensures { result ≡ ethernet2_in link }
-{
+fn ethernet2_in(link: Option<LinkHeader>) -> Option<Ethernet2Header> {
     match link {
         Some(LinkHeader::Ethernet2(header)) => Some(header),
         Some(LinkHeader::LinuxSll(_)) | None => None,
@@ -110,9 +91,7 @@ fn ethernet2_in(link: Option<LinkHeader>) -> Option<Ethernet2Header>
 
 /// The VLAN tags that link extensions are, or that there are none: where there is no other extension and at most two,
 /// since the builder has no step for more.
-fn tags_in(link_exts: &[LinkExtHeader]) -> Option<Option<VlanHeader>>
-    ensures { result ≡ tags_in link_exts.now }
-{
+fn tags_in(link_exts: &[LinkExtHeader]) -> Option<Option<VlanHeader>> {
     match link_exts {
         [] => Some(None),
         [LinkExtHeader::Vlan(tag)] => Some(Some(VlanHeader::Single(tag.clone().unwrap()))),
@@ -130,10 +109,7 @@ fn inside_of<'a>(
     net: Option<NetHeaders>,
     transport: Option<TransportHeader>,
     payload: PayloadSlice<'a>,
-) -> Option<Inside<'a>>
-    ensures { (link : LinkPart) → option_map (parts_with link) result
-        ≡ net_parts_in link (option_map net_header_of net) transport (payload_part_of payload.entry) }
-{
+) -> Option<Inside<'a>> {
     match net? {
         NetHeaders::Ipv4(header, extensions) => {
             let behind = behind_of(transport, payload)?;
@@ -151,10 +127,7 @@ fn inside_of<'a>(
 fn behind_of<'a>(
     transport: Option<TransportHeader>,
     payload: PayloadSlice<'a>,
-) -> Option<Behind<'a>>
-    ensures { (link : LinkPart) (headers : IpHeaders) → option_map (behind_parts link headers) result
-        ≡ net_parts_in link (Some (ip_headers headers)) transport (payload_part_of payload.entry) }
-{
+) -> Option<Behind<'a>> {
     if let Some(transport) = transport {
         return Some(Behind::Transport(transport, payload.slice()));
     }
@@ -172,7 +145,6 @@ fn behind_of<'a>(
 
 /// Builds the frame of each of these, one after the other in one buffer, and adds up what is summed of them.
 pub fn built(alloc: Global, all: &[FrameParts<'_>]) -> Result<u64, BenchError>
-    ensures sum { IfOk result (IsBuiltSum (map parts_of all.now)) }
     ensures err { IfErr result (λ error. error ≡ BenchError.OutOfMemory) }
 {
     let mut buffer = Vec::new(alloc);
@@ -186,7 +158,6 @@ pub fn built(alloc: Global, all: &[FrameParts<'_>]) -> Result<u64, BenchError>
 /// What is summed of the frame that is built of these, and 0 where the builder refuses them. The buffer's bytes are
 /// overwritten.
 fn number_of(parts: &FrameParts<'_>, buffer: &mut Vec<u8>) -> Result<u64, BenchError>
-    ensures number { IfOk result (GivesBuilt (parts_of parts.now)) }
     ensures err { IfErr result (λ error. error ≡ BenchError.OutOfMemory) }
 {
     buffer.clear();
@@ -198,9 +169,7 @@ fn number_of(parts: &FrameParts<'_>, buffer: &mut Vec<u8>) -> Result<u64, BenchE
 }
 
 /// Appends the frame that is built of these, and nothing at an error.
-pub fn build(parts: &FrameParts<'_>, buffer: &mut Vec<u8>) -> Result<(), BuildWriteError>
-    ensures { AppendsBuilt (parts_of parts.now) buffer.old.items result buffer.new.items }
-{
+pub fn build(parts: &FrameParts<'_>, buffer: &mut Vec<u8>) -> Result<(), BuildWriteError> {
     match &parts.inside {
         Inside::Ipv4(header, extensions, behind) => {
             let header = header.clone().unwrap();
@@ -225,9 +194,7 @@ pub fn build(parts: &FrameParts<'_>, buffer: &mut Vec<u8>) -> Result<(), BuildWr
 
 /// A copy of extension headers.
 #[inline(always)]
-fn copy_of(extensions: &Ipv6Extensions) -> Ipv6Extensions
-    ensures { result ≡ extensions.now }
-{
+fn copy_of(extensions: &Ipv6Extensions) -> Ipv6Extensions {
     extensions.clone().unwrap()
 }
 
@@ -239,10 +206,7 @@ fn build_ip(
     headers: IpHeaders,
     behind: &Behind<'_>,
     buffer: &mut Vec<u8>,
-) -> Result<(), BuildWriteError>
-    ensures { AppendsBuilt (behind_parts (link_with parts.now.link parts.now.tags) headers behind.now)
-        buffer.old.items result buffer.new.items }
-{
+) -> Result<(), BuildWriteError> {
     let link = PacketBuilder::ethernet2(parts.link.source, parts.link.destination);
     match &parts.tags {
         Some(tags) => { build_behind(link.vlan(tags.clone().unwrap()).ip(headers), behind, buffer) }
@@ -256,10 +220,7 @@ fn build_behind(
     step: PacketBuilderStep<IpHeaders>,
     behind: &Behind<'_>,
     buffer: &mut Vec<u8>,
-) -> Result<(), BuildWriteError>
-    ensures { AppendsBuilt (behind_parts (ip_link step) (ip_step_headers step) behind.now)
-        buffer.old.items result buffer.new.items }
-{
+) -> Result<(), BuildWriteError> {
     match behind {
         Behind::Payload(number, payload) => step.write(buffer, *number, payload),
         Behind::Transport(transport, payload) => match transport {
@@ -284,9 +245,7 @@ fn build_behind(
 }
 
 /// What is summed of a frame that was built.
-fn frame_number(frame: &[u8]) -> u64
-    ensures { result ≡ kept_sum (built_sum frame.now) }
-{
+fn frame_number(frame: &[u8]) -> u64 {
     let words = u64::from(word_at(frame, 24)) + u64::from(word_at(frame, 40));
     words.wrapping_add(frame.len() as u64)
 }
@@ -294,15 +253,12 @@ fn frame_number(frame: &[u8]) -> u64
 /// Two bytes of a frame, the high one first; 0 for what is not there.
 fn word_at(frame: &[u8], at: usize) -> u16
     requires { at < 2 ^ 16 }
-    ensures { result ≡ word_at frame.now at }
 {
     u16::from_be_bytes([byte_at(frame, at), byte_at(frame, at + 1)])
 }
 
 /// A byte of a frame, and 0 where it has none.
-fn byte_at(frame: &[u8], at: usize) -> u8
-    ensures { result ≡ slice_index frame.now at }
-{
+fn byte_at(frame: &[u8], at: usize) -> u8 {
     match frame.get(at) {
         Some(byte) => *byte,
         None => 0,

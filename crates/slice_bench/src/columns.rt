@@ -1,17 +1,5 @@
 //! What is done with a frame, and what is summed of it.
 
-ghost use Rattle.std.specs.Prelude.{◌≡◌, ◌+◌, ℕ, List, map, IfOk, IfErr};
-ghost use Rattle.std.specs.Option.{option_and_then, option_map};
-ghost use Rattle.ep_link.specs.LinkSlices.{link_header_of, link_layer_of};
-ghost use Rattle.ep_packet.specs.Frame.{IsFrame};
-ghost use Rattle.ep_packet.specs.Refusals.{RefusesFrame};
-ghost use Rattle.ep_packet.specs.Layers.{layers_of, net_layer_of};
-ghost use Rattle.ep_packet.specs.declared.entry.Entry.TheVariants.{Ethernet as ethernet};
-ghost use Rattle.ep_packet.specs.PacketHeaders.{headers_of, net_header_in, net_header_of, transport_header_in};
-ghost use Rattle.ep_transport.specs.TransportParts.{transport_layer_of};
-ghost use Rattle.slice_bench.specs.Sums.{GivesDecoded, GivesIpHeaders, GivesIpv4, GivesSliced, IsTotal};
-ghost use Rattle.slice_bench.specs.Sums.{headers_sum, kept_sum, layers_sum, link_sum, net_sum, transport_sum};
-
 use ep_ip::Ipv4Slice;
 use ep_link::{LinkHeader, LinkSlice};
 use ep_packet::err::SliceError;
@@ -20,20 +8,15 @@ use ep_transport::{TransportHeader, TransportSlice};
 
 /// Something that is done with each frame, or with each IP packet, in turn.
 pub trait Column<'a> {
-    ghost gives: { List ℕ → ℕ → Type 0 };
-
     /// What is kept from one to the next, before the first.
     fn new() -> Self;
 
     /// What is summed of one; 0 where it is refused.
-    fn number(&mut self, bytes: &'a [u8]) -> u64
-        ensures { Self.gives bytes.now result };
+    fn number(&mut self, bytes: &'a [u8]) -> u64;
 }
 
 /// The sum over all of them.
-pub fn total<'a, C: Column<'a> + Drop>(frames: &[&'a [u8]]) -> u64
-    ensures { IsTotal C.gives (map (λ frame. frame.now) frames.now) result }
-{
+pub fn total<'a, C: Column<'a> + Drop>(frames: &[&'a [u8]]) -> u64 {
     let mut column = C::new();
     let mut total: u64 = 0;
     for frame in frames {
@@ -47,8 +30,6 @@ pub fn total<'a, C: Column<'a> + Drop>(frames: &[&'a [u8]]) -> u64
 pub struct Slicing;
 
 impl<'a> Column<'a> for Slicing {
-    ghost gives = { GivesSliced };
-
     fn new() -> Slicing {
         Slicing
     }
@@ -66,8 +47,6 @@ impl<'a> Column<'a> for Slicing {
 pub struct SlicingApart;
 
 impl<'a> Column<'a> for SlicingApart {
-    ghost gives = { GivesSliced };
-
     fn new() -> SlicingApart {
         SlicingApart
     }
@@ -82,10 +61,7 @@ impl<'a> Column<'a> for SlicingApart {
 
 /// The packet, by value.
 #[inline(never)]
-fn sliced_apart(bytes: &[u8]) -> Result<SlicedPacket<'_>, SliceError>
-    ensures ok { IfOk result (λ packet. IsFrame ethernet bytes.now (layers_of packet)) }
-    ensures err { IfErr result (RefusesFrame ethernet bytes.now) }
-{
+fn sliced_apart(bytes: &[u8]) -> Result<SlicedPacket<'_>, SliceError> {
     SlicedPacket::from_ethernet(bytes)
 }
 
@@ -96,8 +72,6 @@ pub struct Filling<'a> {
 }
 
 impl<'a> Column<'a> for Filling<'a> {
-    ghost gives = { GivesSliced };
-
     fn new() -> Filling<'a> {
         Filling {
             packet: SlicedPacket::new(),
@@ -117,8 +91,6 @@ impl<'a> Column<'a> for Filling<'a> {
 pub struct Decoding;
 
 impl<'a> Column<'a> for Decoding {
-    ghost gives = { GivesDecoded };
-
     fn new() -> Decoding {
         Decoding
     }
@@ -138,8 +110,6 @@ pub struct Rereading<'a> {
 }
 
 impl<'a> Column<'a> for Rereading<'a> {
-    ghost gives = { GivesDecoded };
-
     fn new() -> Rereading<'a> {
         Rereading {
             packet: PacketHeaders::new(),
@@ -159,8 +129,6 @@ impl<'a> Column<'a> for Rereading<'a> {
 pub struct SlicingIpv4;
 
 impl<'a> Column<'a> for SlicingIpv4 {
-    ghost gives = { GivesIpv4 };
-
     fn new() -> SlicingIpv4 {
         SlicingIpv4
     }
@@ -181,8 +149,6 @@ impl<'a> Column<'a> for SlicingIpv4 {
 pub struct ReadingIpHeaders;
 
 impl<'a> Column<'a> for ReadingIpHeaders {
-    ghost gives = { GivesIpHeaders };
-
     fn new() -> ReadingIpHeaders {
         ReadingIpHeaders
     }
@@ -203,9 +169,7 @@ impl<'a> Column<'a> for ReadingIpHeaders {
 
 /// What is summed of a sliced packet.
 #[inline]
-fn layers_number(packet: &SlicedPacket<'_>) -> u64
-    ensures { result ≡ kept_sum (layers_sum (layers_of packet.now)) }
-{
+fn layers_number(packet: &SlicedPacket<'_>) -> u64 {
     let link = link_number(&packet.link);
     let net = net_number(&packet.net);
     let transport = transport_number(&packet.transport);
@@ -215,9 +179,7 @@ fn layers_number(packet: &SlicedPacket<'_>) -> u64
 
 /// What is summed of a link layer.
 #[inline]
-fn link_number(link: &Option<LinkSlice<'_>>) -> u16
-    ensures { result ≡ link_sum (option_and_then link_header_of (option_map link_layer_of link.now)) }
-{
+fn link_number(link: &Option<LinkSlice<'_>>) -> u16 {
     match link {
         Some(LinkSlice::Ethernet2(frame)) => frame.ether_type().0,
         Some(LinkSlice::LinuxSll(_) | LinkSlice::EtherPayload(_) | LinkSlice::LinuxSllPayload(_))
@@ -227,9 +189,7 @@ fn link_number(link: &Option<LinkSlice<'_>>) -> u16
 
 /// What is summed of a net layer.
 #[inline]
-fn net_number(net: &Option<NetSlice<'_>>) -> u32
-    ensures { result ≡ net_sum (option_map net_header_in (option_map net_layer_of net.now)) }
-{
+fn net_number(net: &Option<NetSlice<'_>>) -> u32 {
     match net {
         Some(NetSlice::Ipv4(packet)) => {
             let header = packet.header();
@@ -245,9 +205,7 @@ fn net_number(net: &Option<NetSlice<'_>>) -> u32
 
 /// What is summed of a transport layer.
 #[inline]
-fn transport_number(transport: &Option<TransportSlice<'_>>) -> u32
-    ensures { result ≡ transport_sum (option_map transport_header_in (option_map transport_layer_of transport.now)) }
-{
+fn transport_number(transport: &Option<TransportSlice<'_>>) -> u32 {
     match transport {
         Some(TransportSlice::Udp(datagram)) => {
             u32::from(datagram.source_port()) + u32::from(datagram.destination_port())
@@ -261,9 +219,7 @@ fn transport_number(transport: &Option<TransportSlice<'_>>) -> u32
 
 /// What is summed of decoded headers.
 #[inline]
-fn headers_number(packet: &PacketHeaders<'_>) -> u64
-    ensures { result ≡ kept_sum (headers_sum (headers_of packet.now)) }
-{
+fn headers_number(packet: &PacketHeaders<'_>) -> u64 {
     let link = link_header_number(&packet.link);
     let net = net_header_number(&packet.net);
     let transport = transport_header_number(&packet.transport);
@@ -273,9 +229,7 @@ fn headers_number(packet: &PacketHeaders<'_>) -> u64
 
 /// What is summed of a link header.
 #[inline]
-fn link_header_number(link: &Option<LinkHeader>) -> u16
-    ensures { result ≡ link_sum link.now }
-{
+fn link_header_number(link: &Option<LinkHeader>) -> u16 {
     match link {
         Some(LinkHeader::Ethernet2(header)) => header.ether_type.0,
         Some(LinkHeader::LinuxSll(_)) | None => 0,
@@ -284,9 +238,7 @@ fn link_header_number(link: &Option<LinkHeader>) -> u16
 
 /// What is summed of net headers.
 #[inline]
-fn net_header_number(net: &Option<NetHeaders>) -> u32
-    ensures { result ≡ net_sum (option_map net_header_of net.now) }
-{
+fn net_header_number(net: &Option<NetHeaders>) -> u32 {
     match net {
         Some(NetHeaders::Ipv4(header, _)) => {
             u32::from(header.protocol.0) + u32::from(header.total_len)
@@ -300,9 +252,7 @@ fn net_header_number(net: &Option<NetHeaders>) -> u32
 
 /// What is summed of a transport header.
 #[inline]
-fn transport_header_number(transport: &Option<TransportHeader>) -> u32
-    ensures { result ≡ transport_sum transport.now }
-{
+fn transport_header_number(transport: &Option<TransportHeader>) -> u32 {
     match transport {
         Some(TransportHeader::Udp(header)) => {
             u32::from(header.source_port) + u32::from(header.destination_port)

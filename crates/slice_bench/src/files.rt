@@ -1,8 +1,7 @@
 //! The frames of a file.
 
-ghost use Rattle.std.specs.Prelude.{◌≡◌, ◌++◌, ℕ, List, map, IfErr, IfNone, IfOk, IfSome};
-ghost use Rattle.slice_bench.specs.Files.{FitsFile, HoldsFrames, length_field};
-ghost use Rattle.slice_bench.specs.Refusals.{RefusesFile};
+ghost use Rattle.std.specs.Prelude.{◌≡◌, ◌⊎◌, ℕ, List, map, IfErr, IfNone, IfOk, IfSome};
+ghost use Rattle.slice_bench.specs.Files.{HoldsFrames, StartsWith};
 
 use crate::bench_error::BenchError;
 use std::alloc::Global;
@@ -11,7 +10,8 @@ use std::alloc::Global;
 /// A file whose last frame is cut is refused.
 pub fn frames_of(alloc: Global, bytes: &[u8]) -> Result<Vec<&[u8]>, BenchError>
     ensures ok { IfOk result (λ frames. HoldsFrames bytes.now (map (λ frame. frame.now) frames.items)) }
-    ensures err { IfErr result (RefusesFile bytes.now) }
+    ensures cut { result ≡ Err BenchError.Cut → (frames : List (List ℕ)) → HoldsFrames bytes.now frames → ⊥ }
+    ensures err { IfErr result (λ error. (error ≡ BenchError.Cut) ⊎ (error ≡ BenchError.OutOfMemory)) }
 {
     let mut frames = Vec::new(alloc);
     let mut rest = bytes;
@@ -29,10 +29,8 @@ pub fn frames_of(alloc: Global, bytes: &[u8]) -> Result<Vec<&[u8]>, BenchError>
 
 /// The first frame, and what stands behind it.
 fn split_frame(bytes: &[u8]) -> Option<(&[u8], &[u8])>
-    ensures some { IfSome result (λ parts. FitsFile parts.0.now
-        × (bytes.now ≡ length_field parts.0.now ++ (parts.0.now ++ parts.1.now))) }
-    ensures none { IfNone result ((frame rest : List ℕ) → FitsFile frame
-        → bytes.now ≡ length_field frame ++ (frame ++ rest) → ⊥) }
+    ensures some { IfSome result (λ parts. StartsWith bytes.now parts.0.now parts.1.now) }
+    ensures none { IfNone result ((frame rest : List ℕ) → StartsWith bytes.now frame rest → ⊥) }
 {
     let (field, rest) = bytes.split_first_chunk::<4>()?;
     let len = u32::from_le_bytes(*field) as usize;

@@ -5,7 +5,6 @@ ghost use Rattle.slice_bench.specs.declared.measure.Measurement.TheVariants.{Bui
 ghost use Rattle.slice_bench.specs.declared.measure.Measurement.TheVariants.{ReadingIpHeaders, Reassembly, Rereading};
 ghost use Rattle.slice_bench.specs.declared.measure.Measurement.TheVariants.{Slicing, SlicingApart, SlicingIpv4};
 
-use crate::bench_error::BenchError;
 use crate::measure::Measurement;
 
 /// All measurements are each of them once, in the order in which they are made.
@@ -14,8 +13,7 @@ pub fn constants()
         ∷ ReadingIpHeaders ∷ Building ∷ Reassembly ∷ [] }
 {}
 
-/// Measurements and errors are equal where they are the same.
+/// Measurements are equal where they are the same.
 pub fn comparisons()
-    ensures measurements { (a b : Measurement) → IsTrue (⟦<Measurement as PartialEq>⟧.eq a b) ↔ (a ≡ b) }
-    ensures errors { (a b : BenchError) → IsTrue (⟦<BenchError as PartialEq>⟧.eq a b) ↔ (a ≡ b) }
+    ensures { (a b : Measurement) → IsTrue (⟦<Measurement as PartialEq>⟧.eq a b) ↔ (a ≡ b) }
 {}

@@ -1,7 +1,7 @@
 //! Rounds over frames, and how long they take.
 
-ghost use Rattle.std.specs.Prelude.{◌≡◌, ◌*◌, ◌/◌, ◌<◌, ◌^◌, IfOk};
-ghost use Rattle.slice_bench.specs.Rounds.{IsRoundSum, measurement_name, round_count};
+ghost use Rattle.std.specs.Prelude.{◌≡◌, ◌*◌, ◌/◌, ◌<◌, ◌^◌};
+ghost use Rattle.slice_bench.specs.Texts.{measurement_name};
 
 use crate::bench_error::BenchError;
 use crate::building::{FrameParts, built};
@@ -79,9 +79,7 @@ impl Measurement {
     }
 
     /// How many a round goes over.
-    pub fn count(&self, corpus: &Corpus<'_>) -> usize
-        ensures { result ≡ round_count self.now corpus.now }
-    {
+    pub fn count(&self, corpus: &Corpus<'_>) -> usize {
         match self {
             Measurement::Slicing
             | Measurement::SlicingApart
@@ -95,9 +93,7 @@ impl Measurement {
     }
 
     /// One round, and what is summed in it.
-    fn round(&self, alloc: Global, corpus: &Corpus<'_>) -> Result<u64, BenchError>
-        ensures { IfOk result (IsRoundSum self.now corpus.now) }
-    {
+    fn round(&self, alloc: Global, corpus: &Corpus<'_>) -> Result<u64, BenchError> {
         match self {
             Measurement::Slicing => Ok(total::<Slicing>(corpus.frames.as_slice())),
             Measurement::SlicingApart => Ok(total::<SlicingApart>(corpus.frames.as_slice())),
@@ -135,9 +131,7 @@ pub fn measure<C: Clock>(
     measurement: Measurement,
     corpus: &Corpus<'_>,
     rounds: Option<u64>,
-) -> Result<Measured, BenchError>
-    ensures { IfOk result (λ measured. IsRoundSum measurement corpus.now measured.sum) }
-{
+) -> Result<Measured, BenchError> {
     let sum = measurement.round(alloc, corpus)?;
     let most = rounds.unwrap_or(u64::MAX);
     let Ok(start) = Instant::now(clock) else {

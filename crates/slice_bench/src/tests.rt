@@ -1,103 +1,25 @@
 //! What no contract says: files and sums from outside, and that calls which take memory succeed where there is memory.
 
-use crate::bench_error::BenchError;
 use crate::building::{build, frame_parts_of};
 use crate::corpus::ip_packets_of;
 use crate::files::frames_of;
 use crate::measure::{Corpus, Measurement, measure};
+use std::alloc::Global;
 use std::test::Fail;
 
-/// Files, and the number of their frames with the length of the last, where none is cut.
-const FILES: [(&[u8], Option<(usize, usize)>); 8] = [
-    (b"", Some((0, 0))),
-    (b"\0\0\0\0", Some((1, 0))),
-    (b"\x01\0\0\0a\0\0\0\0\x02\0\0\0bc", Some((3, 2))),
-    // The length, highest first.
-    (b"\0\0\0\x01a", None),
-    // The last length and the last frame, cut.
-    (b"\x01\0\0\0a\x01\0\0", None),
-    (b"\x01\0\0\0a\x01\0\0\0", None),
-    (b"\x02\0\0\0a", None),
-    (b"\xff\xff\xff\xffa", None),
-];
-
-#[test]
-fn holds_frames(rt: HostRuntime) -> Result<(), Fail> {
-    for (file, wanted) in FILES {
-        let held = match frames_of(rt.alloc(), file) {
-            Ok(frames) => {
-                let last_len = match frames.last() {
-                    Some(frame) => frame.len(),
-                    None => 0,
-                };
-                Some((frames.len(), last_len))
-            }
-            Err(error) => {
-                assert_eq!(rt; error, BenchError::Cut);
-                None
-            }
-        };
-        assert_eq!(rt; held, wanted);
-    }
-    Ok(())
-}
-
-/// Ethernet II, IPv4 and the first fragment of a payload of 16 bytes.
-const FIRST: &[u8] = b"\x07\x08\x09\x0a\x0b\x0c\x01\x02\x03\x04\x05\x06\x08\x00\
-    \x45\x00\x00\x1c\x00\x01\x20\x00\x14\x11\x03\x7d\xc0\xa8\x01\x01\xc0\xa8\x01\x02\
-    \x00\x01\x02\x03\x04\x05\x06\x07";
-/// The other fragment.
-const SECOND: &[u8] = b"\x07\x08\x09\x0a\x0b\x0c\x01\x02\x03\x04\x05\x06\x08\x00\
-    \x45\x00\x00\x1c\x00\x01\x00\x01\x14\x11\x23\x7c\xc0\xa8\x01\x01\xc0\xa8\x01\x02\
-    \x08\x09\x0a\x0b\x0c\x0d\x0e\x0f";
-/// Ethernet II, IPv4 and UDP with 8 bytes.
-const DATAGRAM: &[u8] = b"\x07\x08\x09\x0a\x0b\x0c\x01\x02\x03\x04\x05\x06\x08\x00\
-    \x45\x00\x00\x24\x00\x00\x40\x00\x14\x11\xe3\x75\xc0\xa8\x01\x01\xc0\xa8\x01\x02\
-    \x00\x15\x04\xd2\x00\x10\x67\x7f\x01\x02\x03\x04\x05\x06\x07\x08";
-/// Ethernet II and no more than the first byte of what is to be IPv4.
-const CUT: &[u8] = b"\x07\x08\x09\x0a\x0b\x0c\x01\x02\x03\x04\x05\x06\x08\x00\x45";
-
-/// What is summed of them: the ether type, the protocol and the total length, the ports, and the payload's length.
-const SUMS: [(Measurement, u64); 9] = [
-    // Twice 2048, 17, 28 and 8, and then 2048, 17, 36, 21, 1234 and 8.
-    (Measurement::Slicing, 7566),
-    (Measurement::SlicingApart, 7566),
-    (Measurement::Filling, 7566),
-    (Measurement::Decoding, 7566),
-    (Measurement::Rereading, 7566),
-    // Twice 17 and 8, and then 17 and 16.
-    (Measurement::SlicingIpv4, 83),
-    (Measurement::ReadingIpHeaders, 83),
-    // The words 0x037d and 0x0607 and 42 bytes, 0xe375, 0x677f and 50, and 0x237c, 0x0e0f and 42.
-    (Measurement::Building, 99_977),
-    (Measurement::Reassembly, 16),
-];
-
-#[test]
-fn sums_frames(rt: HostRuntime) -> Result<(), Fail> {
-    let frames = vec![in rt.alloc(); FIRST, DATAGRAM, CUT, SECOND]?;
-    let ip_packets = ip_packets_of(rt.alloc(), frames.as_slice()).expect(&rt, "ample memory");
-    assert_eq!(rt; ip_packets.len(), 3);
-    let frame_parts = frame_parts_of(rt.alloc(), frames.as_slice()).expect(&rt, "ample memory");
-    assert_eq!(rt; frame_parts.len(), 3);
-    let corpus = Corpus {
-        frames,
-        ip_packets,
-        frame_parts,
-    };
-    for (measurement, sum) in SUMS {
-        let measured = measure(&rt, rt.alloc(), measurement, &corpus, Some(2)).expect(
-            &rt,
-            "ample memory and a clock",
-        );
-        assert_eq!(rt; measured.sum, sum);
-        assert_eq!(rt; measured.rounds, 2);
-    }
-    Ok(())
-}
-
 /// Frames whose lengths and checksums are right: built anew, each is itself.
-const REBUILT: [&[u8]; 9] = [
+const REBUILT: [&[u8]; 12] = [
+    // The two fragments of a payload of IPv4.
+    b"\x07\x08\x09\x0a\x0b\x0c\x01\x02\x03\x04\x05\x06\x08\x00\
+        \x45\x00\x00\x1c\x00\x01\x20\x00\x14\x11\x03\x7d\xc0\xa8\x01\x01\xc0\xa8\x01\x02\
+        \x00\x01\x02\x03\x04\x05\x06\x07",
+    b"\x07\x08\x09\x0a\x0b\x0c\x01\x02\x03\x04\x05\x06\x08\x00\
+        \x45\x00\x00\x1c\x00\x01\x00\x01\x14\x11\x23\x7c\xc0\xa8\x01\x01\xc0\xa8\x01\x02\
+        \x08\x09\x0a\x0b\x0c\x0d\x0e\x0f",
+    // IPv4 and UDP.
+    b"\x07\x08\x09\x0a\x0b\x0c\x01\x02\x03\x04\x05\x06\x08\x00\
+        \x45\x00\x00\x24\x00\x00\x40\x00\x14\x11\xe3\x75\xc0\xa8\x01\x01\xc0\xa8\x01\x02\
+        \x00\x15\x04\xd2\x00\x10\x67\x7f\x01\x02\x03\x04\x05\x06\x07\x08",
     // An ARP packet behind a tag.
     b"\x01\x02\x03\x04\x05\x06\x07\x08\x09\x0a\x0b\x0c\x81\x00\x20\x05\x08\x06\x00\x01\x08\x00\x06\x04\
         \x00\x01\x01\x02\x03\x04\x05\x06\x07\x08\x09\x0a\x0b\x0c\x0d\x0e\x0f\x10\x11\x12\x13\x14",
@@ -135,31 +57,110 @@ const REBUILT: [&[u8]; 9] = [
         \x0d\xb8\x00\x00\x00\x00\x00\x00\x00\x00\x00\x00\x00\x01\x20\x01\x0d\xb8\x00\x00\x00\x00\x00\x00\
         \x00\x00\x00\x00\x00\x02\x80\x00\x26\x5f\xd6\x1a\x23\xc4\x01\x02\x03\x04",
 ];
-/// Frames for which the builder has no step.
+/// Frames for which the builder has no step, and one that is cut.
 const UNBUILT: [&[u8]; 3] = [
     // Three tags.
     b"\x01\x02\x03\x04\x05\x06\x07\x08\x09\x0a\x0b\x0c\x88\xa8\x00\x01\x81\x00\x00\x02\x81\x00\x00\x03\
         \x08\x00\x45\x00\x00\x20\x2e\x71\x40\x00\x40\x11\x89\x08\xc0\xa8\x01\x01\xc0\xa8\x01\x02\x41\x9c\
         \x00\x35\x00\x0c\x36\xab\x01\x02\x03\x04",
-    // A MACsec tag.
-    b"\x01\x02\x03\x04\x05\x06\x07\x08\x09\x0a\x0b\x0c\x88\xe5\x00\x00\x00\x00\x00\x07\x08\x00\x45\x00\
-        \x00\x20\xd9\x5a\x40\x00\x40\x11\xde\x1e\xc0\xa8\x01\x01\xc0\xa8\x01\x02\x91\x11\x00\x35\x00\x0c\
-        \xe7\x35\x01\x02\x03\x04",
     // A type that is not read.
     b"\x01\x02\x03\x04\x05\x06\x07\x08\x09\x0a\x0b\x0c\x88\xcc\x01\x02\x03\x04",
+    // The first byte of IPv4 alone.
+    b"\x07\x08\x09\x0a\x0b\x0c\x01\x02\x03\x04\x05\x06\x08\x00\x45",
 ];
+
+/// A MACsec tag, IPv4 and UDP: behind the tag the walk in C reads nothing.
+const MACSEC: &[u8] =
+    b"\x01\x02\x03\x04\x05\x06\x07\x08\x09\x0a\x0b\x0c\x88\xe5\x00\x00\x00\x00\x00\x07\x08\x00\x45\x00\
+    \x00\x20\xd9\x5a\x40\x00\x40\x11\xde\x1e\xc0\xa8\x01\x01\xc0\xa8\x01\x02\x91\x11\x00\x35\x00\x0c\
+    \xe7\x35\x01\x02\x03\x04";
+
+/// What each measurement goes over in these frames, and its sum.
+const SUMS: [(Measurement, usize, u64); 9] = [
+    // `compare/walk.c` prints this sum of the file of these frames.
+    (Measurement::Slicing, 15, 377_860),
+    (Measurement::SlicingApart, 15, 377_860),
+    (Measurement::Filling, 15, 377_860),
+    (Measurement::Decoding, 15, 377_860),
+    (Measurement::Rereading, 15, 377_860),
+    // Of each packet the number in its IP header, and the length behind its extension headers.
+    (Measurement::SlicingIpv4, 12, 370),
+    (Measurement::ReadingIpHeaders, 12, 533),
+    // Of each frame that is rebuilt the words at 24 and 40, and its length.
+    (Measurement::Building, 12, 251_474),
+    (Measurement::Reassembly, 15, 16),
+];
+
+#[test]
+fn sums_frames(rt: HostRuntime) -> Result<(), Fail> {
+    let mut frames = Vec::from_slice(rt.alloc(), &REBUILT)?;
+    frames.extend_from_slice(&UNBUILT)?;
+    let ip_packets = ip_packets_of(rt.alloc(), frames.as_slice()).expect(&rt, "ample memory");
+    let frame_parts = frame_parts_of(rt.alloc(), frames.as_slice()).expect(&rt, "ample memory");
+    let corpus = Corpus {
+        frames,
+        ip_packets,
+        frame_parts,
+    };
+    for (measurement, count, sum) in SUMS {
+        assert!(rt; measurement.count(&corpus) == count);
+        // A round whose sum is another is an error.
+        let measured = measure(&rt, rt.alloc(), measurement, &corpus, Some(2));
+        let measured = measured.expect(&rt, "ample memory and a clock");
+        assert_eq!(rt; measured.sum, sum);
+        assert!(rt; measured.rounds == 2);
+    }
+    Ok(())
+}
 
 #[test]
 fn rebuilds_frames(rt: HostRuntime) -> Result<(), Fail> {
     let all = frame_parts_of(rt.alloc(), &REBUILT).expect(&rt, "ample memory");
-    assert_eq!(rt; all.len(), REBUILT.len());
+    assert!(rt; all.len() == REBUILT.len());
     let mut buffer = Vec::new(rt.alloc());
     for (parts, frame) in all.iter().zip(REBUILT) {
         buffer.clear();
-        assert_eq!(rt; build(parts, &mut buffer), Ok(()));
-        assert_eq!(rt; buffer.as_slice(), frame);
+        assert!(rt; build(parts, &mut buffer).is_ok());
+        assert!(rt; buffer.as_slice() == frame);
     }
     let none = frame_parts_of(rt.alloc(), &UNBUILT).expect(&rt, "ample memory");
-    assert_eq!(rt; none.len(), 0);
+    assert!(rt; none.is_empty());
+    let none = frame_parts_of(rt.alloc(), &[MACSEC]).expect(&rt, "ample memory");
+    assert!(rt; none.is_empty());
     Ok(())
+}
+
+/// Files, and the number of their frames with the length of the last, where none is cut.
+const FILES: [(&[u8], Option<(usize, usize)>); 8] = [
+    (b"", Some((0, 0))),
+    (b"\0\0\0\0", Some((1, 0))),
+    (b"\x01\0\0\0a\0\0\0\0\x02\0\0\0bc", Some((3, 2))),
+    // The length, highest first.
+    (b"\0\0\0\x01a", None),
+    // The last length and the last frame, cut.
+    (b"\x01\0\0\0a\x01\0\0", None),
+    (b"\x01\0\0\0a\x01\0\0\0", None),
+    (b"\x02\0\0\0a", None),
+    (b"\xff\xff\xff\xffa", None),
+];
+
+/// The number of a file's frames and the length of the last, where none is cut.
+fn held_in(alloc: Global, file: &[u8]) -> Option<(usize, usize)> {
+    match frames_of(alloc, file) {
+        Ok(frames) => {
+            let last_len = match frames.last() {
+                Some(frame) => frame.len(),
+                None => 0,
+            };
+            Some((frames.len(), last_len))
+        }
+        Err(_) => None,
+    }
+}
+
+#[test]
+fn holds_frames(rt: HostRuntime) {
+    for (file, wanted) in FILES {
+        assert!(rt; held_in(rt.alloc(), file) == wanted);
+    }
 }

@@ -1,8 +1,9 @@
-//! Laws of the errors, each the contract of a function with an empty body.
+//! Laws of the errors, each the contract of a function that does nothing.
 
 ghost use Rattle.ep_base.specs.Comparisons.{TellsSame, ClonesExactly};
 
 use crate::err::{ip, ip_auth, ip_exts, ipv4, ipv4_exts, ipv6, ipv6_exts, linux_sll, macsec, tcp};
+use crate::laws;
 
 /// Errors are equal where they are the same variant with the same parts.
 pub fn equalities()
@@ -31,7 +32,9 @@ pub fn equalities()
     ensures macsec_header_slice { TellsSame ⟦<macsec::HeaderSliceError as PartialEq>⟧.eq }
     ensures tcp_header { TellsSame ⟦<tcp::HeaderError as PartialEq>⟧.eq }
     ensures tcp_header_slice { TellsSame ⟦<tcp::HeaderSliceError as PartialEq>⟧.eq }
-{}
+{
+    laws::equalities();
+}
 
 /// A clone is there whatever memory there is, and is the same as its source.
 pub fn clones()

@@ -12,7 +12,8 @@ use ep_link::ArpPacket;
 
 impl PacketBuilderStep<ArpPacket> {
     /// Appends the frame of the headers and the packet. Where there is no memory, which comes only where the buffer
-    /// would have to grow, it is as it was.
+    /// would have to grow, it is as it was. The frame is read back as this packet, behind a cooked header where its
+    /// packet type is a known one.
     pub fn write(self, buf: &mut Vec<u8>) -> Result<(), BuildWriteError>
         ensures ok { OnOk result (buf.new.items ≡ buf.old.items ++ built_frame (arp_held self) []) }
         ensures err { OnErr result (buf.new.items ≡ buf.old.items) }

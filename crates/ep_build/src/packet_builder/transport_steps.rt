@@ -18,7 +18,9 @@ impl<Transport: HoldsHeaders<Before = (LinkPart, IpHeaders)> + IsTransport> Pack
 > {
     /// Appends the frame of the headers and this payload. A refusal leaves the buffer as it was: headers and payload
     /// are longer than the length field of IP can count, the transport header is of ICMPv6 behind IPv4, or there is no
-    /// memory, which comes only where the buffer would have to grow.
+    /// memory, which comes only where the buffer would have to grow. The frame is read back with this transport header
+    /// and payload where the packet is no fragment, an ICMPv4 message has the length of its type, and a cooked header
+    /// a known packet type.
     pub fn write(mut self, buf: &mut Vec<u8>, payload: &[u8]) -> Result<(), BuildWriteError>
         ensures ok { let held = transport_held Transport.kind self in
             OnOk result (IsBuildable held (length payload.now)

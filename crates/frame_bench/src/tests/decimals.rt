@@ -1,7 +1,6 @@
 //! Numbers as decimal digits, to the greatest.
 
-use crate::decimals::{push, push_behind};
-use std::process::Abort;
+use crate::decimals::push;
 use std::test::Fail;
 
 const ROWS: [(u64, &[u8]); 6] = [
@@ -18,13 +17,7 @@ fn numbers(rt: HostRuntime) -> Result<(), Fail> {
     for (number, digits) in ROWS {
         let mut output = Vec::new(rt.alloc());
         push(&mut output, number)?;
-        assert_eq!(rt; output.as_slice(), digits);
-        let mut wanted = Vec::new(rt.alloc());
-        wanted.extend_from_slice(b"12 ")?;
-        wanted.extend_from_slice(digits)?;
-        let mut output = Vec::new(rt.alloc());
-        push_behind(&mut output, b"12 ", number)?;
-        assert_eq!(rt; output.as_slice(), wanted.as_slice());
+        assert!(rt; output.as_slice() == digits);
     }
     Ok(())
 }

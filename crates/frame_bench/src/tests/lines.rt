@@ -1,7 +1,6 @@
 //! Lines that ask nothing, and lines that are empty, do not end or are long.
 
-use super::{assert_answers, assert_rows};
-use std::io::Write;
+use super::{assert_answers, assert_rows, push_line};
 use std::test::Fail;
 
 /// Lines that ask nothing, and some that are near them.
@@ -40,22 +39,34 @@ fn answers_each_line(rt: HostRuntime) -> Result<(), Fail> {
     Ok(())
 }
 
+/// The front of three lines of more than 240,000 digits, each behind a line that ends in CR LF.
+const FRONTS: [&[u8]; 3] = [
+    b"slice eth -\r\nslice eth 00000001000000000000000000001234",
+    b"slice sll -\r\nslice sll 00000001000000000000000000001234",
+    b"slice ip -\r\nslice ip 00000001000000000000000000001234",
+];
+
+/// The front of the answers to each two, and whether the digits follow.
+const ANSWERS: [(&[u8], bool); 3] = [
+    (b"err line\nok eth - - - 1234", true),
+    (b"err line\nok sll - - - ", true),
+    (b"err line\nerr ip-version 0", false),
+];
+
 #[test]
 fn answers_long_lines(rt: HostRuntime) -> Result<(), Fail> {
-    // Three lines of more than 240,000 digits, each over four pieces, behind lines that end in CR LF.
+    // Each lies over four pieces.
     let digits = vec![in rt.alloc(); b'a'; 240_000]?;
     let mut input = Vec::new(rt.alloc());
-    let mut wanted = Vec::new(rt.alloc());
-    for entry in ["eth", "sll", "ip"] {
-        writeln!(input, "slice {entry} -\r")?;
-        write!(input, "slice {entry} 00000001000000000000000000001234")?;
-        input.extend_from_slice(digits.as_slice())?;
-        input.push(b'\n')?;
+    for front in FRONTS {
+        input.extend_from_slice(front)?;
+        push_line(&mut input, digits.as_slice())?;
     }
-    wanted.extend_from_slice(b"err line\nok eth - - - 1234")?;
-    wanted.extend_from_slice(digits.as_slice())?;
-    wanted.extend_from_slice(b"\nerr line\nok sll - - - ")?;
-    wanted.extend_from_slice(digits.as_slice())?;
-    wanted.extend_from_slice(b"\nerr line\nerr ip-version 0\n")?;
+    let mut wanted = Vec::new(rt.alloc());
+    for (front, follow) in ANSWERS {
+        wanted.extend_from_slice(front)?;
+        let behind = if follow { digits.as_slice() } else { &[] };
+        push_line(&mut wanted, behind)?;
+    }
     assert_answers(&rt, rt.alloc(), input.as_slice(), wanted.as_slice())
 }

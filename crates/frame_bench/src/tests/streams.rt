@@ -91,13 +91,7 @@ struct Streams {
 }
 
 /// Runs between the two, and compares the result, the calls and what is written.
-fn assert_streams(
-    rt: &impl Abort,
-    alloc: Global,
-    streams: &Streams,
-    input: &[u8],
-    wanted: &[u8],
-) -> Result<(), Fail> {
+fn assert_streams(rt: &impl Abort, alloc: Global, streams: &Streams, input: &[u8], wanted: &[u8]) {
     let mut source = Source {
         rest: input,
         turns: Turns {
@@ -115,11 +109,12 @@ fn assert_streams(
     let mut reader = Watched::new(&mut source);
     let mut writer = Watched::new(&mut target);
     let error = run(alloc, &mut reader, &mut writer).err();
-    assert_eq!(rt; error, streams.error);
-    assert_eq!(rt; (source.turns.calls, target.turns.calls), streams.calls);
-    assert!(rt; streams.written <= wanted.len());
-    assert_eq!(rt; target.bytes.as_slice(), &wanted[..streams.written]);
-    Ok(())
+    assert!(rt; error == streams.error);
+    assert!(rt; (source.turns.calls, target.turns.calls) == streams.calls);
+    assert_eq!(rt;
+        Some(target.bytes.as_slice()),
+        wanted.get(..streams.written)
+    );
 }
 
 /// Each call moves all that is there.
@@ -248,19 +243,19 @@ const STREAMS: [Streams; 13] = [
 #[test]
 fn moves_little_or_fails(rt: HostRuntime) -> Result<(), Fail> {
     for streams in &STREAMS {
-        assert_streams(&rt, rt.alloc(), streams, LINES, ANSWERS)?;
+        assert_streams(&rt, rt.alloc(), streams, LINES, ANSWERS);
     }
     // Each row, a byte at a time, and each run on one pool.
     let (input, wanted) = texts_of(rt.alloc(), &frames::ROWS)?;
-    assert_single(&rt, rt.alloc(), input.as_slice(), wanted.as_slice())?;
+    assert_single(&rt, rt.alloc(), input.as_slice(), wanted.as_slice());
     for (input, wanted) in fragments::RUNS {
-        assert_single(&rt, rt.alloc(), input.as_bytes(), wanted.as_bytes())?;
+        assert_single(&rt, rt.alloc(), input.as_bytes(), wanted.as_bytes());
     }
     Ok(())
 }
 
 /// Runs with a reader and a writer that move a byte a call.
-fn assert_single(rt: &impl Abort, alloc: Global, input: &[u8], wanted: &[u8]) -> Result<(), Fail> {
+fn assert_single(rt: &impl Abort, alloc: Global, input: &[u8], wanted: &[u8]) {
     let streams = Streams {
         reading: SINGLE,
         writing: SINGLE,
@@ -268,12 +263,12 @@ fn assert_single(rt: &impl Abort, alloc: Global, input: &[u8], wanted: &[u8]) ->
         calls: (input.len().saturating_add(1), wanted.len()),
         written: wanted.len(),
     };
-    assert_streams(rt, alloc, &streams, input, wanted)
+    assert_streams(rt, alloc, &streams, input, wanted);
 }
 
 #[test]
 fn tells_each_failure(rt: HostRuntime) {
-    assert_eq!(rt; RunError::Read.text(), "frame_bench: read failed");
-    assert_eq!(rt; RunError::Write.text(), "frame_bench: write failed");
-    assert_eq!(rt; RunError::OutOfMemory.text(), "frame_bench: out of memory");
+    assert!(rt; RunError::Read.text() == "frame_bench: read failed");
+    assert!(rt; RunError::Write.text() == "frame_bench: write failed");
+    assert!(rt; RunError::OutOfMemory.text() == "frame_bench: out of memory");
 }

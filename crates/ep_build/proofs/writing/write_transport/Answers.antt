@@ -1,16 +1,60 @@
-use Rattle.std.proofs.Common.{◌+◌, ℕ, length, sym, ap, subst, arith}
+use Rattle.std.proofs.Common.{◌≡◌, ◌+◌, ℕ, length, sym, ap, subst, refl, inr, arith}
 use Rattle.std.specs.Prelude.{is_ok}
 use Rattle.std.proofs.lemmas.List.{length-append}
 use Rattle.ep_base.specs.Bytes.{AreBytes}
-use Rattle.ep_packet.specs.IpHeaders.{LeadThrough, ip_headers_len, ip_headers_parts, written_headers}
+use Rattle.ep_base.specs.Tables.{Refuses}
+use Rattle.ep_packet.specs.IpHeaders.{LeadThrough, ip_headers_len, ip_headers_parts, payload_len_rows, written_headers}
 use Rattle.ep_packet.specs.declared.ip_headers.IpHeaders.{IpHeaders}
 use Rattle.ep_packet.proofs.IpHeadersLemmas.{leads}
-use Rattle.ep_transport.specs.TransportHeaders.{transport_bytes}
+use Rattle.ep_transport.specs.TransportHeaders.{transport_bytes, transport_header_len}
 use Rattle.ep_build.specs.BuiltFrames.{link_before, link_part_bytes}
-use Rattle.ep_build.proofs.LengthLemmas.{headers_for_len}
+use Rattle.ep_build.proofs.LengthLemmas.{headers_for_len, with_length_len}
 use Rattle.ep_build.proofs.WritingLemmas.{appended, are_bytes, chosen, filled_len, joined, on_err, on_ok, succeeds}
-use Rattle.ep_build.proofs.WritingLemmas.{transport_back, transport_ok}
+use Rattle.ep_build.proofs.WritingLemmas.{transport_back, transport_ok, transport_too_long, unrefused_len}
 use Rattle.ep_build.proofs.writing.write_transport.Goals as goal
+
+pub returns-in-Err-clause-refused : goal.returns-in-Err-clause-refused
+returns-in-Err-clause-refused c =
+    let headers = c.args.headers.now in
+    let payload = c.args.payload.now in
+    transport_too_long c.args.link.now headers c.args.transport.now (length payload) c.in-Err.error
+    (subst (λ (n : ℕ). Refuses (payload_len_rows headers (n + length payload)) c.in-Err.error)
+    c.header_len.ensures.value c.in-Err.ensures)
+
+pub set_length-requires : goal.set_length-requires
+set_length-requires c = omega (
+  arith,
+  c.header_len.ensures.value,
+  unrefused_len c.args.headers.now (c.header_len.result + length c.args.payload.now) c.in-Ok.ensures.0,
+)
+
+pub set_checksum-requires : goal.set_checksum-requires
+set_checksum-requires c = omega (
+  arith,
+  c.header_len.ensures.value,
+  unrefused_len c.args.headers.now (c.header_len.result + length c.args.payload.now) c.in-Ok.ensures.0,
+  ap transport_header_len c.set_length.ensures,
+  with_length_len (length c.args.payload.now) c.args.transport.now,
+)
+
+pub returns-then-is_err-clause-refused : goal.returns-then-is_err-clause-refused
+returns-then-is_err-clause-refused c =
+    let payload = c.args.payload.now in
+    let counts = ap (λ (n : ℕ). n + length payload) c.header_len.ensures.value in
+    let summed = c.in_ok-set_checksum.ensures in
+    let ok = transport_ok c.args.link.now c.args.headers.now c.link_headers.new.headers c.args.transport.now
+    c.set_length.new.transport c.set_checksum.new.transport c.number_of-last.result
+    (c.header_len.result + length payload) c.in-Ok.ether_type payload c.in-Ok.ensures.1 c.number_of-last.ensures
+    c.set_length.ensures summed.0 summed.1 counts c.transport_fits.ensures c.in-Ok.ensures.2 c.in-Ok.ensures.0 in
+    inr (refl, ok.0)
+
+pub append_headers-requires-clause-room : goal.append_headers-requires-clause-room
+append_headers-requires-clause-room c = omega (
+  arith,
+  on_ok c.reserve.result _ c.if-is_err.ensures.negation c.reserve.ensures.ok,
+  c.header_len-2.ensures.value,
+  c.header_len-3.ensures.value,
+)
 
 pub append_headers-requires-clause-leads : goal.append_headers-requires-clause-leads
 append_headers-requires-clause-leads c = subst

@@ -46,8 +46,8 @@ unwrap-requires-in-Some c =
     c.insert.ensures.succeeds
     (omega (arith, kept, fewer, left.ok.0, sections.ok.0, sections.ok.1, c.remove_merging.ensures.capacity))
 
-pub returns-in-None : goal.returns-in-None
-returns-in-None c =
+pub returns-in-None-clause-items : goal.returns-in-None-clause-items
+returns-in-None-clause-items c =
     let sections = c.args.sections.now in
     let none : position (merges c.args.range) sections.items ≡ None =
     rw (← c.as_slice.ensures.value) (sym c.first_merging.ensures ∙ c.in-None.is) in
@@ -56,8 +56,8 @@ returns-in-None c =
     rw (sections_after_none c.args.range sections.items none, pushed)
     (IsPermutation-to_front sections.items c.args.range)
 
-pub returns-in-Some : goal.returns-in-Some
-returns-in-Some c =
+pub returns-in-Some-clause-items : goal.returns-in-Some-clause-items
+returns-in-Some-clause-items c =
     let sections = c.args.sections.now in
     let range = c.args.range in
     let inserted = rw c.unwrap-in-Some.ensures at c.insert.ensures.items in

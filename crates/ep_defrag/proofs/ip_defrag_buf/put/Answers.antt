@@ -3,8 +3,8 @@ use Rattle.ep_defrag.specs.Buffers.{extended}
 use Rattle.ep_defrag.proofs.Writing.{put_in_parts}
 use Rattle.ep_defrag.proofs.ip_defrag_buf.put.Goals as goal
 
-pub returns : goal.returns
-returns c =
+pub returns-clause-items : goal.returns-clause-items
+returns-clause-items c =
     let start = c.args.range.start in
     let old = c.args.bytes.now.items in
     let payload = c.args.payload.now in
@@ -14,6 +14,6 @@ returns c =
     rw c.unwrap.ensures at c.extend_from_slice.ensures.items in
     let split : c.min.result ≡ min (length payload) (length (extended old start) - start) =
     omega (arith, c.min.ensures, c.len.ensures, c.from-start.ensures, filled.ok.0, ap length gap) in
-    c.overwrite.ensures
+    c.overwrite.ensures.items
     ∙ rw (more, c.from-start.ensures, c.split_at.ensures.front, c.split_at.ensures.back, gap, c.requires.len)
     (put_in_parts old payload start c.min.result split)

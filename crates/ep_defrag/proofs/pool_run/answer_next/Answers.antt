@@ -32,4 +32,5 @@ returns-in-Drop-clause-holds g c = λ decide decided table held.
     (c.retain.ensures.holds table held (decide c.in-Drop.value) (λ timestamp answer met. search (of_calls, decided)))
 
 pub returns-in-Return-clause-holds : goal.returns-in-Return-clause-holds
-returns-in-Return-clause-holds g c = λ decide decided table held. rw (c.in-Return.is, c.return_buf.ensures) held
+returns-in-Return-clause-holds g c = λ decide decided table held.
+    rw c.in-Return.is (c.return_buf.ensures.holds table held)

@@ -1,5 +1,5 @@
 use Rattle.std.proofs.Common.{rules, length, IsFalse, ◌+◌, vec_len, ◌≡◌, ◌++◌, ◌∷◌, [], map, sym, ap, ◌∙◌, arith, append_assoc}
-use Rattle.std.proofs.lemmas.List.{map-append, length_push}
+use Rattle.std.proofs.lemmas.List.{map-append, length_push, length-append}
 use Rattle.std.proofs.lemmas.List.Elements.{All-push}
 use Rattle.ep_defrag.specs.Calls.{answers_to, table_after}
 use Rattle.ep_defrag.specs.declared.pool_run.PoolAnswer.{PoolAnswer}
@@ -47,8 +47,33 @@ loop-call-preserved g c =
           let grown : vec_len c.push.new.self ≡ vec_len c.loop-call.answers + 1 =
           rw c.unwrap.ensures at c.push.ensures.len in
           omega (arith, known.counted, grown, length_push c.loop-call.yielded call);
-      room = search rules;
+      room = omega (arith, known.room, c.push.ensures.capacity);
     }
+
+-- there is room for the answer to the call, since fewer are answered than there are
+pub unwrap-requires : goal.unwrap-requires
+unwrap-requires g c =
+    let known = c.loop-call.invariant in
+    let taken = c.loop-call.yielded in
+    let left = c.next.new.self.rest.items in
+    let step : c.loop-call.call-iterator.rest.items ≡ c.in-Some.call ∷ left = c.in-Some.ensures.steps.0 in
+    let all : taken ++ c.in-Some.call ∷ left ≡ c.args.calls.items =
+    ap (λ rest. taken ++ rest) (sym step) ∙ known.whole in
+    c.push.ensures.succeeds
+    (omega (arith, known.counted, known.room, ap length all, length-append taken (c.in-Some.call ∷ left)))
+
+pub returns-in_default-answer_next-clause-within : goal.returns-in_default-answer_next-clause-within
+returns-in_default-answer_next-clause-within g c =
+    let known = c.loop-call.invariant in
+    let taken = c.loop-call.yielded in
+    let left = c.next.new.self.rest.items in
+    let step : c.loop-call.call-iterator.rest.items ≡ c.in-Some.call ∷ left = c.in-Some.ensures.steps.0 in
+    let all : taken ++ c.in-Some.call ∷ left ≡ c.args.calls.items =
+    ap (λ rest. taken ++ rest) (sym step) ∙ known.whole in
+    omega (arith, known.counted, ap length all, length-append taken (c.in-Some.call ∷ left))
+
+pub returns-clause-no_memory : goal.returns-clause-no_memory
+returns-clause-no_memory g c = c.loop-call.invariant.no_memory
 
 pub returns-clause-answers : goal.returns-clause-answers
 returns-clause-answers g c = λ decide decided.
@@ -72,7 +97,7 @@ returns-in_default-answer_next-clause-stopped g c = λ _ decide decided d.
     let left = c.next.new.self.rest.items in
     let step : c.loop-call.call-iterator.rest.items ≡ call ∷ left = c.in-Some.ensures.steps.0 in
     let all : taken ++ call ∷ left ≡ c.args.calls.items = ap (λ rest. taken ++ rest) (sym step) ∙ known.whole in
-    let at : c.len-at.result ≡ length taken = search rules in
+    let at : c.len-at.result ≡ length taken = omega (arith, known.counted) in
     let place = before_and_at taken left call d in
     rw (at, ← all, place.0, place.1)
     (c.in_default-answer_next.ensures.memory

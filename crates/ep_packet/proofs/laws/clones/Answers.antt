@@ -6,15 +6,17 @@ pub returns-clause-sliced_packets : goal.returns-clause-sliced_packets
 returns-clause-sliced_packets c a b same =
     let link : b.link ≡ a.link = search rules in
     let tags = same_from_all_zip _ _ _ same.1.0 (λ x y r. search rules) in
+    let exts : b.link_exts ≡ a.link_exts = search (tags, rules) in
     let net : b.net ≡ a.net = search rules in
     let transport : b.transport ≡ a.transport = search rules in
-    search (link, tags, net, transport, rules)
+    λ i. record { link = link i; link_exts = exts i; net = net i; transport = transport i }
 
 pub returns-clause-packet_headers : goal.returns-clause-packet_headers
 returns-clause-packet_headers c a b same =
     let link : b.link ≡ a.link = search rules in
     let tags = same_from_all_zip _ _ _ same.1.0 (λ x y r. search rules) in
+    let exts : b.link_exts ≡ a.link_exts = search (tags, rules) in
     let net : b.net ≡ a.net = search rules in
     let transport : b.transport ≡ a.transport = search rules in
     let payload : b.payload ≡ a.payload = search rules in
-    search (link, tags, net, transport, payload, rules)
+    λ i. record { link = link i; link_exts = exts i; net = net i; transport = transport i; payload = payload i }

@@ -1,13 +1,21 @@
-use Rattle.std.proofs.Common.{rules, tests, ◌≡◌, ◌+◌, ◌-◌, suc, length, length-append, ap, arith, inl, inr}
+use Rattle.std.proofs.Common.{rules, tests, ◌≡◌, ◌+◌, ◌-◌, suc, length, length-append, ap, sym, arith, inl, inr}
 use Rattle.std.proofs.lemmas.Grind.{common_steps}
 use Rattle.ep_link.specs.declared.link_ext.link_ext_slice.LinkExtSlice.{LinkExtSlice}
 use Rattle.ep_link.specs.LinkExtensions.{link_extension_of}
 use Rattle.ep_link.proofs.LinkExtensionLemmas.{extension_len}
-use Rattle.ep_packet.specs.declared.err.slice_error.SliceError.TheVariants.{Len}
+use Rattle.ep_packet.specs.declared.err.slice_error.SliceError.TheVariants.{Len, Macsec}
 use Rattle.ep_packet.specs.Frame.{most_link_exts}
-use Rattle.ep_packet.proofs.SliceWalkLemmas.{extensions_end, known_begins_none, reads_one, reads_refused, unknown_begins_none}
+use Rattle.ep_packet.specs.Refusals.{extension_refusal}
+use Rattle.ep_packet.proofs.SliceWalkLemmas.{extensions_end, known_begins_none, reads_nothing, reads_one}
+use Rattle.ep_packet.proofs.SliceWalkLemmas.{reads_refused, unknown_begins_none}
 use Rattle.ep_packet.proofs.WalkLemmas.{found_there, none_there}
 use Rattle.ep_packet.proofs.sliced_packet_walk.fill_extensions.Goals as goal
+
+pub loop-known-init : goal.loop-known-init
+loop-known-init c =
+    let none = c.requires.empty in
+    reads_nothing c.args.offset (most_link_exts - length c.args.link_exts.now.items) c.args.ether_type
+    c.args.slice.now c.args.link_exts.now.items none (omega (arith, ap length none))
 
 pub returns-in_default-clause-ok : goal.returns-in_default-clause-ok
 returns-in_default-clause-ok c =
@@ -33,6 +41,17 @@ returns-in-Err-Len-clause-err c =
     here.inside.offset here.inside.ether_type c.in-Some.known here.inside.slice.now (Len c.add_offset.result)
     here.invariant more c.in-Some.is
     (c.in-Err-Len.field-0, c.in-Err-Len.ensures.err, search (rules, tests))
+
+pub returns-in-Err-Content-clause-err : goal.returns-in-Err-Content-clause-err
+returns-in-Err-Content-clause-err c =
+    let here = c.loop-known in
+    let room = most_link_exts - length here.link_exts.items in
+    let more : room ≡ suc (room - 1) = grind (arith, common_steps) in
+    let found = c.in-Err-Content in
+    reads_refused c.args.offset c.args.ether_type c.args.slice.now here.link_exts.items room (room - 1)
+    here.inside.offset here.inside.ether_type c.in-Some.known here.inside.slice.now (Macsec found.error)
+    here.invariant more c.in-Some.is
+    (found.field-0, found.ensures.err, sym (ap (extension_refusal here.inside.offset) found.field-0-is))
 
 pub overflow_add-inside : goal.overflow_add-inside
 overflow_add-inside c =

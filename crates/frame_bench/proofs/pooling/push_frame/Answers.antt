@@ -1,6 +1,8 @@
-use Rattle.std.proofs.Common.{◌++◌, ◌∙◌, ap}
+use Rattle.std.proofs.Common.{◌∷◌, ◌++◌, [], ◌∙◌, ap}
 use Rattle.ep_defrag.specs.Calls.{Answer}
 use Rattle.ep_defrag.specs.Pools.{fragment_in}
+use Rattle.ep_packet.specs.Layers.{layers_of}
+use Rattle.frame_bench.specs.PoolCalls.{frame_call}
 use Rattle.frame_bench.specs.PoolReplies.{pool_answer_text}
 use Rattle.frame_bench.proofs.PoolLemmas.{HoldsCalls-frame, frame_answered}
 use Rattle.frame_bench.proofs.pooling.push_frame.Goals as goal
@@ -15,7 +17,8 @@ returns-clause-reply c = λ calls held.
 
 pub returns-clause-holds : goal.returns-clause-holds
 returns-clause-holds c = λ calls held.
-    rw c.give_back.ensures
+    c.give_back.ensures
+    (calls ++ frame_call (layers_of c.args.packet.now) c.args.timestamp c.args.channel ∷ [])
     (HoldsCalls-frame c.args.pool.now c.process_sliced_packet-answer.new.self (fragment_in c.args.packet.now)
     c.args.timestamp c.args.channel c.process_sliced_packet-answer.result c.process_sliced_packet-answer.ensures
     c.in_ok-push_pool_answer.ensures.memory calls held)

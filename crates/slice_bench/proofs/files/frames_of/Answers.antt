@@ -3,15 +3,14 @@ use Rattle.std.proofs.lemmas.List.{map_push, append-nil, nil_from_length}
 use Rattle.slice_bench.proofs.FileLemmas.{frames_behind, no_frames}
 use Rattle.slice_bench.proofs.files.frames_of.Goals as goal
 
-pub returns-in_default-clause-err : goal.returns-in_default-clause-err
-returns-in_default-clause-err c = λ all held.
+pub returns-in_default-clause-cut : goal.returns-in_default-clause-cut
+returns-in_default-clause-cut c = λ cut all held.
     let left = c.frames.invariant.only all held in
-    let some : 0 < length c.frames.rest.now = search rules in
-    no_frames c.frames.rest.now left.0 some c.in_default.ensures.none left.1
+    no_frames c.frames.rest.now left.0 (search rules) c.in_default.ensures.none left.1
 
 pub frames-preserved : goal.frames-preserved
 frames-preserved c =
-    let split = c.in-Some.ensures.some in
+    let front = c.in-Some.ensures.some in
     let frame = c.in-Some.frame.now in
     let taken = map (λ frame. frame.now) c.frames.frames.items in
     let pushed : map (λ frame. frame.now) c.push.new.self.items ≡ taken ++ frame ∷ [] =
@@ -20,10 +19,10 @@ frames-preserved c =
     record {
       ok = λ more held.
           rw (pushed, append_assoc taken (frame ∷ []) more)
-          (c.frames.invariant.ok (frame ∷ more) (c.in-Some.behind.now, split.0, split.1, held));
+          (c.frames.invariant.ok (frame ∷ more) (c.in-Some.behind.now, front, held));
       only = λ all held.
           let left = c.frames.invariant.only all held in
-          frames_behind c.frames.rest.now frame c.in-Some.behind.now left.0 split.0 split.1 left.1;
+          frames_behind c.frames.rest.now frame c.in-Some.behind.now left.0 front left.1;
     }
 
 pub returns-clause-ok : goal.returns-clause-ok

@@ -6,7 +6,7 @@ pub returns-then-not-more_fragments-clause-data : goal.returns-then-not-more_fra
 returns-then-not-more_fragments-clause-data c =
     let range = c.args.range in
     let written =
-    c.put.ensures
+    c.put.ensures.items
     ∙ ap (λ bytes. overwritten (extended bytes range.end) range.start c.args.payload.now)
     c.in_ok-make_room.ensures.bytes in
     rw c.if-not-more_fragments.true
@@ -17,6 +17,6 @@ pub returns-else-not-more_fragments-clause-data : goal.returns-else-not-more_fra
 returns-else-not-more_fragments-clause-data c =
     let range = c.args.range in
     rw c.if-not-more_fragments.false
-    (c.put.ensures
+    (c.put.ensures.items
     ∙ ap (λ bytes. overwritten (extended bytes range.end) range.start c.args.payload.now)
     c.in_ok-make_room.ensures.bytes)

@@ -1,15 +1,39 @@
-use Rattle.std.proofs.Common.{ap, ◌∙◌}
+use Rattle.std.proofs.Common.{◌≡◌, ◌-◌, ◌≤◌, length, take, drop, sym, subst, ap, arith}
+use Rattle.std.proofs.lemmas.List.{length-append}
 use Rattle.ep_base.proofs.BytesLemmas.{rest_of}
 use Rattle.ep_base.proofs.TableLemmas.{one_value}
+use Rattle.ep_ext.specs.IpAuth.{IsIpAuth}
 use Rattle.ep_ext.specs.IpAuthSlices.{ip_auth_slice_bytes}
 use Rattle.ep_ext.proofs.IpAuthLemmas.{ip_auth_is_read}
 use Rattle.ep_ext.proofs.ip_auth_header.IpAuthHeader.from_slice.Goals as goal
 
-pub returns-clause-only : goal.returns-clause-only
-returns-clause-only c header rest is =
-    let bytes = c.args.slice.now in
+pub slice_bounds-result-count : goal.slice_bounds-result-count
+slice_bounds-result-count c =
     let ok = c.in_ok-header.ensures.ok in
-    let one = one_value ip_auth_is_read bytes _ _ ok.2 is in
-    let behind =
-    rest_of bytes (ip_auth_slice_bytes c.in_ok-header.header) ok.0 c.header_len.result ok.1 c.header_len.ensures.bytes in
-    (c.to_header.ensures ∙ ap (λ read. read.0) one, behind ∙ ap (λ read. read.1) one)
+    let front = ip_auth_slice_bytes c.in_ok-header.header in
+    omega (arith, ap length ok.1, length-append front ok.0, c.header_len.ensures.bytes)
+
+pub slice_bounds-result-start : goal.slice_bounds-result-start
+slice_bounds-result-start c =
+    let ok = c.in_ok-header.ensures.ok in
+    let front = ip_auth_slice_bytes c.in_ok-header.header in
+    omega (arith, ap length ok.1, length-append front ok.0, c.header_len.ensures.bytes)
+
+pub returns : goal.returns
+returns c =
+    let bytes = c.args.slice.now in
+    let n = c.header_len.result in
+    let ok = c.in_ok-header.ensures.ok in
+    let front = ip_auth_slice_bytes c.in_ok-header.header in
+    let behind = take (length bytes - n) (drop n bytes) in
+    let rest : behind ≡ ok.0 = rest_of bytes front ok.0 n ok.1 c.header_len.ensures.bytes in
+    let header = sym c.to_header.ensures in
+    let is : IsIpAuth bytes (c.to_header.result, behind) =
+    subst (IsIpAuth bytes) (λ i. (header i, sym rest i)) ok.2 in
+    record {
+      ok = is;
+      only = λ h r other.
+          let same = one_value ip_auth_is_read bytes (c.to_header.result, behind) (h, r) is other in
+          (λ i. (same i).0, λ i. (same i).1);
+      err = tt;
+    }

@@ -4,8 +4,8 @@ use Rattle.std.proofs.lemmas.List.{length-take}
 use Rattle.ep_base.specs.Bytes.{AreBytes}
 use Rattle.ep_base.specs.Tables.{first_row}
 use Rattle.ep_base.proofs.TableLemmas.{shown_is}
-use Rattle.ep_ext.specs.IpAuth.{ip_auth_len_of, ip_auth_parts, ip_auth_rows}
-use Rattle.ep_ext.proofs.IpAuthLemmas.{ip_auth_is_read}
+use Rattle.ep_ext.specs.IpAuth.{ip_auth_len_of, ip_auth_rows}
+use Rattle.ep_ext.proofs.IpAuthLemmas.{ip_auth_is_read, ip_auth_parts}
 use Rattle.ep_ext.proofs.ip_auth_header_slice.IpAuthHeaderSlice.from_slice.Goals as goal
 
 pub returns : goal.returns

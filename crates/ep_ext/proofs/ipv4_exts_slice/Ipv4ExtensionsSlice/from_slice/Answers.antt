@@ -1,4 +1,5 @@
-use Rattle.std.proofs.Common.{◌≡◌, ◌∷◌, [], ◌∙◌, arith}
+use Rattle.std.proofs.Common.{◌≡◌, ◌≤◌, ◌∷◌, [], ◌∙◌, length, ap, arith}
+use Rattle.std.proofs.lemmas.List.{length-append}
 use Rattle.std.proofs.lemmas.Result.{err_from_is_err_and}
 use Rattle.ep_base.specs.Bytes.{AreBytes}
 use Rattle.ep_base.specs.Layer.{slices}
@@ -31,6 +32,18 @@ returns-in_err-header-clause-only c =
     let refused = auth_refused slices c.args.number.0 bytes _
     (number_same c.ne.result _ _ c.ne.ensures c.if-ne.false) c.in_err-header.ensures.err in
     λ chain is. absurd (refused_no_chain header_laws ipv4 slices c.args.number.0 bytes fits _ refused chain is)
+
+pub slice_bounds-rest-count : goal.slice_bounds-rest-count
+slice_bounds-rest-count c =
+    let ok = c.in_ok-header.ensures.ok in
+    let front = ip_auth_slice_bytes c.in_ok-header.header in
+    omega (arith, ap length ok.1, length-append front ok.0, c.header_len.ensures.bytes)
+
+pub slice_bounds-rest-start : goal.slice_bounds-rest-start
+slice_bounds-rest-start c =
+    let ok = c.in_ok-header.ensures.ok in
+    let front = ip_auth_slice_bytes c.in_ok-header.header in
+    omega (arith, ap length ok.1, length-append front ok.0, c.header_len.ensures.bytes)
 
 pub returns-clause-only : goal.returns-clause-only
 returns-clause-only c =

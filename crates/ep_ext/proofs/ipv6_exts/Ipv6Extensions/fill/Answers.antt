@@ -1,5 +1,6 @@
 use Rattle.std.proofs.Common.{◌≡◌, ◌-◌, ◌≤◌, length, sym, ◌∙◌, arith}
 use Rattle.std.proofs.lemmas.Bool.{eqb-true, eqb-false}
+use Rattle.ep_ext.proofs.RefusalLemmas.{part_at_start}
 use Rattle.ep_ext.proofs.ValueLemmas.{headers_nothing, headers_more, headers_refused, headers_misplaced, headers_end_read, headers_second_read}
 use Rattle.ep_ext.proofs.ipv6_exts.Ipv6Extensions.fill.Goals as goal
 use Rattle.ep_ext.proofs.ipv6_exts.Ipv6Extensions.fill.Goals.{else-eq-via-then-eq+else-offset-gt0, else-eq-via-else-eq}
@@ -23,6 +24,11 @@ returns-then-has-clause-ok c =
     headers_second_read c.args.number.0 c.args.slice.now c.loop-offset.next.0 c.loop-offset.rest.now
     c.loop-offset.self c.loop-offset.invariant
     (sym c.is_extension.ensures ∙ c.loop-offset-test.true) start (sym c.has.ensures ∙ c.if-has.true)
+
+pub further-requires : goal.further-requires
+further-requires c =
+    let start = part_at_start c.loop-offset.next.0 c.loop-offset.rest.now c.in-Err.error c.in-Err.ensures.err in
+    omega (arith, start)
 
 pub loop-offset-preserved : goal.loop-offset-preserved
 loop-offset-preserved c =

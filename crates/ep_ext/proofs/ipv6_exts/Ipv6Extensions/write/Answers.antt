@@ -5,9 +5,10 @@ use Rattle.ep_base.specs.declared.err.ipv6_exts.HeaderWriteError.TheVariants as 
 use Rattle.ep_ext.specs.ExtensionParts.{ExtensionPart, part_next}
 use Rattle.ep_ext.specs.Chains.{parts_bytes}
 use Rattle.ep_ext.specs.Ipv6Chains.{RefusesWalk, missing_number, extensions_of}
-use Rattle.ep_ext.specs.Walks.{no_marks, marked, marks_left, header_ref_part, header_at}
+use Rattle.ep_ext.specs.Walks.{marked, header_ref_part, header_at}
 use Rattle.ep_ext.proofs.WalkLemmas.{WalkedBy, walk_start, walk_more, walk_fewer, walk_end, written_more, fit_more, one_walk, one_walk_refusal, walks_not_refused, no_room, on_ok, on_err}
 use Rattle.ep_ext.proofs.WalkLaws.{walk_there}
+use Rattle.ep_ext.proofs.WalkMarks.{no_marks, marks_left}
 use Rattle.ep_ext.proofs.ipv6_exts.Ipv6Extensions.write.Goals as goal
 
 pub returns-in-Err-clause-walk : goal.returns-in-Err-clause-walk

@@ -4,8 +4,8 @@ use Rattle.std.proofs.lemmas.List.{length-take}
 use Rattle.ep_base.specs.Bytes.{AreBytes}
 use Rattle.ep_base.specs.Tables.{first_row}
 use Rattle.ep_base.proofs.TableLemmas.{shown_is}
-use Rattle.ep_ext.specs.RawExtension.{raw_extension_len_of, raw_extension_parts, raw_extension_rows}
-use Rattle.ep_ext.proofs.RawExtensionLemmas.{raw_extension_is_read}
+use Rattle.ep_ext.specs.RawExtension.{raw_extension_len_of, raw_extension_rows}
+use Rattle.ep_ext.proofs.RawExtensionLemmas.{raw_extension_is_read, raw_extension_parts}
 use Rattle.ep_ext.proofs.ipv6_raw_ext_header_slice.Ipv6RawExtHeaderSlice.from_slice.Goals as goal
 
 pub returns : goal.returns

@@ -1,9 +1,22 @@
-use Rattle.std.proofs.Common.{◌≡◌, ◌-◌, length, take, drop, sym, subst}
+use Rattle.std.proofs.Common.{◌≡◌, ◌-◌, ◌≤◌, length, take, drop, sym, subst, ap, arith}
+use Rattle.std.proofs.lemmas.List.{length-append}
 use Rattle.ep_base.proofs.BytesLemmas.{rest_of}
 use Rattle.ep_base.proofs.TableLemmas.{one_value}
 use Rattle.ep_ip.specs.Ipv4.{IsIpv4Header}
 use Rattle.ep_ip.proofs.Ipv4Lemmas.{ipv4_header_is_read}
 use Rattle.ep_ip.proofs.ipv4_header.Ipv4Header.from_slice.Goals as goal
+
+pub slice_bounds-result-count : goal.slice_bounds-result-count
+slice_bounds-result-count c =
+    let ok = c.in_ok-header.ensures.ok in
+    let front = c.in_ok-header.header.bytes.slice.now in
+    omega (arith, ap length ok.1, length-append front ok.0, c.header_len.ensures.bytes)
+
+pub slice_bounds-result-start : goal.slice_bounds-result-start
+slice_bounds-result-start c =
+    let ok = c.in_ok-header.ensures.ok in
+    let front = c.in_ok-header.header.bytes.slice.now in
+    omega (arith, ap length ok.1, length-append front ok.0, c.header_len.ensures.bytes)
 
 pub returns : goal.returns
 returns c =

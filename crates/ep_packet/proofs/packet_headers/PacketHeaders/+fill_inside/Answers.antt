@@ -1,20 +1,66 @@
-use Rattle.std.proofs.Common.{◌≡◌, ◌-◌, suc, List, [], ◌∷◌, ◌++◌, length, length-append, Some, None, sym, ap, subst, ◌∙◌, arith, inl, inr}
+use Rattle.std.proofs.Common.{◌≡◌, ◌⊎◌, ◌-◌, ℕ, zero, suc, List, [], ◌∷◌, ◌++◌, length, length-append, Some, None}
+use Rattle.std.proofs.Common.{sym, ap, subst, ◌∙◌, arith, inl, inr}
 use Rattle.std.proofs.lemmas.Grind.{common_steps}
 use Rattle.std.proofs.lemmas.Result.{IfOk-weaker, IfErr-weaker}
 use Rattle.std.specs.Option.{option_map}
+use Rattle.ep_base.specs.Layer.{headers}
+use Rattle.ep_base.specs.declared.ether_type.EtherType.{EtherType}
 use Rattle.ep_base.specs.declared.len_source.LenSource.{LenSource}
 use Rattle.ep_link.specs.declared.link_ext.link_ext_header.LinkExtHeader.{LinkExtHeader}
 use Rattle.ep_link.specs.EtherPayloads.{ether_payload_of}
-use Rattle.ep_link.specs.LinkExtensions.{extension_ether_payload, link_extension_of}
+use Rattle.ep_link.specs.LinkExtensions.{BeginsLinkExtension, extension_ether_payload, link_extension_of}
 use Rattle.ep_link.proofs.LinkExtensionLemmas.{extension_len}
-use Rattle.ep_packet.specs.Frame.{most_link_exts}
+use Rattle.ep_packet.specs.declared.err.slice_error.SliceError.{SliceError}
+use Rattle.ep_packet.specs.Frame.{most_link_exts, net_kind}
 use Rattle.ep_packet.specs.HeadersWalk.{FillsInside, ending_by}
 use Rattle.ep_packet.specs.PacketHeaders.{headers_of}
 use Rattle.ep_packet.specs.PayloadParts.{macsec_modified}
+use Rattle.ep_packet.specs.Refusals.{RefusesExtensionAt, RefusesInside, RefusesNetPart, extension_refusal}
 use Rattle.ep_packet.proofs.HeadersLemmas.{fills_no_more}
 use Rattle.ep_packet.proofs.InsideHeadersLemmas.{fills_one, fills_modified, tag_refused, with_tag}
 use Rattle.ep_packet.proofs.WalkLemmas.{found_there, none_there}
 use Rattle.ep_packet.proofs.packet_headers.PacketHeaders.+fill_inside.Goals as goal
+
+-- where no more extensions are taken, or the type begins none, bytes are refused for a net part alone
+refused_alone : (room offset : ℕ) (type : EtherType) (bytes : List ℕ) → ((room ≡ 0) ⊎ (¬ BeginsLinkExtension type))
+    → (error : SliceError) → RefusesNetPart headers offset (net_kind type) bytes error
+    → RefusesInside headers room offset (Some type) bytes error
+refused_alone zero offset type bytes why error refused = refused
+refused_alone (suc room) offset type bytes (inl full) error refused = absurd (omega (arith, full))
+refused_alone (suc room) offset type bytes (inr none) error refused = inl (none, refused)
+
+-- and else for an extension that must be there
+refused_extension : (room rest offset : ℕ) (type : EtherType) (bytes : List ℕ) (error : SliceError) → room ≡ suc rest
+    → RefusesExtensionAt offset type bytes error → RefusesInside headers room offset (Some type) bytes error
+refused_extension room rest offset type bytes error more refused =
+    subst (λ (n : ℕ). RefusesInside headers n offset (Some type) bytes error) (sym more) (inr (inl refused))
+
+pub returns-then-is_full-clause-err : goal.returns-then-is_full-clause-err
+returns-then-is_full-clause-err t c =
+    let room = most_link_exts - length c.args.self.now.link_exts.items in
+    let payload = c.args.payload in
+    let none : room ≡ 0 = grind (arith, common_steps) in
+    IfErr-weaker c.fill_net.result _ _
+    (λ error refused. refused_alone room c.args.offset payload.ether_type payload.payload.now (inl none) error refused)
+    c.fill_net.ensures.err
+
+pub returns-in-Ok-None-clause-err : goal.returns-in-Ok-None-clause-err
+returns-in-Ok-None-clause-err t c =
+    let room = most_link_exts - length c.args.self.now.link_exts.items in
+    let payload = c.args.payload in
+    let none = none_there payload.ether_type c.in-Ok-None.field-0 c.in-Ok-None.field-0-is c.in-Ok-None.ensures.none in
+    IfErr-weaker c.fill_net-in-Ok-None.result _ _
+    (λ error refused. refused_alone room c.args.offset payload.ether_type payload.payload.now (inr none) error refused)
+    c.fill_net-in-Ok-None.ensures.err
+
+pub returns-in-Err-Content-clause-err : goal.returns-in-Err-Content-clause-err
+returns-in-Err-Content-clause-err t c =
+    let room = most_link_exts - length c.args.self.now.link_exts.items in
+    let payload = c.args.payload in
+    let more : room ≡ suc (room - 1) = grind (arith, common_steps) in
+    let found = c.in-Err-Content in
+    refused_extension room (room - 1) c.args.offset payload.ether_type payload.payload.now _ more
+    (found.field-0, found.ensures.err, sym (ap (extension_refusal c.args.offset) found.field-0-is))
 
 pub returns-then-is_full-clause-ok : goal.returns-then-is_full-clause-ok
 returns-then-is_full-clause-ok t c =

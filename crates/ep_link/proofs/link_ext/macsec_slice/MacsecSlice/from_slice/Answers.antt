@@ -1,11 +1,13 @@
-use Rattle.std.proofs.Common.{◌≡◌, ◌-◌, ◌++◌, ◌∙◌, List, ℕ, length, take, drop, sym, ap, subst, inl, inr, arith}
+use Rattle.std.proofs.Common.{◌≡◌, Some, ◌-◌, ◌++◌, ◌∙◌, List, ℕ, length, take, drop, sym, ap, subst, inl, inr, arith}
 use Rattle.ep_base.specs.Bytes.{AreBytes}
 use Rattle.ep_base.specs.Tables.{parts_of}
-use Rattle.ep_base.proofs.TableLemmas.{one_value}
+use Rattle.ep_base.proofs.TableLemmas.{one_value, refused_is_not}
+use Rattle.ep_base.specs.declared.err.macsec.HeaderSliceError.TheVariants as header_error
 use Rattle.ep_link.specs.Macsec.{IsMacsec, macsec_header_of, macsec_payload, macsec_payload_bytes}
 use Rattle.ep_link.specs.MacsecSlices.{macsec_payload_of}
 use Rattle.ep_link.proofs.MacsecReads.{IsWhole}
-use Rattle.ep_link.proofs.MacsecLemmas.{EndsAt, macsec_is_read, payload_by_bytes, sliced_packet, tag_refused}
+use Rattle.ep_link.proofs.MacsecLemmas.{EndsAt, cut_refused, macsec_is_read, payload_by_bytes, sliced_packet}
+use Rattle.ep_link.proofs.MacsecLemmas.{tag_refused}
 use Rattle.ep_link.proofs.link_ext.macsec_slice.MacsecSlice.from_slice.Goals as goal
 use Rattle.ep_link.proofs.link_ext.macsec_slice.MacsecSlice.from_slice.Goals.{in-Some, in-None}
 
@@ -41,6 +43,29 @@ returns c =
           let one = one_value macsec_is_read bytes (parts_of header payload left) packet is.is other in
           ap (λ x. parts_of header x packet.left) same ∙ (λ i. parts_of (one i).header (one i).payload packet.left);
       err = tt;
+    }
+
+pub returns-then-slice-end : goal.returns-then-slice-end
+returns-then-slice-end c =
+    let bytes = c.args.slice.now in
+    let facts = c.in_ok-header.header.tag in
+    let tag = facts.slice.now in
+    let whole : IsWhole tag =
+    record { fixed = facts.fixed; version = facts.version; room = facts.room; whole = facts.whole } in
+    let n = c.header_len-header_len.result in
+    let end = c.match-payload_len.end in
+    let ends : EndsAt tag n (length bytes) end = elim c.match-payload_len.branch [
+      | in-Some w ↦ inl (w.in-Some.ensures.0, omega (arith, w.in-Some.ensures.1))
+      | in-None w ↦ inr (w.in-None.ensures, w.end-is)
+    ] in
+    let ok = c.in_ok-header.ensures.ok in
+    let tag_len = c.header_len-header_len.ensures.bytes in
+    let refused = cut_refused bytes tag ok.0 n end ok.1 whole tag_len ends (omega arith) in
+    record {
+      ok = tt;
+      payload = tt;
+      only = λ packet is. absurd (refused_is_not macsec_is_read bytes packet _ refused is);
+      err = refused ∙ ap (λ e. Some (header_error.Len e)) (sym c.at_start.ensures);
     }
 
 pub returns-in_err-header-clause-only : goal.returns-in_err-header-clause-only

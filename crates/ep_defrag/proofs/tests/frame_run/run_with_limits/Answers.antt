@@ -1,9 +1,0 @@
-use Rattle.std.proofs.Common.{rules, of_calls, nat_le}
-use Rattle.std.proofs.lemmas.Result.{IfOk-weaker}
-use Rattle.ep_defrag.proofs.tests.frame_run.run_with_limits.Goals as goal
-
-pub returns : goal.returns
-returns c =
-    IfOk-weaker c.run_frames.result _ _
-    (λ run told reads read. told reads read nat_le (λ value timestamp answer met. search (rules, of_calls)))
-    c.run_frames.ensures.answers

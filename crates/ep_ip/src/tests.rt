@@ -1,4 +1,0 @@
-//! What no contract says: rows from outside, texts, and that calls succeed.
-
-mod headers;
-mod packets;

@@ -1,0 +1,10 @@
+pub use Rattle.ep_packet.specs.Frame
+pub use Rattle.ep_packet.specs.Layers
+pub use Rattle.ep_packet.specs.Refusals
+pub use Rattle.ep_packet.specs.declared.entry.Entry
+pub use Rattle.ep_packet.specs.declared.sliced_packet.SlicedPacket
+pub use Rattle.ep_transport.specs.TransportParts
+pub use Rattle.ep_transport.specs.Udp
+pub use Rattle.ep_transport.specs.UdpSlices
+pub use Rattle.ep_transport.specs.declared.transport_slice.TransportSlice
+pub use Rattle.ep_transport.specs.declared.udp_slice.UdpSlice

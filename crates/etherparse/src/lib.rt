@@ -1,0 +1,113 @@
+//! Packets taken apart, built and put together: the whole library under one name.
+//!
+//! # Taking a packet apart
+//!
+//! [`SlicedPacket`] walks over the bytes of a packet, from its Ethernet II or Linux cooked header, from an ether
+//! type or from the IP header on, and answers a slice for each layer: [`LinkSlice`], up to three [`LinkExtSlice`]
+//! (VLAN tags and MACsec), [`NetSlice`] (IPv4, IPv6 or ARP) and [`TransportSlice`] (UDP, TCP, ICMP). A slice
+//! copies nothing; its methods read single fields, and its `to_header` reads them all.
+//! [`PacketHeaders`] reads the same packets into headers: [`LinkHeader`], [`LinkExtHeader`], [`NetHeaders`] and
+//! [`TransportHeader`], and leaves the rest as a [`PayloadSlice`]. Where many packets are read, `slice_into`,
+//! `read_into` and [`Entry`] fill a value that is there already.
+//!
+//! What a packet says is bounded by its length fields; [`LenSource`] names the field that cut it. A packet that is
+//! none is refused by an [`err::packet::SliceError`], which names the layer and where it stands.
+//!
+//! # Single layers
+//!
+//! Each header has a struct and a slice, as [`UdpHeader`] and [`UdpSlice`], and can be read and written alone:
+//! `from_slice`, `to_bytes`, `write`. [`IpSlice`] and [`IpHeaders`] are IP with its extension headers. Fields that
+//! are no whole number of bytes have types of their own, as [`VlanId`] and [`IpFragOffset`]; the numbers of the
+//! standards stand in [`ether_type`], [`ip_number`], [`icmpv4`] and [`icmpv6`]; [`checksum`] sums the words of
+//! any bytes.
+//!
+//! # Building a packet
+//!
+//! [`PacketBuilder`] takes the headers from the outermost on, each step offering what may follow, and `write`
+//! appends the packet with its lengths and checksums to a vector.
+//!
+//! # Putting fragments together
+//!
+//! [`defrag::IpDefragPool`] takes sliced packets and hands out each payload that is complete;
+//! [`defrag::IpDefragBuf`] is one payload on its way, for callers who tell the streams apart themselves.
+#![tactic(auto)]
+
+#[cfg(test)]
+mod tests;
+
+pub use arrayvec::ArrayVec;
+pub use ep_base::{
+    AtLeast, EtherPayloadSlice, EtherType, IpFragOffset, IpNumber, IpPayloadSlice, Ipv4Dscp,
+    Ipv4Ecn, Ipv6FlowLabel, LenSource, MacsecAn, MacsecShortLen, VlanId, VlanPcp, checksum,
+    ether_type, ip_number,
+};
+pub use ep_build::{PacketBuilder, PacketBuilderStep};
+pub use ep_ext::{
+    IpAuthHeader, IpAuthHeaderSlice, Ipv4Extensions, Ipv4ExtensionsSlice, Ipv6ExtensionSlice,
+    Ipv6ExtensionSliceIter, Ipv6Extensions, Ipv6ExtensionsSlice, Ipv6FragmentHeader,
+    Ipv6FragmentHeaderSlice, Ipv6RawExtHeader, Ipv6RawExtHeaderSlice, Ipv6RoutingExtensions,
+};
+pub use ep_ip::{
+    IpSlice, Ipv4Header, Ipv4HeaderSlice, Ipv4Options, Ipv4Slice, Ipv6Header, Ipv6HeaderSlice,
+    Ipv6Slice,
+};
+pub use ep_link::{
+    ArpHardwareId, ArpOperation, ArpPacket, ArpPacketSlice, DoubleVlanHeader, DoubleVlanSlice,
+    Ethernet2Header, Ethernet2Slice, LinkExtHeader, LinkExtSlice, LinkHeader, LinkSlice,
+    LinuxSllHeader, LinuxSllPacketType, LinuxSllPayloadSlice, LinuxSllProtocolType, LinuxSllSlice,
+    MacsecHeader, MacsecHeaderSlice, MacsecPType, MacsecPayloadSlice, MacsecSlice,
+    SingleVlanHeader, SingleVlanSlice, VlanHeader, VlanSlice,
+};
+pub use ep_packet::{
+    Entry, InternetSlice, IpHeader, IpHeaders, NetHeaders, NetSlice, PacketHeaders, PayloadSlice,
+    SlicedPacket,
+};
+pub use ep_transport::{
+    IcmpEchoHeader, Icmpv4Header, Icmpv4Slice, Icmpv4Type, Icmpv6Header, Icmpv6Slice, Icmpv6Type,
+    TcpHeader, TcpOptionElement, TcpOptionReadError, TcpOptionWriteError, TcpOptions,
+    TcpOptionsIterator, TcpSlice, TransportHeader, TransportSlice, UdpHeader, UdpSlice, icmpv4,
+    icmpv6,
+};
+
+/// Putting fragmented IP payloads together again.
+pub mod defrag {
+    pub use ep_defrag::{
+        Fragment, FrameAnswer, FrameCall, IpDefragBuf, IpDefragError, IpDefragPayloadVec,
+        IpDefragPool, IpFragId, IpFragRange, IpFragVersionSpecId, MAX_IP_DEFRAG_LEN,
+        MAX_IP_DEFRAG_LEN_U16, PoolAnswer, PoolCall, RunStop, add_all, run_calls, run_frames,
+    };
+}
+
+/// The errors, each in the module of its layer; `packet` has those of whole packets.
+pub mod err {
+    pub use ep_base::err::{
+        Layer, LenError, ValueTooBigError, ValueType, ip_exts, ipv4_exts, ipv6, linux_sll, macsec,
+        tcp,
+    };
+    pub use ep_ext::err::{ip_auth, ipv6_exts};
+    pub use ep_link::err::arp;
+
+    /// The errors of IP with its extension headers.
+    pub mod ip {
+        pub use ep_base::err::ip::{HeaderError, HeadersError, HeadersSliceError, SliceError};
+        pub use ep_packet::err::HeadersWriteError;
+    }
+
+    /// The errors of IPv4 headers.
+    pub mod ipv4 {
+        pub use ep_base::err::ipv4::{HeaderError, HeaderSliceError, SliceError};
+        pub use ep_ip::BadOptionsLen;
+    }
+
+    /// The errors of the layer that holds IP or ARP.
+    pub mod net {
+        pub use ep_packet::err::NetSetNextHeaderError;
+    }
+
+    /// The errors of whole packets.
+    pub mod packet {
+        pub use ep_build::err::BuildWriteError;
+        pub use ep_packet::err::SliceError;
+        pub use ep_transport::TransportChecksumError;
+    }
+}

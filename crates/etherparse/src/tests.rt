@@ -1,0 +1,7 @@
+//! Packets that are read, built and put together, by the names that a user has.
+
+mod build;
+mod defrag;
+mod derives;
+mod example;
+mod packet;

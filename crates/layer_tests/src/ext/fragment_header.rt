@@ -1,0 +1,89 @@
+//! The fragment header of IPv6 (RFC 8200).
+
+use crate::checks::{appends, clones, same};
+use ep_ext::{
+    IpFragOffset, IpNumber, Ipv6FragmentHeader, Ipv6FragmentHeaderSlice, Layer, LenError, LenSource,
+};
+use std::process::Abort;
+
+/// A header before UDP at byte 1448 of the whole payload, with more fragments behind it, and 2 bytes behind it.
+const FRAGMENT: &[u8] = b"\x11\x00\x05\xa9\xf8\x8e\xb4\x66\xfe\xff";
+
+fn header(rt: &impl Abort) -> Ipv6FragmentHeader {
+    Ipv6FragmentHeader {
+        next_header: IpNumber::UDP,
+        fragment_offset: IpFragOffset::try_new(181).expect(rt, "refused"),
+        more_fragments: true,
+        identification: 0xf88e_b466,
+    }
+}
+
+#[test]
+fn reads_each_field(rt: HostRuntime) {
+    let slice = Ipv6FragmentHeaderSlice::from_slice(FRAGMENT).expect(&rt, "refused");
+    same(&rt, &slice.to_header(), &header(&rt));
+    same(&rt, &slice.fragment_offset().byte_offset(), &1448);
+    clones(&rt, &slice);
+}
+
+#[test]
+fn writes(rt: HostRuntime) {
+    let header = header(&rt);
+    clones(&rt, &header);
+    appends(&rt, rt.alloc(), &header, &FRAGMENT[..8]);
+}
+
+/// What the bytes are read as, by the header and by the slice: the offset, whether more follow, whether the payload is
+/// fragmented, and what is written.
+fn reads(rt: &impl Abort, bytes: [u8; 8], fields: (u16, bool, bool), written: [u8; 8]) {
+    let slice = Ipv6FragmentHeaderSlice::from_slice(&bytes).expect(rt, "refused");
+    let header = slice.to_header();
+    let shown = (
+        header.fragment_offset.value(),
+        header.more_fragments,
+        slice.is_fragmenting_payload(),
+    );
+    same(rt, &shown, &fields);
+    same(rt, &header.to_bytes(), &written);
+}
+
+#[test]
+fn offset_reserved_bits_and_flag(rt: HostRuntime) {
+    for (reserved, upper, lower, fields, written_lower) in [
+        (0, 0x00, 0x00, (0, false, false), 0x00),
+        (0xff, 0x00, 0x06, (0, false, false), 0x00),
+        (0, 0x00, 0x01, (0, true, true), 0x01),
+        (0, 0x00, 0x08, (1, false, true), 0x08),
+        (0, 0x01, 0x00, (32, false, true), 0x00),
+        (0x80, 0xff, 0xff, (8191, true, true), 0xf9),
+    ] {
+        reads(
+            &rt,
+            [58, reserved, upper, lower, 0, 0, 0, 1],
+            fields,
+            [58, 0, upper, written_lower, 0, 0, 0, 1],
+        );
+    }
+}
+
+/// The refusal of so few bytes.
+fn too_short(len: usize) -> LenError {
+    LenError::at_start(8, len, LenSource::Slice, Layer::Ipv6FragHeader)
+}
+
+#[test]
+fn refuses_each_shorter_front(rt: HostRuntime) {
+    for len in 0..8 {
+        let bytes = &FRAGMENT[..len];
+        same(
+            &rt,
+            &Ipv6FragmentHeader::from_slice(bytes),
+            &Err(too_short(len)),
+        );
+        same(
+            &rt,
+            &Ipv6FragmentHeaderSlice::from_slice(bytes),
+            &Err(too_short(len)),
+        );
+    }
+}

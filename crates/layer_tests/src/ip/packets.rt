@@ -1,0 +1,373 @@
+//! IP packets with their extension headers in slices: rows from outside.
+
+use crate::checks::{clones, refuses, same};
+use ep_ip::{
+    IpNumber, IpPayloadSlice, IpSlice, Ipv4Slice, Ipv6Slice, Layer, LenError, LenSource, ip,
+};
+use std::alloc::Global;
+use std::process::Abort;
+
+/// An IPv6 packet of payload length 0, no next header (59), and 4 bytes (RFC 8200, 4.7).
+const OPEN_LENGTH: &[u8] =
+    b"\x60\x00\x00\x00\x00\x00\x3b\x40\x00\x00\x00\x00\x00\x00\x00\x00\x00\x00\x00\x00\x00\x00\x00\x00\x00\x00\x00\x00\x00\x00\x00\x00\x00\x00\x00\x00\x00\x00\x00\x00\x01\x02\x03\x04";
+
+/// An IPv6 packet of two fragment headers (RFC 8200, 4.5), of which the second says that more follow, and 8 bytes.
+const FRAGMENTED: &[u8] =
+    b"\x60\x00\x00\x00\x00\x18\x2c\x40\x00\x00\x00\x00\x00\x00\x00\x00\x00\x00\x00\x00\x00\x00\x00\x00\x00\x00\x00\x00\x00\x00\x00\x00\x00\x00\x00\x00\x00\x00\x00\x00\x2c\x00\x00\x00\x00\x00\x00\x01\x11\x00\x00\x01\x00\x00\x00\x02\x00\x01\x02\x03\x04\x05\x06\x07";
+
+/// The entries refuse the bytes with these texts: the open one, and those of version 4 and of version 6.
+fn refuses_all(rt: &impl Abort, alloc: Global, bytes: &[u8], open: &str, ipv4: &str, ipv6: &str) {
+    refuses(rt, alloc, IpSlice::from_slice(bytes).err(), open);
+    refuses(rt, alloc, Ipv4Slice::from_slice(bytes).err(), ipv4);
+    refuses(rt, alloc, Ipv6Slice::from_slice(bytes).err(), ipv6);
+}
+
+fn refuses_ipv4(rt: &impl Abort, alloc: Global, bytes: &[u8], open: &str, single: &str) {
+    refuses(rt, alloc, IpSlice::from_slice(bytes).err(), open);
+    refuses(rt, alloc, Ipv4Slice::from_slice(bytes).err(), single);
+}
+
+fn refuses_ipv6(rt: &impl Abort, alloc: Global, bytes: &[u8], text: &str) {
+    refuses(rt, alloc, IpSlice::from_slice(bytes).err(), text);
+    refuses(rt, alloc, Ipv6Slice::from_slice(bytes).err(), text);
+}
+
+/// Bytes of neither version, and what each entry says of them.
+#[test]
+fn refusals_of_neither_version(rt: HostRuntime) {
+    refuses_all(
+        &rt,
+        rt.alloc(),
+        b"",
+        "IpHeader: 1 bytes needed, 0 there (limit Slice, offset 0)",
+        "Ipv4Header: 20 bytes needed, 0 there (limit Slice, offset 0)",
+        "Ipv6Header: 40 bytes needed, 0 there (limit Slice, offset 0)",
+    );
+    refuses_all(
+        &rt,
+        rt.alloc(),
+        b"\x50",
+        "UnsupportedIpVersion 5",
+        "Ipv4Header: 20 bytes needed, 1 there (limit Slice, offset 0)",
+        "Ipv6Header: 40 bytes needed, 1 there (limit Slice, offset 0)",
+    );
+    refuses_all(
+        &rt,
+        rt.alloc(),
+        b"\x50\x00\x00\x00\x00\x00\x00\x00\x00\x00\x00\x00\x00\x00\x00\x00\x00\x00\x00\x00\x00\x00\x00\x00\x00\x00\x00\x00\x00\x00\x00\x00\x00\x00\x00\x00\x00\x00\x00\x00",
+        "UnsupportedIpVersion 5",
+        "UnexpectedVersion 5",
+        "UnexpectedVersion 5",
+    );
+}
+
+/// Bytes of version 4, and what the open entry and that of the version say of them.
+#[test]
+fn ipv4_refusals(rt: HostRuntime) {
+    refuses_ipv4(
+        &rt,
+        rt.alloc(),
+        b"\x45",
+        "Ipv4Header: 20 bytes needed, 1 there (limit Slice, offset 0)",
+        "Ipv4Header: 20 bytes needed, 1 there (limit Slice, offset 0)",
+    );
+    refuses_ipv4(
+        &rt,
+        rt.alloc(),
+        b"\x41\x00\x00\x00\x00\x00\x00\x00\x00\x00\x00\x00\x00\x00\x00\x00\x00\x00\x00",
+        "Ipv4Header: 20 bytes needed, 19 there (limit Slice, offset 0)",
+        "Ipv4Header: 20 bytes needed, 19 there (limit Slice, offset 0)",
+    );
+    refuses_ipv4(
+        &rt,
+        rt.alloc(),
+        b"\x44\x00\x00\x00\x00\x00\x00\x00\x00\x00\x00\x00\x00\x00\x00\x00\x00\x00\x00\x00",
+        "Ipv4HeaderLengthSmallerThanHeader 4",
+        "HeaderLengthSmallerThanHeader 4",
+    );
+    refuses_ipv4(
+        &rt,
+        rt.alloc(),
+        b"\x46\x00\x00\x14\x00\x00\x00\x00\x00\x00\x00\x00\x00\x00\x00\x00\x00\x00\x00\x00",
+        "Ipv4Header: 24 bytes needed, 20 there (limit Slice, offset 0)",
+        "Ipv4Header: 24 bytes needed, 20 there (limit Slice, offset 0)",
+    );
+    refuses_ipv4(
+        &rt,
+        rt.alloc(),
+        b"\x45\x00\x00\x13\x00\x00\x00\x00\x00\x00\x00\x00\x00\x00\x00\x00\x00\x00\x00\x00",
+        "Ipv4Packet: 20 bytes needed, 19 there (limit Ipv4HeaderTotalLen, offset 0)",
+        "Ipv4Packet: 20 bytes needed, 19 there (limit Ipv4HeaderTotalLen, offset 0)",
+    );
+    refuses_ipv4(
+        &rt,
+        rt.alloc(),
+        b"\x45\x00\x00\x15\x00\x00\x00\x00\x00\x00\x00\x00\x00\x00\x00\x00\x00\x00\x00\x00",
+        "Ipv4Packet: 21 bytes needed, 20 there (limit Slice, offset 0)",
+        "Ipv4Packet: 21 bytes needed, 20 there (limit Slice, offset 0)",
+    );
+    refuses_ipv4(
+        &rt,
+        rt.alloc(),
+        b"\x45\x00\x00\x1c\x00\x00\x00\x01\x40\x33\x00\x00\xc0\xa8\x01\x01\xc0\xa8\x01\x02\x01\x02\x03\x04\x05\x06\x07\x08",
+        "IpAuthHeader: 12 bytes needed, 8 there (limit Ipv4HeaderTotalLen, offset 20)",
+        "IpAuthHeader: 12 bytes needed, 8 there (limit Ipv4HeaderTotalLen, offset 20)",
+    );
+    refuses_ipv4(
+        &rt,
+        rt.alloc(),
+        b"\x45\x00\x00\x20\x00\x00\x00\x00\x40\x33\x00\x00\xc0\xa8\x01\x01\xc0\xa8\x01\x02\x11\x00\x00\x00\x00\x00\x00\x00\x00\x00\x00\x00",
+        "ZeroPayloadLen",
+        "ZeroPayloadLen",
+    );
+    refuses_ipv4(
+        &rt,
+        rt.alloc(),
+        b"\x46\x00\x00\x24\x00\x00\x00\x00\x40\x33\x00\x00\xc0\xa8\x01\x01\xc0\xa8\x01\x02\x94\x04\x00\x00\x11\x02\x00\x00\x00\x00\x00\x00\x00\x00\x00\x00",
+        "IpAuthHeader: 16 bytes needed, 12 there (limit Ipv4HeaderTotalLen, offset 24)",
+        "IpAuthHeader: 16 bytes needed, 12 there (limit Ipv4HeaderTotalLen, offset 24)",
+    );
+}
+
+/// Bytes of version 6, and what the open entry and that of the version say of them.
+#[test]
+fn ipv6_refusals(rt: HostRuntime) {
+    refuses_ipv6(
+        &rt,
+        rt.alloc(),
+        b"\x60",
+        "Ipv6Header: 40 bytes needed, 1 there (limit Slice, offset 0)",
+    );
+    refuses_ipv6(
+        &rt,
+        rt.alloc(),
+        b"\x60\x00\x00\x00\x00\x18\x2c\x40\x00\x00\x00\x00\x00\x00\x00\x00\x00\x00\x00\x00\x00\x00\x00\x00\x00\x00\x00\x00\x00\x00\x00\x00\x00\x00\x00\x00\x00\x00\x00",
+        "Ipv6Header: 40 bytes needed, 39 there (limit Slice, offset 0)",
+    );
+    refuses_ipv6(
+        &rt,
+        rt.alloc(),
+        b"\x60\x00\x00\x00\x00\x18\x2c\x40\x00\x00\x00\x00\x00\x00\x00\x00\x00\x00\x00\x00\x00\x00\x00\x00\x00\x00\x00\x00\x00\x00\x00\x00\x00\x00\x00\x00\x00\x00\x00\x00",
+        "Ipv6Packet: 64 bytes needed, 40 there (limit Slice, offset 0)",
+    );
+    refuses_ipv6(
+        &rt,
+        rt.alloc(),
+        b"\x60\x00\x00\x00\x00\x18\x2c\x40\x00\x00\x00\x00\x00\x00\x00\x00\x00\x00\x00\x00\x00\x00\x00\x00\x00\x00\x00\x00\x00\x00\x00\x00\x00\x00\x00\x00\x00\x00\x00\x00\x2c\x00\x00\x00\x00\x00\x00\x01\x11\x00\x00\x01\x00\x00\x00\x02\x00\x01\x02\x03\x04\x05\x06",
+        "Ipv6Packet: 64 bytes needed, 63 there (limit Slice, offset 0)",
+    );
+    refuses_ipv6(
+        &rt,
+        rt.alloc(),
+        b"\x60\x00\x00\x00\x00\x00\x2c\x40\x00\x00\x00\x00\x00\x00\x00\x00\x00\x00\x00\x00\x00\x00\x00\x00\x00\x00\x00\x00\x00\x00\x00\x00\x00\x00\x00\x00\x00\x00\x00\x00",
+        "Ipv6FragHeader: 8 bytes needed, 0 there (limit Ipv6HeaderPayloadLen, offset 40)",
+    );
+    refuses_ipv6(
+        &rt,
+        rt.alloc(),
+        b"\x60\x00\x00\x00\x00\x00\x2c\x40\x00\x00\x00\x00\x00\x00\x00\x00\x00\x00\x00\x00\x00\x00\x00\x00\x00\x00\x00\x00\x00\x00\x00\x00\x00\x00\x00\x00\x00\x00\x00\x00\x11\x00\x00\x00",
+        "Ipv6FragHeader: 8 bytes needed, 4 there (limit Slice, offset 40)",
+    );
+    refuses_ipv6(
+        &rt,
+        rt.alloc(),
+        b"\x60\x00\x00\x00\x00\x04\x2c\x40\x00\x00\x00\x00\x00\x00\x00\x00\x00\x00\x00\x00\x00\x00\x00\x00\x00\x00\x00\x00\x00\x00\x00\x00\x00\x00\x00\x00\x00\x00\x00\x00\x11\x00\x00\x00",
+        "Ipv6FragHeader: 8 bytes needed, 4 there (limit Ipv6HeaderPayloadLen, offset 40)",
+    );
+    refuses_ipv6(
+        &rt,
+        rt.alloc(),
+        b"\x60\x00\x00\x00\x00\x0c\x3c\x40\x00\x00\x00\x00\x00\x00\x00\x00\x00\x00\x00\x00\x00\x00\x00\x00\x00\x00\x00\x00\x00\x00\x00\x00\x00\x00\x00\x00\x00\x00\x00\x00\x2c\x00\x00\x00\x00\x00\x00\x00\x11\x00\x00\x00",
+        "Ipv6FragHeader: 8 bytes needed, 4 there (limit Ipv6HeaderPayloadLen, offset 48)",
+    );
+    refuses_ipv6(
+        &rt,
+        rt.alloc(),
+        b"\x60\x00\x00\x00\x00\x10\x3c\x40\x00\x00\x00\x00\x00\x00\x00\x00\x00\x00\x00\x00\x00\x00\x00\x00\x00\x00\x00\x00\x00\x00\x00\x00\x00\x00\x00\x00\x00\x00\x00\x00\x00\x00\x00\x00\x00\x00\x00\x00\x11\x00\x00\x00\x00\x00\x00\x00",
+        "HopByHopNotAtStart",
+    );
+    refuses_ipv6(
+        &rt,
+        rt.alloc(),
+        b"\x60\x00\x00\x00\x00\x0c\x33\x40\x00\x00\x00\x00\x00\x00\x00\x00\x00\x00\x00\x00\x00\x00\x00\x00\x00\x00\x00\x00\x00\x00\x00\x00\x00\x00\x00\x00\x00\x00\x00\x00\x11\x00\x00\x00\x00\x00\x00\x00\x00\x00\x00\x00",
+        "ZeroPayloadLen",
+    );
+}
+
+/// The packet has a header of 20 bytes and the payload 10, 11, and is read alike by both entries.
+fn reads_ipv4(
+    rt: &impl Abort,
+    bytes: &[u8],
+    ip_number: IpNumber,
+    fragmented: bool,
+    authenticated: bool,
+) {
+    let packet = Ipv4Slice::from_slice(bytes).expect(rt, "refused");
+    let shown = (
+        packet.header().slice().len(),
+        packet.extensions().auth.is_some(),
+    );
+    same(rt, &shown, &(20, authenticated));
+    let expected = IpPayloadSlice {
+        ip_number,
+        fragmented,
+        len_source: LenSource::Ipv4HeaderTotalLen,
+        payload: b"\x0a\x0b",
+    };
+    same(rt, packet.payload(), &expected);
+    same(
+        rt,
+        &IpSlice::from_slice(bytes).expect(rt, "refused"),
+        &IpSlice::Ipv4(packet),
+    );
+}
+
+/// Packets of version 4, with the number of their payload, whether it is a fragment, and whether there is an
+/// authentication header.
+#[test]
+fn ipv4_packets(rt: HostRuntime) {
+    for (bytes, number, fragmented, authenticated) in [
+        (
+            b"\x45\x00\x00\x16\x00\x00\x00\x00\x40\x11\x00\x00\xc0\xa8\x01\x01\xc0\xa8\x01\x02\x0a\x0b\x00\x00".as_slice(),
+            IpNumber::UDP,
+            false,
+            false,
+        ),
+        (
+            b"\x45\x00\x00\x22\x23\x45\x20\x00\x40\x33\x00\x00\xc0\xa8\x01\x01\xc0\xa8\x01\x02\x11\x01\x00\x00\x00\x00\x00\x05\x00\x00\x00\x06\x0a\x0b".as_slice(),
+            IpNumber::UDP,
+            true,
+            true,
+        ),
+        (
+            b"\x45\x00\x00\x22\x23\x45\x00\x01\x40\x33\x00\x00\xc0\xa8\x01\x01\xc0\xa8\x01\x02\x33\x01\x00\x00\x00\x00\x00\x05\x00\x00\x00\x06\x0a\x0b".as_slice(),
+            IpNumber::AUTHENTICATION_HEADER,
+            true,
+            true,
+        ),
+    ] {
+        reads_ipv4(&rt, bytes, number, fragmented, authenticated);
+    }
+}
+
+/// The packet has so many bytes of extension headers and this payload, and is read alike by both entries.
+fn reads_ipv6(rt: &impl Abort, bytes: &[u8], expected: IpPayloadSlice, extensions_len: usize) {
+    let packet = Ipv6Slice::from_slice(bytes).expect(rt, "refused");
+    same(rt, &packet.extensions().slice().len(), &extensions_len);
+    same(rt, packet.payload(), &expected);
+    same(
+        rt,
+        &IpSlice::from_slice(bytes).expect(rt, "refused"),
+        &IpSlice::Ipv6(packet),
+    );
+}
+
+/// Packets of version 6, with the number of their payload, whether it is a fragment, what set its end, its bytes, and
+/// the number of bytes of the extension headers.
+#[test]
+fn ipv6_packets(rt: HostRuntime) {
+    for (bytes, number, fragmented, source, payload, extensions_len) in [
+        (
+            b"\x60\x00\x00\x00\x00\x00\x3b\x40\x00\x00\x00\x00\x00\x00\x00\x00\x00\x00\x00\x00\x00\x00\x00\x00\x00\x00\x00\x00\x00\x00\x00\x00\x00\x00\x00\x00\x00\x00\x00\x00\x01\x02\x03\x04".as_slice(),
+            IpNumber(59),
+            false,
+            LenSource::Slice,
+            b"\x01\x02\x03\x04".as_slice(),
+            0,
+        ),
+        (
+            b"\x60\x00\x00\x00\x00\x00\x3b\x40\x00\x00\x00\x00\x00\x00\x00\x00\x00\x00\x00\x00\x00\x00\x00\x00\x00\x00\x00\x00\x00\x00\x00\x00\x00\x00\x00\x00\x00\x00\x00\x00".as_slice(),
+            IpNumber(59),
+            false,
+            LenSource::Ipv6HeaderPayloadLen,
+            b"".as_slice(),
+            0,
+        ),
+        (
+            b"\x60\x00\x00\x00\x00\x02\x3b\x40\x00\x00\x00\x00\x00\x00\x00\x00\x00\x00\x00\x00\x00\x00\x00\x00\x00\x00\x00\x00\x00\x00\x00\x00\x00\x00\x00\x00\x00\x00\x00\x00\x01\x02\x03\x04".as_slice(),
+            IpNumber(59),
+            false,
+            LenSource::Ipv6HeaderPayloadLen,
+            b"\x01\x02".as_slice(),
+            0,
+        ),
+        (
+            FRAGMENTED,
+            IpNumber::UDP,
+            true,
+            LenSource::Ipv6HeaderPayloadLen,
+            b"\x00\x01\x02\x03\x04\x05\x06\x07".as_slice(),
+            16,
+        ),
+        (
+            b"\x60\x00\x00\x00\x00\x10\x2c\x40\x00\x00\x00\x00\x00\x00\x00\x00\x00\x00\x00\x00\x00\x00\x00\x00\x00\x00\x00\x00\x00\x00\x00\x00\x00\x00\x00\x00\x00\x00\x00\x00\x2c\x00\x00\x00\x00\x00\x00\x01\x11\x00\x00\x00\x00\x00\x00\x02".as_slice(),
+            IpNumber::UDP,
+            false,
+            LenSource::Ipv6HeaderPayloadLen,
+            b"".as_slice(),
+            16,
+        ),
+        (
+            b"\x60\x00\x00\x00\x00\x00\x00\x40\x00\x00\x00\x00\x00\x00\x00\x00\x00\x00\x00\x00\x00\x00\x00\x00\x00\x00\x00\x00\x00\x00\x00\x00\x00\x00\x00\x00\x00\x00\x00\x00\x3c\x00\x00\x00\x00\x00\x00\x00\x11\x00\x00\x00\x00\x00\x00\x00\x05".as_slice(),
+            IpNumber::UDP,
+            false,
+            LenSource::Slice,
+            b"\x05".as_slice(),
+            16,
+        ),
+    ] {
+        let expected = IpPayloadSlice {
+            ip_number: number,
+            fragmented,
+            len_source: source,
+            payload,
+        };
+        reads_ipv6(&rt, bytes, expected, extensions_len);
+    }
+}
+
+#[test]
+fn clones_of_packets(rt: HostRuntime) {
+    clones(
+        &rt,
+        &Ipv6Slice::from_slice(FRAGMENTED).expect(&rt, "refused"),
+    );
+    clones(&rt, &IpSlice::from_slice(FRAGMENTED).expect(&rt, "refused"));
+    let ipv4 = b"\x45\x00\x00\x14\x00\x00\x00\x00\x40\x11\x00\x00\xc0\xa8\x01\x01\xc0\xa8\x01\x02";
+    clones(&rt, &Ipv4Slice::from_slice(ipv4).expect(&rt, "refused"));
+}
+
+/// The fronts of a packet are refused for want of bytes.
+#[test]
+fn ipv6_fronts(rt: HostRuntime) {
+    for len in 0..64 {
+        let (required_len, layer) = if len == 0 {
+            (1, Layer::IpHeader)
+        } else if len < 40 {
+            (40, Layer::Ipv6Header)
+        } else {
+            (64, Layer::Ipv6Packet)
+        };
+        let expected = ip::SliceError::Len(LenError {
+            required_len,
+            len,
+            len_source: LenSource::Slice,
+            layer,
+            layer_start_offset: 0,
+        });
+        same(
+            &rt,
+            &IpSlice::from_slice(&FRAGMENTED[..len]).err(),
+            &Some(expected),
+        );
+    }
+}
+
+/// The fronts behind a header of payload length 0 are packets.
+#[test]
+fn ipv6_fronts_of_open_length(rt: HostRuntime) {
+    for len in 40..44 {
+        let packet = Ipv6Slice::from_slice(&OPEN_LENGTH[..len]).expect(&rt, "refused");
+        same(&rt, &packet.payload().payload, &&OPEN_LENGTH[40..len]);
+    }
+}

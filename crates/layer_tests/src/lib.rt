@@ -1,0 +1,18 @@
+//! What no contract of the header crates says: rows from outside, texts, and that calls succeed. The tests stand here,
+//! above those crates, so that each of these is proved once.
+#![tactic(auto)]
+
+#[cfg(test)]
+mod base;
+#[cfg(test)]
+mod checks;
+#[cfg(test)]
+mod derives;
+#[cfg(test)]
+mod ext;
+#[cfg(test)]
+mod ip;
+#[cfg(test)]
+mod link;
+#[cfg(test)]
+mod transport;

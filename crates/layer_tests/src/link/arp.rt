@@ -1,0 +1,145 @@
+//! ARP (RFC 826).
+
+use crate::checks::{appends, clones, same, shows};
+use ep_link::err::arp::{ArpHwAddrError, ArpNewError, ArpProtoAddrError};
+use ep_link::{
+    ArpHardwareId, ArpOperation, ArpPacket, ArpPacketSlice, EtherType, Layer, LenError, LenSource,
+};
+use std::process::Abort;
+
+/// A request over Ethernet for an IPv4 address, and 2 bytes behind it.
+const REQUEST: &[u8] = b"\x00\x01\x08\x00\x06\x04\x00\x01\x01\x02\x03\x04\x05\x06\x07\
+    \x06\x08\x09\x0a\x0b\x0c\x0e\x0f\x10\x11\x12\x13\x14\xfe\xff";
+
+/// The packet of the request.
+fn request(rt: &impl Abort) -> ArpPacket {
+    ArpPacket::new(
+        ArpHardwareId::ETHERNET,
+        EtherType::IPV4,
+        ArpOperation::REQUEST,
+        &[1, 2, 3, 4, 5, 6],
+        &[7, 6, 8, 9],
+        &[10, 11, 12, 14, 15, 16],
+        &[17, 18, 19, 20],
+    )
+    .expect(rt, "refused")
+}
+
+#[test]
+fn reads_a_request(rt: HostRuntime) {
+    let slice = ArpPacketSlice::from_slice(REQUEST).expect(&rt, "refused");
+    same(&rt, &slice.to_header(), &request(&rt));
+    clones(&rt, &slice);
+}
+
+#[test]
+fn reads_a_request_as_header(rt: HostRuntime) {
+    same(
+        &rt,
+        &ArpPacket::from_slice(REQUEST).expect(&rt, "refused"),
+        &request(&rt),
+    );
+}
+
+#[test]
+fn writes_a_request(rt: HostRuntime) {
+    let packet = request(&rt);
+    clones(&rt, &packet);
+    appends(&rt, rt.alloc(), &packet, &REQUEST[..28]);
+}
+
+/// A packet of four addresses of this length, of the bytes 1, 2, 3 and 4.
+fn packet(rt: &impl Abort, len: u8) -> ArpPacket {
+    let len = len as usize;
+    ArpPacket::new(
+        ArpHardwareId(0x0304),
+        EtherType(0xabcd),
+        ArpOperation(0x1234),
+        &[1; 255][..len],
+        &[2; 255][..len],
+        &[3; 255][..len],
+        &[4; 255][..len],
+    )
+    .expect(rt, "refused")
+}
+
+#[test]
+fn writes_each_length(rt: HostRuntime) {
+    for len in [255, 1, 0] {
+        let mut bytes = vec![in rt.alloc(); 3, 4, 0xab, 0xcd, len, len, 0x12, 0x34].expect(
+            &rt,
+            "no memory",
+        );
+        for byte in 1..5 {
+            bytes
+                .extend_from_slice(&[byte; 255][..len as usize])
+                .expect(&rt, "refused");
+        }
+        appends(&rt, rt.alloc(), &packet(&rt, len), &bytes);
+    }
+}
+
+#[test]
+fn refuses_missing_bytes(rt: HostRuntime) {
+    for (len, required_len, len_source) in [
+        (0, 8, LenSource::Slice),
+        (7, 8, LenSource::Slice),
+        (8, 28, LenSource::ArpAddrLengths),
+        (27, 28, LenSource::ArpAddrLengths),
+    ] {
+        let refusal = Some(LenError::at_start(required_len, len, len_source, Layer::Arp));
+        let bytes = &REQUEST[..len];
+        same(&rt, &ArpPacket::from_slice(bytes).err(), &refusal);
+        same(&rt, &ArpPacketSlice::from_slice(bytes).err(), &refusal);
+    }
+}
+
+/// The refusal of addresses of these lengths, at most 257.
+fn refusal(rt: &impl Abort, lens: [usize; 4]) -> ArpNewError {
+    const ZEROS: &[u8] = &[0; 257];
+    let [sender_hw, target_hw, sender_protocol, target_protocol] = lens;
+    let made = ArpPacket::new(
+        ArpHardwareId::ETHERNET,
+        EtherType::IPV4,
+        ArpOperation::REQUEST,
+        ZEROS.get(..sender_hw).expect(rt, "too long"),
+        ZEROS.get(..sender_protocol).expect(rt, "too long"),
+        ZEROS.get(..target_hw).expect(rt, "too long"),
+        ZEROS.get(..target_protocol).expect(rt, "too long"),
+    );
+    made.err().expect(rt, "accepted")
+}
+
+#[test]
+fn refuses_addresses_in_order(rt: HostRuntime) {
+    for (lens, error, text) in [
+        (
+            [6, 5, 4, 4],
+            ArpNewError::HwAddr(ArpHwAddrError::LenNonMatching(6, 5)),
+            "LenNonMatching 6 5",
+        ),
+        (
+            [257, 256, 257, 256],
+            ArpNewError::HwAddr(ArpHwAddrError::LenNonMatching(257, 256)),
+            "LenNonMatching 257 256",
+        ),
+        (
+            [256, 256, 257, 256],
+            ArpNewError::HwAddr(ArpHwAddrError::LenTooBig(256)),
+            "LenTooBig 256",
+        ),
+        (
+            [255, 255, 257, 256],
+            ArpNewError::ProtoAddr(ArpProtoAddrError::LenNonMatching(257, 256)),
+            "LenNonMatching 257 256",
+        ),
+        (
+            [255, 255, 256, 256],
+            ArpNewError::ProtoAddr(ArpProtoAddrError::LenTooBig(256)),
+            "LenTooBig 256",
+        ),
+    ] {
+        shows(&rt, rt.alloc(), &error, text);
+        same(&rt, &refusal(&rt, lens), &error);
+    }
+}
