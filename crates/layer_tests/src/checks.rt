@@ -39,22 +39,119 @@ pub trait Append {
     fn append(&self, buf: &mut Vec<u8>) -> bool;
 }
 
-macro_rules! appended {
-    ($($header:ty),*) => {
-        $(impl Append for $header {
-            fn append(&self, buf: &mut Vec<u8>) -> bool {
-                self.write(buf).is_ok()
-            }
-        })*
-    };
+impl Append for ArpPacket {
+    fn append(&self, buf: &mut Vec<u8>) -> bool {
+        self.write(buf).is_ok()
+    }
 }
 
-appended!(
-    ArpPacket, DoubleVlanHeader, Ethernet2Header, Icmpv4Header, Icmpv6Header, IpAuthHeader,
-    Ipv4Header, Ipv6FragmentHeader, Ipv6Header, Ipv6RawExtHeader, LinkExtHeader, LinkHeader,
-    LinuxSllHeader, MacsecHeader, SingleVlanHeader, TcpHeader, TransportHeader, UdpHeader,
-    VlanHeader
-);
+impl Append for DoubleVlanHeader {
+    fn append(&self, buf: &mut Vec<u8>) -> bool {
+        self.write(buf).is_ok()
+    }
+}
+
+impl Append for Ethernet2Header {
+    fn append(&self, buf: &mut Vec<u8>) -> bool {
+        self.write(buf).is_ok()
+    }
+}
+
+impl Append for Icmpv4Header {
+    fn append(&self, buf: &mut Vec<u8>) -> bool {
+        self.write(buf).is_ok()
+    }
+}
+
+impl Append for Icmpv6Header {
+    fn append(&self, buf: &mut Vec<u8>) -> bool {
+        self.write(buf).is_ok()
+    }
+}
+
+impl Append for IpAuthHeader {
+    fn append(&self, buf: &mut Vec<u8>) -> bool {
+        self.write(buf).is_ok()
+    }
+}
+
+impl Append for Ipv4Header {
+    fn append(&self, buf: &mut Vec<u8>) -> bool {
+        self.write(buf).is_ok()
+    }
+}
+
+impl Append for Ipv6FragmentHeader {
+    fn append(&self, buf: &mut Vec<u8>) -> bool {
+        self.write(buf).is_ok()
+    }
+}
+
+impl Append for Ipv6Header {
+    fn append(&self, buf: &mut Vec<u8>) -> bool {
+        self.write(buf).is_ok()
+    }
+}
+
+impl Append for Ipv6RawExtHeader {
+    fn append(&self, buf: &mut Vec<u8>) -> bool {
+        self.write(buf).is_ok()
+    }
+}
+
+impl Append for LinkExtHeader {
+    fn append(&self, buf: &mut Vec<u8>) -> bool {
+        self.write(buf).is_ok()
+    }
+}
+
+impl Append for LinkHeader {
+    fn append(&self, buf: &mut Vec<u8>) -> bool {
+        self.write(buf).is_ok()
+    }
+}
+
+impl Append for LinuxSllHeader {
+    fn append(&self, buf: &mut Vec<u8>) -> bool {
+        self.write(buf).is_ok()
+    }
+}
+
+impl Append for MacsecHeader {
+    fn append(&self, buf: &mut Vec<u8>) -> bool {
+        self.write(buf).is_ok()
+    }
+}
+
+impl Append for SingleVlanHeader {
+    fn append(&self, buf: &mut Vec<u8>) -> bool {
+        self.write(buf).is_ok()
+    }
+}
+
+impl Append for TcpHeader {
+    fn append(&self, buf: &mut Vec<u8>) -> bool {
+        self.write(buf).is_ok()
+    }
+}
+
+impl Append for TransportHeader {
+    fn append(&self, buf: &mut Vec<u8>) -> bool {
+        self.write(buf).is_ok()
+    }
+}
+
+impl Append for UdpHeader {
+    fn append(&self, buf: &mut Vec<u8>) -> bool {
+        self.write(buf).is_ok()
+    }
+}
+
+impl Append for VlanHeader {
+    fn append(&self, buf: &mut Vec<u8>) -> bool {
+        self.write(buf).is_ok()
+    }
+}
 
 impl Append for (Ipv4Extensions, IpNumber) {
     fn append(&self, buf: &mut Vec<u8>) -> bool {

@@ -21,6 +21,12 @@ fn reads_each_field(rt: HostRuntime) {
 }
 
 #[test]
+fn reads_a_header_and_the_rest(rt: HostRuntime) {
+    let expected = Ok((header(&rt), b"\xfe\xff".as_slice()));
+    same(&rt, &Ipv6RawExtHeader::from_slice(OPTIONS), &expected);
+}
+
+#[test]
 fn writes(rt: HostRuntime) {
     let header = header(&rt);
     clones(&rt, &header);

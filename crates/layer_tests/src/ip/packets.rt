@@ -2,7 +2,8 @@
 
 use crate::checks::{clones, refuses, same};
 use ep_ip::{
-    IpNumber, IpPayloadSlice, IpSlice, Ipv4Slice, Ipv6Slice, Layer, LenError, LenSource, ip,
+    IpNumber, IpPayloadSlice, IpSlice, Ipv4Slice, Ipv6ExtensionsSlice, Ipv6Slice, Layer, LenError,
+    LenSource, ip,
 };
 use std::alloc::Global;
 use std::process::Abort;
@@ -370,4 +371,14 @@ fn ipv6_fronts_of_open_length(rt: HostRuntime) {
         let packet = Ipv6Slice::from_slice(&OPEN_LENGTH[..len]).expect(&rt, "refused");
         same(&rt, &packet.payload().payload, &&OPEN_LENGTH[40..len]);
     }
+}
+
+/// Where a packet has no extension headers, their slices begin with the number of its header all the same.
+#[test]
+fn no_extension_headers_begin_with_next_header(rt: HostRuntime) {
+    let packet = Ipv6Slice::from_slice(OPEN_LENGTH).expect(&rt, "refused");
+    let of_59 = Ipv6ExtensionsSlice::from_slice(IpNumber(59), b"").expect(&rt, "refused");
+    let of_udp = Ipv6ExtensionsSlice::from_slice(IpNumber::UDP, b"").expect(&rt, "refused");
+    same(&rt, &packet.extensions(), &of_59.0);
+    same(&rt, &(packet.extensions() == of_udp.0), &false);
 }

@@ -44,6 +44,15 @@ fn reads_each_field(rt: HostRuntime) {
     clones(&rt, &packet);
 }
 
+#[test]
+fn reads_a_header_and_the_rest(rt: HostRuntime) {
+    let Ok((read, rest)) = MacsecHeader::from_slice(PROTECTED) else {
+        panic!(rt; "refused");
+    };
+    same(&rt, &read, &header(&rt));
+    same(&rt, &rest, &&PROTECTED[16..]);
+}
+
 /// The tag is read as a header, and written again.
 fn writes(rt: &impl Abort, alloc: Global, tag: &[u8]) {
     let Ok((header, rest)) = MacsecHeader::from_slice(tag) else {

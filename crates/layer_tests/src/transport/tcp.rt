@@ -56,6 +56,12 @@ fn reads_a_header(rt: HostRuntime) {
 }
 
 #[test]
+fn reads_a_header_and_the_rest(rt: HostRuntime) {
+    let expected = Ok((segment_header(&rt), &SEGMENT[36..]));
+    same(&rt, &TcpHeader::from_slice(SEGMENT), &expected);
+}
+
+#[test]
 fn reads_a_segment(rt: HostRuntime) {
     let segment = TcpSlice::from_slice(SEGMENT).expect(&rt, "refused");
     same(&rt, &segment.to_header(), &segment_header(&rt));
