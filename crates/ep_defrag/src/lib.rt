@@ -15,9 +15,19 @@ mod pool_run;
 mod run;
 
 pub use arrayvec::ArrayVec;
-pub use ep_base::{IpFragOffset, IpNumber, LenSource, VlanId};
+pub use ep_base::err::{
+    Layer, LenError, ip, ip_auth, ipv4, ipv6, ipv6_exts, linux_sll, macsec, tcp,
+};
+pub use ep_base::{EtherPayloadSlice, EtherType, IpFragOffset, IpNumber, LenSource, VlanId};
+pub use ep_ip::{Ipv4Slice, Ipv6Slice};
+pub use ep_link::{
+    ArpPacketSlice, Ethernet2Slice, LinkExtSlice, LinkSlice, LinuxSllPayloadSlice,
+    LinuxSllProtocolType, LinuxSllSlice, MacsecHeaderSlice, MacsecPayloadSlice, MacsecSlice,
+    SingleVlanSlice,
+};
 pub use ep_packet::err::SliceError;
-pub use ep_packet::{Entry, SlicedPacket};
+pub use ep_packet::{Entry, NetSlice, SlicedPacket};
+pub use ep_transport::{Icmpv4Slice, Icmpv6Slice, TcpSlice, TransportSlice, UdpSlice};
 pub use fragment::Fragment;
 pub use frame_run::{FrameAnswer, FrameCall, run_frames};
 pub use ip_defrag_buf::IpDefragBuf;

@@ -11,3 +11,15 @@ pub mod RawExtension
 pub mod RawExtensionSlices
 pub mod ShownChains
 pub mod Walks
+-- what the contracts name of the crates below
+pub use Rattle.ep_base.specs.Bytes
+pub use Rattle.ep_base.specs.IpNumbers
+pub use Rattle.ep_base.specs.Layer
+pub use Rattle.ep_base.specs.Padding
+pub use Rattle.ep_base.specs.Tables
+pub use Rattle.ep_base.specs.declared.err.ipv4_exts.ExtsWalkError as Ipv4ExtsWalkErrorType
+pub use Rattle.ep_base.specs.declared.err.ipv4_exts.HeaderWriteError as Ipv4ExtsHeaderWriteErrorType
+pub use Rattle.ep_base.specs.declared.err.ipv6_exts.ExtsWalkError as Ipv6ExtsWalkErrorType
+pub use Rattle.ep_base.specs.declared.err.ipv6_exts.HeaderSliceError as Ipv6ExtsHeaderSliceErrorType
+pub use Rattle.ep_base.specs.declared.err.ipv6_exts.HeaderWriteError as Ipv6ExtsHeaderWriteErrorType
+pub use Rattle.ep_base.specs.declared.ip_number.IpNumber as IpNumberType

@@ -6,3 +6,19 @@ pub mod Ipv4
 pub mod Ipv4Slices
 pub mod Ipv6
 pub mod Ipv6Slices
+-- what the contracts name of the crates below
+pub use Rattle.ep_base.specs.Bytes
+pub use Rattle.ep_base.specs.Comparisons
+pub use Rattle.ep_base.specs.IpPayload
+pub use Rattle.ep_base.specs.Layer
+pub use Rattle.ep_base.specs.Padding
+pub use Rattle.ep_base.specs.Tables
+pub use Rattle.ep_ext.specs.Ipv4Chains
+pub use Rattle.ep_ext.specs.Ipv6Slices as Ipv6ExtensionSlices
+pub use Rattle.ep_base.specs.declared.err.ip.HeaderError as IpHeaderErrorType
+pub use Rattle.ep_base.specs.declared.err.ip.HeadersError as IpHeadersErrorType
+pub use Rattle.ep_base.specs.declared.err.ip.SliceError as IpSliceErrorType
+pub use Rattle.ep_base.specs.declared.err.ipv4.SliceError as Ipv4SliceErrorType
+pub use Rattle.ep_base.specs.declared.err.ipv6.SliceError as Ipv6SliceErrorType
+pub use Rattle.ep_base.specs.declared.err.len_error.LenError as LenErrorType
+pub use Rattle.ep_base.specs.declared.err.value_type.ValueType as ValueTypeType

@@ -11,3 +11,13 @@ pub mod ArpSlices
 pub mod EtherPayloads
 pub mod LinkSlices
 pub mod LinkExtensions
+-- what the contracts name of the crates below
+pub use Rattle.ep_base.specs.Bytes
+pub use Rattle.ep_base.specs.Comparisons
+pub use Rattle.ep_base.specs.Layer
+pub use Rattle.ep_base.specs.Padding
+pub use Rattle.ep_base.specs.Tables
+pub use Rattle.ep_base.specs.declared.err.layer.Layer as LayerType
+pub use Rattle.ep_base.specs.declared.err.macsec.HeaderSliceError as MacsecHeaderSliceErrorType
+pub use Rattle.ep_base.specs.declared.ether_type.EtherType as EtherTypeType
+pub use Rattle.ep_base.specs.declared.len_source.LenSource as LenSourceType

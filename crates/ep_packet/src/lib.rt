@@ -17,17 +17,31 @@ mod sliced_packet_walk;
 
 pub use arrayvec::ArrayVec;
 pub use entry::Entry;
-pub use ep_base::err::{Layer, LenError};
-pub use ep_base::{EtherPayloadSlice, EtherType, IpNumber, IpPayloadSlice, LenSource, VlanId};
-pub use ep_ext::{Ipv4Extensions, Ipv6Extensions};
-pub use ep_ip::{IpSlice, Ipv4Header, Ipv4Slice, Ipv6Header, Ipv6Slice};
-pub use ep_link::{
-    ArpPacket, ArpPacketSlice, DoubleVlanHeader, DoubleVlanSlice, Ethernet2Header, Ethernet2Slice,
-    LinkExtHeader, LinkExtSlice, LinkHeader, LinkSlice, LinuxSllPayloadSlice, LinuxSllSlice,
-    MacsecHeader, MacsecHeaderSlice, MacsecPayloadSlice, MacsecSlice, SingleVlanHeader,
-    SingleVlanSlice, VlanHeader, VlanSlice,
+pub use ep_base::err::{Layer, LenError, ValueTooBigError, ValueType};
+pub use ep_base::{
+    EtherPayloadSlice, EtherType, IpFragOffset, IpNumber, IpPayloadSlice, Ipv4Dscp, Ipv4Ecn,
+    Ipv6FlowLabel, LenSource, MacsecAn, MacsecShortLen, VlanId, VlanPcp,
 };
-pub use ep_transport::{TransportHeader, TransportSlice, UdpSlice};
+pub use ep_ext::{
+    IpAuthHeader, Ipv4Extensions, Ipv4ExtensionsSlice, Ipv6Extensions, Ipv6ExtensionsSlice,
+    Ipv6FragmentHeader, Ipv6RawExtHeader, Ipv6RoutingExtensions,
+};
+pub use ep_ip::{
+    IpSlice, Ipv4Header, Ipv4HeaderSlice, Ipv4Options, Ipv4Slice, Ipv6Header, Ipv6HeaderSlice,
+    Ipv6Slice,
+};
+pub use ep_link::{
+    ArpHardwareId, ArpOperation, ArpPacket, ArpPacketSlice, DoubleVlanHeader, DoubleVlanSlice,
+    Ethernet2Header, Ethernet2Slice, LinkExtHeader, LinkExtSlice, LinkHeader, LinkSlice,
+    LinuxSllHeader, LinuxSllPacketType, LinuxSllPayloadSlice, LinuxSllProtocolType, LinuxSllSlice,
+    MacsecHeader, MacsecHeaderSlice, MacsecPType, MacsecPayloadSlice, MacsecSlice,
+    SingleVlanHeader, SingleVlanSlice, VlanHeader, VlanSlice,
+};
+pub use ep_transport::{
+    IcmpEchoHeader, Icmpv4Header, Icmpv4Slice, Icmpv4Type, Icmpv6Header, Icmpv6Slice, Icmpv6Type,
+    TcpHeader, TcpOptions, TcpSlice, TransportHeader, TransportSlice, UdpHeader, UdpSlice, icmpv4,
+    icmpv6,
+};
 pub use ip_headers::IpHeaders;
 pub use net_headers::{IpHeader, NetHeaders};
 pub use net_slice::{InternetSlice, NetSlice};

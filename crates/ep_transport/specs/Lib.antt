@@ -13,3 +13,11 @@ pub mod TransportNumbers
 pub mod TransportParts
 pub mod Udp
 pub mod UdpSlices
+-- what the contracts name of the crates below
+pub use Rattle.ep_base.specs.Bytes
+pub use Rattle.ep_base.specs.Checksum
+pub use Rattle.ep_base.specs.Layer
+pub use Rattle.ep_base.specs.Padding
+pub use Rattle.ep_base.specs.Tables
+pub use Rattle.ep_base.specs.declared.err.len_error.LenError as LenErrorType
+pub use Rattle.ep_base.specs.declared.err.tcp.HeaderSliceError as TcpHeaderSliceErrorType

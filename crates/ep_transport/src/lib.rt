@@ -23,9 +23,10 @@ mod transport_slice;
 mod udp_header;
 mod udp_slice;
 
+pub use arrayvec::ArrayVec;
 pub use ep_base::err::{Layer, LenError, ValueTooBigError, ValueType, tcp};
-pub use ep_base::{IpNumber, LenSource};
-pub use ep_ip::{Ipv4Header, Ipv6Header};
+pub use ep_base::{IpFragOffset, IpNumber, Ipv4Dscp, Ipv4Ecn, Ipv6FlowLabel, LenSource};
+pub use ep_ip::{Ipv4Header, Ipv4Options, Ipv6Header};
 pub use icmp_echo_header::IcmpEchoHeader;
 pub use icmpv4_header::Icmpv4Header;
 pub use icmpv4_slice::Icmpv4Slice;

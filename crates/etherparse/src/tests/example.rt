@@ -1,19 +1,20 @@
 //! The example of the README.
 
-ghost use Rattle.std.specs.Prelude.{◌≡◌, IfSome, Some};
+ghost use Rattle.std.specs.Prelude.{◌≡◌, IfSome, IfNone, Some, None};
 ghost use Rattle.etherparse.specs.Entry.TheVariants.{Ethernet as ethernet};
 ghost use Rattle.etherparse.specs.Frame.{IsFrame};
 ghost use Rattle.etherparse.specs.Layers.{Layers};
-ghost use Rattle.etherparse.specs.TransportParts.{TransportLayer, transport_payload as payload_of};
+ghost use Rattle.etherparse.specs.TransportParts.{TransportLayer, transport_payload};
 
 use super::packet::FRAME;
 use crate::SlicedPacket;
 
 /// The payload of the transport layer in an Ethernet II frame.
-fn transport_payload(frame: &[u8]) -> Option<&[u8]>
-    ensures { IfSome result (λ payload. (layers : Layers) × IsFrame ethernet frame.now layers
+fn payload_in(frame: &[u8]) -> Option<&[u8]>
+    ensures some { IfSome result (λ payload. (layers : Layers) × IsFrame ethernet frame.now layers
         × (transport : TransportLayer) × (layers.transport ≡ Some transport)
-        × (payload.now ≡ payload_of transport)) }
+        × (payload.now ≡ transport_payload transport)) }
+    ensures none { IfNone result ((layers : Layers) → IsFrame ethernet frame.now layers → layers.transport ≡ None) }
 {
     let Ok(packet) = SlicedPacket::from_ethernet(frame) else {
         return None;
@@ -26,6 +27,6 @@ fn transport_payload(frame: &[u8]) -> Option<&[u8]>
 
 #[test]
 fn payload_of_a_frame(rt: HostRuntime) {
-    assert!(rt; transport_payload(FRAME) == Some(&[1, 2, 3, 4, 5, 6, 7, 8]));
-    assert!(rt; transport_payload(b"").is_none());
+    assert!(rt; payload_in(FRAME) == Some(&[1, 2, 3, 4, 5, 6, 7, 8]));
+    assert!(rt; payload_in(b"").is_none());
 }

@@ -1,8 +1,8 @@
 //! Frames that are cut to each length.
 
 use super::{assert_answers, push_line};
-use crate::decimals::push_behind;
-use std::alloc::{AllocError, Global};
+use std::alloc::Global;
+use std::io::Write;
 use std::process::Abort;
 use std::test::Fail;
 
@@ -101,11 +101,13 @@ fn assert_cuts(rt: &impl Abort, alloc: Global, needs: &Needs) -> Result<(), Fail
 }
 
 /// Appends the refusal of a cut to so many bytes.
-fn push_refusal(wanted: &mut Vec<u8>, layers: &[Layer], len: usize) -> Result<(), AllocError> {
+fn push_refusal(wanted: &mut Vec<u8>, layers: &[Layer], len: usize) -> Result<(), Fail> {
     for (whole, offset, front, behind) in layers {
         if len < *whole {
-            push_behind(wanted, front, len.saturating_sub(*offset) as u64)?;
-            return push_line(wanted, behind);
+            wanted.extend_from_slice(front)?;
+            write!(wanted, "{}", len.saturating_sub(*offset))?;
+            push_line(wanted, behind)?;
+            return Ok(());
         }
     }
     Ok(())
