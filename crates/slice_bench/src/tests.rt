@@ -1,10 +1,12 @@
 //! What no contract says: files and sums from outside, and that calls which take memory succeed where there is memory.
 
+use crate::bench_error::BenchError;
 use crate::building::{build, frame_parts_of};
 use crate::corpus::ip_packets_of;
 use crate::files::frames_of;
 use crate::measure::{Corpus, Measurement, measure};
 use std::alloc::Global;
+use std::process::Abort;
 use std::test::Fail;
 
 /// Frames whose lengths and checksums are right: built anew, each is itself.
@@ -145,7 +147,7 @@ const FILES: [(&[u8], Option<(usize, usize)>); 8] = [
 ];
 
 /// The number of a file's frames and the length of the last, where none is cut.
-fn held_in(alloc: Global, file: &[u8]) -> Option<(usize, usize)> {
+fn held_in(rt: &impl Abort, alloc: Global, file: &[u8]) -> Option<(usize, usize)> {
     match frames_of(alloc, file) {
         Ok(frames) => {
             let last_len = match frames.last() {
@@ -154,13 +156,16 @@ fn held_in(alloc: Global, file: &[u8]) -> Option<(usize, usize)> {
             };
             Some((frames.len(), last_len))
         }
-        Err(_) => None,
+        Err(error) => {
+            assert!(rt; matches!(error, BenchError::Cut));
+            None
+        }
     }
 }
 
 #[test]
 fn holds_frames(rt: HostRuntime) {
     for (file, wanted) in FILES {
-        assert!(rt; held_in(rt.alloc(), file) == wanted);
+        assert!(rt; held_in(&rt, rt.alloc(), file) == wanted);
     }
 }
