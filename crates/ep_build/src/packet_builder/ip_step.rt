@@ -174,7 +174,7 @@ impl PacketBuilderStep<IpHeaders> {
     /// the buffer as it was: the payload and the extension headers are longer than the length field can count, or there
     /// is no memory, which comes only where the buffer would have to grow. Where the headers say that the payload is a
     /// fragment (RFC 791, 3.2; RFC 8200, 4.5), and the number is none of an extension header, the frame is read back as
-    /// that fragment.
+    /// that fragment, behind a cooked header where its packet type is a known one.
     pub fn write(
         mut self,
         buf: &mut Vec<u8>,
