@@ -1,3 +1,6 @@
+pub use Rattle.ep_defrag.specs.Calls
+pub use Rattle.ep_defrag.specs.FrameCalls
+pub use Rattle.ep_defrag.specs.Pools
 pub use Rattle.ep_packet.specs.Frame
 pub use Rattle.ep_packet.specs.Layers
 pub use Rattle.ep_packet.specs.Refusals

@@ -1,7 +1,9 @@
 //! Packets that are read, built and put together, by the names that a user has.
 
 mod build;
+mod checks;
 mod defrag;
 mod derives;
 mod example;
 mod packet;
+mod samples;

@@ -1,17 +1,16 @@
-//! Built frames: rows from outside, each read back by every entry of its first layer; refusals; and what every `write`
-//! of the library takes memory for.
+//! Built frames: rows from outside, each read back by every entry of its first layer; refusals; and that the greatest
+//! are written where there is memory.
 
+use crate::err::packet::BuildWriteError;
+use crate::tests::checks::{same, shows};
+use crate::tests::samples::*;
 use crate::*;
 use std::alloc::Global;
 use std::process::Abort;
-use std::test::Fail;
 
 mod frames;
 mod refusals;
 mod writers;
-
-/// The payload of most frames.
-const PAYLOAD: &[u8] = &[1, 2, 3, 4, 5, 6, 7, 8];
 
 /// The Ethernet II header of most frames.
 fn ethernet() -> PacketBuilderStep<Ethernet2Header> {
@@ -25,7 +24,8 @@ fn ipv4() -> PacketBuilderStep<IpHeaders> {
 
 /// The same, behind an Ethernet II header.
 fn ethernet_ipv4() -> PacketBuilderStep<IpHeaders> {
-    ethernet().ipv4(SOURCE_4, DESTINATION_4, 20)
+    let ethernet = PacketBuilder::ethernet2([1, 2, 3, 4, 5, 6], [7, 8, 9, 10, 11, 12]);
+    ethernet.ipv4(SOURCE_4, DESTINATION_4, 20)
 }
 
 /// The IPv6 header of most frames, alone.

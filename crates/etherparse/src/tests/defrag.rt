@@ -2,10 +2,11 @@
 //! much they take, and what they answer where there is none (`rt try --test --fail-alloc N` refuses the N-th request).
 
 use crate::defrag::*;
+use crate::tests::checks::same;
+use crate::tests::samples::*;
 use crate::*;
 use std::alloc::{AllocError, Global};
 use std::process::Abort;
-use std::test::Fail;
 
 mod buffers;
 mod frames;
@@ -32,4 +33,9 @@ fn bytes_of(alloc: Global, parts: &[Bytes]) -> Result<Vec<u8>, AllocError> {
         }
     }
     Ok(bytes)
+}
+
+/// An offset in units of 8 bytes, of at most 8191.
+fn offset(rt: &impl Abort, units: u16) -> IpFragOffset {
+    IpFragOffset::try_new(units).expect(rt, "above 8191")
 }

@@ -1,13 +1,11 @@
 //! What the public types derive: a call here is refused where a derive is missing.
 
-use crate::defrag::{
-    FrameAnswer, IpDefragBuf, IpDefragError, IpDefragPayloadVec, IpFragId, IpFragRange,
-    IpFragVersionSpecId, PoolAnswer, RunStop,
-};
+use crate::defrag::*;
 use crate::err::ip::HeadersWriteError;
 use crate::err::net::NetSetNextHeaderError;
 use crate::err::packet::{BuildWriteError, SliceError};
-use crate::{Entry, IpHeaders, NetHeaders, NetSlice, PacketHeaders, PayloadSlice, SlicedPacket};
+use crate::*;
+use std::error::Error;
 use std::fmt::Debug;
 use std::hash::Hash;
 
@@ -27,26 +25,43 @@ fn clones<T: Clone + Debug + Eq>() {}
 
 fn compares<T: Debug + Eq>() {}
 
+fn is_printed<T: Debug>() {}
+
+fn is_error<T: Clone + Debug + Eq + Error>() {}
+
 #[test]
-fn derives(_rt: HostRuntime) {
-    copies_and_orders::<IpFragRange>();
-    clones_and_orders::<PayloadSlice<'static>>();
-    clones_and_orders::<IpDefragError>();
-    clones_and_hashes::<IpFragVersionSpecId>();
+fn derives_of_packets() {
+    clones_and_orders::<PayloadSlice<'_>>();
     clones_and_hashes::<SliceError>();
     clones_and_hashes::<NetSetNextHeaderError>();
-    orders::<IpDefragBuf>();
-    hashes::<IpFragId<u8>>();
     copies::<Entry>();
     clones::<IpHeaders>();
     clones::<NetHeaders>();
-    clones::<NetSlice<'static>>();
-    clones::<SlicedPacket<'static>>();
-    clones::<PacketHeaders<'static>>();
-    clones::<HeadersWriteError>();
-    clones::<BuildWriteError>();
+    clones::<NetSlice<'_>>();
+    clones::<SlicedPacket<'_>>();
+    clones::<PacketHeaders<'_>>();
+}
+
+#[test]
+fn errors() {
+    is_error::<SliceError>();
+    is_error::<NetSetNextHeaderError>();
+    is_error::<HeadersWriteError>();
+    is_error::<BuildWriteError>();
+}
+
+#[test]
+fn derives_of_defrag() {
+    copies_and_orders::<IpFragRange>();
+    clones_and_orders::<IpDefragError>();
+    clones_and_hashes::<IpFragVersionSpecId>();
+    orders::<IpDefragBuf>();
+    hashes::<IpFragId<u8>>();
     compares::<IpDefragPayloadVec>();
     compares::<PoolAnswer>();
     compares::<FrameAnswer>();
     compares::<RunStop>();
+    is_printed::<Fragment<'_>>();
+    is_printed::<PoolCall<'_, u64, u8, u64>>();
+    is_printed::<FrameCall<'_, u64, u8, u64>>();
 }

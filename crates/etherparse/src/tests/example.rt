@@ -6,7 +6,7 @@ ghost use Rattle.etherparse.specs.Frame.{IsFrame};
 ghost use Rattle.etherparse.specs.Layers.{Layers};
 ghost use Rattle.etherparse.specs.TransportParts.{TransportLayer, transport_payload};
 
-use super::packet::FRAME;
+use super::samples::FRAME;
 use crate::SlicedPacket;
 
 /// The payload of the transport layer in an Ethernet II frame.

@@ -2,204 +2,6 @@
 
 use super::*;
 
-/// What stands in front of the net layer of a frame.
-#[derive(Clone, Copy)]
-enum Front {
-    Absent,
-    Ethernet,
-    OneTag,
-    TwoTags,
-    Cooked,
-}
-
-/// How a frame is built.
-#[derive(Clone, Copy)]
-enum Built {
-    Udp(Front, &'static [u8]),
-    Tcp(Front),
-    TcpFlags,
-    Icmpv4Request,
-    Icmpv4Reply,
-    Icmpv4Raw,
-    Icmpv4Type,
-    UdpOverIpv6(Front),
-    TcpOverIpv6,
-    TcpOptions,
-    Icmpv6Request,
-    Icmpv6Reply,
-    Icmpv6Raw,
-    Icmpv6Type,
-    ExtensionHeaders,
-    Arp(Front),
-    Ipv4Fragment(u16, bool),
-    Ipv6Fragment(u16, bool),
-}
-
-/// The headers of IPv4 of most frames, behind others.
-fn ipv4_behind(front: Front) -> Result<PacketBuilderStep<IpHeaders>, Fail> {
-    Ok(match front {
-        Front::Absent => ipv4(),
-        Front::Ethernet => ethernet_ipv4(),
-        Front::OneTag => one_tag()?.ipv4(SOURCE_4, DESTINATION_4, 20),
-        Front::TwoTags => two_tags()?.ipv4(SOURCE_4, DESTINATION_4, 20),
-        Front::Cooked => cooked().ipv4(SOURCE_4, DESTINATION_4, 20),
-    })
-}
-
-/// The headers of IPv6 of most frames, behind others.
-fn ipv6_behind(front: Front) -> Result<PacketBuilderStep<IpHeaders>, Fail> {
-    Ok(match front {
-        Front::Absent => ipv6(),
-        Front::Ethernet => ethernet().ipv6(SOURCE, DESTINATION, 47),
-        Front::OneTag => one_tag()?.ipv6(SOURCE, DESTINATION, 47),
-        Front::TwoTags => two_tags()?.ip(ipv6_headers()),
-        Front::Cooked => cooked().ip(ipv6_headers()),
-    })
-}
-
-fn ipv6_headers() -> IpHeaders {
-    let header = Ipv6Header {
-        hop_limit: 47,
-        source: SOURCE,
-        destination: DESTINATION,
-        ..Default::default()
-    };
-    IpHeaders::Ipv6(header, Ipv6Extensions::default())
-}
-
-fn one_tag() -> Result<PacketBuilderStep<VlanHeader>, Fail> {
-    Ok(ethernet().single_vlan(VlanId::try_new(0x123)?))
-}
-
-fn two_tags() -> Result<PacketBuilderStep<VlanHeader>, Fail> {
-    Ok(ethernet().double_vlan(VlanId::try_new(0x123)?, VlanId::try_new(0x234)?))
-}
-
-fn cooked() -> PacketBuilderStep<LinuxSllHeader> {
-    PacketBuilder::linux_sll(LinuxSllPacketType::OTHERHOST, 6, [1, 2, 3, 4, 5, 6, 0, 0])
-}
-
-fn arp_request() -> Result<ArpPacket, Fail> {
-    Ok(ArpPacket::new(
-        ArpHardwareId::ETHERNET,
-        EtherType::IPV4,
-        ArpOperation::REQUEST,
-        &[1, 2, 3, 4, 5, 6],
-        &[7, 6, 8, 9],
-        &[10, 11, 12, 14, 15, 16],
-        &[17, 18, 19, 20],
-    )?)
-}
-
-/// A segment of TCP with every flag set, behind IPv4.
-fn with_flags() -> Result<PacketBuilderStep<TcpHeader>, Fail> {
-    let step = ipv4().tcp_header(TcpHeader::new(1, 2, 3, 4));
-    let step = step.ns().fin().syn().rst().psh();
-    let step = step.ack(5).urg(6).ece().cwr();
-    Ok(step.options(&[TcpOptionElement::WindowScale(7)])?)
-}
-
-/// Headers of IPv6 with options and an authentication header.
-fn with_extensions() -> Result<IpHeaders, Fail> {
-    let extensions = Ipv6Extensions {
-        hop_by_hop_options: Some(Ipv6RawExtHeader::new_raw(IpNumber(255), &[1, 4, 0, 0, 0, 0])?),
-        auth: Some(IpAuthHeader::new(IpNumber(255), 2, 3, &[])?),
-        ..Default::default()
-    };
-    Ok(IpHeaders::Ipv6(Ipv6Header::default(), extensions))
-}
-
-/// The headers of a fragment over IPv4, whose offset is in units of 8 bytes.
-fn ipv4_fragment(offset: u16, more_fragments: bool) -> Result<IpHeaders, Fail> {
-    let header = Ipv4Header {
-        identification: 7,
-        dont_fragment: false,
-        more_fragments,
-        fragment_offset: IpFragOffset::try_new(offset)?,
-        time_to_live: 64,
-        source: [192, 168, 1, 1],
-        destination: [192, 168, 1, 2],
-        ..Default::default()
-    };
-    Ok(IpHeaders::Ipv4(header, Ipv4Extensions::default()))
-}
-
-/// The same over IPv6, from and to the unspecified address.
-fn ipv6_fragment(offset: u16, more_fragments: bool) -> Result<IpHeaders, Fail> {
-    let header = Ipv6Header {
-        hop_limit: 64,
-        ..Default::default()
-    };
-    let fragment = Ipv6FragmentHeader {
-        next_header: IpNumber(255),
-        fragment_offset: IpFragOffset::try_new(offset)?,
-        more_fragments,
-        identification: 7,
-    };
-    let extensions = Ipv6Extensions {
-        fragment: Some(fragment),
-        ..Default::default()
-    };
-    Ok(IpHeaders::Ipv6(header, extensions))
-}
-
-/// Appends a frame, with this payload where it says no other.
-fn build(built: Built, payload: &[u8], buf: &mut Vec<u8>) -> Result<(), Fail> {
-    let echo = IcmpEchoHeader { id: 1, seq: 2 };
-    match built {
-        Built::Udp(front, payload) => ipv4_behind(front)?.udp(21, 1234).write(buf, payload)?,
-        Built::Tcp(front) => ipv4_behind(front)?
-            .tcp(21, 12, 12345, 4000)
-            .write(buf, payload)?,
-        Built::TcpFlags => with_flags()?.write(buf, payload)?,
-        Built::Icmpv4Request => ipv4().icmpv4_echo_request(123, 456).write(buf, payload)?,
-        Built::Icmpv4Reply => ipv4().icmpv4_echo_reply(1, 2).write(buf, payload)?,
-        Built::Icmpv4Raw => ipv4().icmpv4_raw(0, 0, [0, 1, 0, 2]).write(buf, payload)?,
-        Built::Icmpv4Type => ipv4()
-            .icmpv4(Icmpv4Type::EchoReply(echo))
-            .write(buf, payload)?,
-        Built::Arp(Front::TwoTags) => two_tags()?.arp(arp_request()?).write(buf)?,
-        Built::Arp(Front::Cooked) => cooked().arp(arp_request()?).write(buf)?,
-        Built::Arp(_) => ethernet().arp(arp_request()?).write(buf)?,
-        Built::Ipv4Fragment(offset, more) => PacketBuilder::ip(ipv4_fragment(offset, more)?).write(
-            buf,
-            IpNumber(253),
-            payload,
-        )?,
-        other => build_over_ipv6(other, payload, buf)?,
-    }
-    Ok(())
-}
-
-/// The same for frames over IPv6.
-fn build_over_ipv6(built: Built, payload: &[u8], buf: &mut Vec<u8>) -> Result<(), Fail> {
-    let echo = IcmpEchoHeader { id: 1, seq: 2 };
-    match built {
-        Built::UdpOverIpv6(front) => ipv6_behind(front)?.udp(21, 1234).write(buf, payload)?,
-        Built::TcpOverIpv6 => ipv6().tcp(21, 12, 12345, 4000).write(buf, payload)?,
-        Built::TcpOptions => ipv6()
-            .tcp(1, 2, 3, 4)
-            .options_raw(&[1, 1, 1])?
-            .write(buf, payload)?,
-        Built::Icmpv6Request => ipv6().icmpv6_echo_request(1, 2).write(buf, payload)?,
-        Built::Icmpv6Reply => ipv6().icmpv6_echo_reply(123, 456).write(buf, payload)?,
-        Built::Icmpv6Raw => ipv6().icmpv6_raw(200, 0, [1, 2, 3, 4]).write(buf, payload)?,
-        Built::Icmpv6Type => ipv6()
-            .icmpv6(Icmpv6Type::EchoRequest(echo))
-            .write(buf, payload)?,
-        Built::ExtensionHeaders => PacketBuilder::ip(with_extensions()?)
-            .udp(21, 1234)
-            .write(buf, payload)?,
-        Built::Ipv6Fragment(offset, more) => PacketBuilder::ip(ipv6_fragment(offset, more)?).write(
-            buf,
-            IpNumber::UDP,
-            payload,
-        )?,
-        _ => return Err("a frame over IPv6".into()),
-    }
-    Ok(())
-}
-
 /// Ethernet II headers before IPv4 and before IPv6, alone, with one tag and with two.
 const ETHERNET: &[u8] = b"\x07\x08\x09\x0a\x0b\x0c\x01\x02\x03\x04\x05\x06\x08\x00";
 
@@ -246,140 +48,124 @@ const ICMP_IP_6: &[u8] = b"\x60\x00\x00\x00\x00\x10\x3a\x2f\
 
 const ICMPV6_REQUEST: &[u8] = b"\x80\x00\xad\xd6\x00\x01\x00\x02\x01\x02\x03\x04\x05\x06\x07\x08";
 
-/// The entries of the first layers.
-const ETH: &[Entry] = &[Entry::Ethernet];
+/// Headers before ARP.
+const ETHERNET_ARP: &[u8] = b"\x07\x08\x09\x0a\x0b\x0c\x01\x02\x03\x04\x05\x06\x08\x06";
 
-const COOKED: &[Entry] = &[Entry::LinuxSll];
+const TAGS_ARP: &[u8] = b"\x07\x08\x09\x0a\x0b\x0c\x01\x02\x03\x04\x05\x06\
+      \x88\xa8\x01\x23\x81\x00\x02\x34\x08\x06";
 
-const IPV4: &[Entry] = &[Entry::Ip, Entry::EtherType(EtherType(0x0800))];
+const SLL_ARP: &[u8] = b"\x00\x03\x00\x01\x00\x06\x01\x02\x03\x04\x05\x06\x00\x00\x08\x06";
 
-const IPV6: &[Entry] = &[Entry::Ip, Entry::EtherType(EtherType(0x86dd))];
+/// Segments of TCP behind their headers: a plain one, and one with every flag, the numbers that two of them bring, and
+/// an option; a plain one over IPv6, and one with raw options, of which one is padding.
+const TCP_IP: &[u8] =
+    b"\x45\x00\x00\x30\x00\x00\x40\x00\x14\x06\xe3\x74\xc0\xa8\x01\x01\xc0\xa8\x01\x02";
 
-/// An ARP packet.
-const ARP: &[u8] = b"\x00\x01\x08\x00\x06\x04\x00\x01\x01\x02\x03\x04\x05\x06\x07\x06\x08\x09\
-      \x0a\x0b\x0c\x0e\x0f\x10\x11\x12\x13\x14";
+const TCP: &[u8] =
+    b"\x00\x15\x00\x0c\x00\x00\x30\x39\x00\x00\x00\x00\x50\x00\x0f\xa0\xdc\x7a\x00\x00\
+      \x01\x02\x03\x04\x05\x06\x07\x08";
 
-/// Frames with the payload 1 to 8: the entries of the first layer; the link headers; the IP headers; and the ARP
-/// packet, or the transport header with its payload.
-const FRAMES: [(Built, &[Entry], &[u8], &[u8], &[u8]); 27] = [
-    (Built::Udp(Front::Ethernet, PAYLOAD), ETH, ETHERNET, IP, UDP),
-    (Built::Udp(Front::Absent, PAYLOAD), IPV4, b"", IP, UDP),
-    (Built::Udp(Front::Cooked, PAYLOAD), COOKED, SLL, IP, UDP),
-    (Built::Udp(Front::OneTag, PAYLOAD), ETH, TAG, IP, UDP),
-    (Built::Udp(Front::TwoTags, PAYLOAD), ETH, TAGS, IP, UDP),
-    (
-        Built::Udp(Front::Ethernet, &[0x77, 0x9f]),
-        ETH,
-        ETHERNET,
-        b"\x45\x00\x00\x1e\x00\x00\x40\x00\x14\x11\xe3\x7b\xc0\xa8\x01\x01\xc0\xa8\x01\x02",
-        b"\x00\x15\x04\xd2\x00\x0a\xff\xff\x77\x9f",
-    ),
-    (
-        Built::Tcp(Front::Ethernet),
-        ETH,
-        ETHERNET,
-        b"\x45\x00\x00\x30\x00\x00\x40\x00\x14\x06\xe3\x74\xc0\xa8\x01\x01\xc0\xa8\x01\x02",
-        b"\x00\x15\x00\x0c\x00\x00\x30\x39\x00\x00\x00\x00\x50\x00\x0f\xa0\xdc\x7a\x00\x00\
-          \x01\x02\x03\x04\x05\x06\x07\x08",
-    ),
-    (
-        Built::TcpFlags,
-        IPV4,
-        b"",
-        b"\x45\x00\x00\x34\x00\x00\x40\x00\x14\x06\xe3\x70\xc0\xa8\x01\x01\xc0\xa8\x01\x02",
-        b"\x00\x01\x00\x02\x00\x00\x00\x03\x00\x00\x00\x05\x61\xff\x00\x04\x00\x5a\x00\x06\
-          \x03\x03\x07\x00\x01\x02\x03\x04\x05\x06\x07\x08",
-    ),
-    (Built::Icmpv4Request, IPV4, b"", ICMP_IP, ICMP_REQUEST),
-    (Built::Icmpv4Reply, IPV4, b"", ICMP_IP, ICMP_REPLY),
-    (Built::Icmpv4Raw, IPV4, b"", ICMP_IP, ICMP_REPLY),
-    (Built::Icmpv4Type, IPV4, b"", ICMP_IP, ICMP_REPLY),
-    (Built::UdpOverIpv6(Front::Absent), IPV6, b"", IP_6, UDP_6),
-    (
-        Built::UdpOverIpv6(Front::Ethernet),
-        ETH,
-        ETHERNET_6,
-        IP_6,
-        UDP_6,
-    ),
-    (
-        Built::UdpOverIpv6(Front::Cooked),
-        COOKED,
-        SLL_6,
-        IP_6,
-        UDP_6,
-    ),
-    (Built::UdpOverIpv6(Front::OneTag), ETH, TAG_6, IP_6, UDP_6),
-    (Built::UdpOverIpv6(Front::TwoTags), ETH, TAGS_6, IP_6, UDP_6),
-    (
-        Built::TcpOverIpv6,
-        IPV6,
-        b"",
-        b"\x60\x00\x00\x00\x00\x1c\x06\x2f\
-          \x0b\x0c\x0d\x0e\x0f\x10\x11\x12\x13\x0a\x15\x16\x17\x18\x19\x1a\
-          \x1f\x20\x21\x22\x23\x24\x25\x26\x27\x28\x29\x2a\x2b\x2c\x2d\x2e",
-        b"\x00\x15\x00\x0c\x00\x00\x30\x39\x00\x00\x00\x00\x50\x00\x0f\xa0\x9e\x07\x00\x00\
-          \x01\x02\x03\x04\x05\x06\x07\x08",
-    ),
-    (
-        Built::TcpOptions,
-        IPV6,
-        b"",
-        b"\x60\x00\x00\x00\x00\x20\x06\x2f\
-          \x0b\x0c\x0d\x0e\x0f\x10\x11\x12\x13\x0a\x15\x16\x17\x18\x19\x1a\
-          \x1f\x20\x21\x22\x23\x24\x25\x26\x27\x28\x29\x2a\x2b\x2c\x2d\x2e",
-        b"\x00\x01\x00\x02\x00\x00\x00\x03\x00\x00\x00\x00\x60\x00\x00\x04\xcb\xf2\x00\x00\
-          \x01\x01\x01\x00\x01\x02\x03\x04\x05\x06\x07\x08",
-    ),
-    (Built::Icmpv6Request, IPV6, b"", ICMP_IP_6, ICMPV6_REQUEST),
-    (Built::Icmpv6Type, IPV6, b"", ICMP_IP_6, ICMPV6_REQUEST),
-    (
-        Built::Icmpv6Reply,
-        IPV6,
-        b"",
-        ICMP_IP_6,
-        b"\x81\x00\xaa\x96\x00\x7b\x01\xc8\x01\x02\x03\x04\x05\x06\x07\x08",
-    ),
-    (
-        Built::Icmpv6Raw,
-        IPV6,
-        b"",
-        ICMP_IP_6,
-        b"\xc8\x00\x61\xd3\x01\x02\x03\x04\x01\x02\x03\x04\x05\x06\x07\x08",
-    ),
-    (
-        Built::ExtensionHeaders,
-        IPV6,
-        b"",
-        b"\x60\x00\x00\x00\x00\x24\x00\x00\
-          \x00\x00\x00\x00\x00\x00\x00\x00\x00\x00\x00\x00\x00\x00\x00\x00\
-          \x00\x00\x00\x00\x00\x00\x00\x00\x00\x00\x00\x00\x00\x00\x00\x00\
-          \x33\x00\x01\x04\x00\x00\x00\x00\x11\x01\x00\x00\x00\x00\x00\x02\x00\x00\x00\x03",
-        b"\x00\x15\x04\xd2\x00\x10\xea\xd3\x01\x02\x03\x04\x05\x06\x07\x08",
-    ),
-    (
-        Built::Arp(Front::Ethernet),
-        ETH,
-        b"\x07\x08\x09\x0a\x0b\x0c\x01\x02\x03\x04\x05\x06\x08\x06",
-        b"",
-        ARP,
-    ),
-    (
-        Built::Arp(Front::TwoTags),
-        ETH,
-        b"\x07\x08\x09\x0a\x0b\x0c\x01\x02\x03\x04\x05\x06\
-          \x88\xa8\x01\x23\x81\x00\x02\x34\x08\x06",
-        b"",
-        ARP,
-    ),
-    (
-        Built::Arp(Front::Cooked),
-        COOKED,
-        b"\x00\x03\x00\x01\x00\x06\x01\x02\x03\x04\x05\x06\x00\x00\x08\x06",
-        b"",
-        ARP,
-    ),
-];
+const FLAGS_IP: &[u8] =
+    b"\x45\x00\x00\x34\x00\x00\x40\x00\x14\x06\xe3\x70\xc0\xa8\x01\x01\xc0\xa8\x01\x02";
+
+const FLAGS: &[u8] =
+    b"\x00\x01\x00\x02\x00\x00\x00\x03\x00\x00\x00\x05\x61\xff\x00\x04\x00\x5a\x00\x06\
+      \x03\x03\x07\x00\x01\x02\x03\x04\x05\x06\x07\x08";
+
+const TCP_IP_6: &[u8] = b"\x60\x00\x00\x00\x00\x1c\x06\x2f\
+      \x0b\x0c\x0d\x0e\x0f\x10\x11\x12\x13\x0a\x15\x16\x17\x18\x19\x1a\
+      \x1f\x20\x21\x22\x23\x24\x25\x26\x27\x28\x29\x2a\x2b\x2c\x2d\x2e";
+
+const TCP_6: &[u8] =
+    b"\x00\x15\x00\x0c\x00\x00\x30\x39\x00\x00\x00\x00\x50\x00\x0f\xa0\x9e\x07\x00\x00\
+      \x01\x02\x03\x04\x05\x06\x07\x08";
+
+const OPTIONS_IP_6: &[u8] = b"\x60\x00\x00\x00\x00\x20\x06\x2f\
+      \x0b\x0c\x0d\x0e\x0f\x10\x11\x12\x13\x0a\x15\x16\x17\x18\x19\x1a\
+      \x1f\x20\x21\x22\x23\x24\x25\x26\x27\x28\x29\x2a\x2b\x2c\x2d\x2e";
+
+const OPTIONS: &[u8] =
+    b"\x00\x01\x00\x02\x00\x00\x00\x03\x00\x00\x00\x00\x60\x00\x00\x04\xcb\xf2\x00\x00\
+      \x01\x01\x01\x00\x01\x02\x03\x04\x05\x06\x07\x08";
+
+/// Further messages of ICMPv6.
+const ICMPV6_REPLY: &[u8] = b"\x81\x00\xaa\x96\x00\x7b\x01\xc8\x01\x02\x03\x04\x05\x06\x07\x08";
+
+const ICMPV6_RAW: &[u8] = b"\xc8\x00\x61\xd3\x01\x02\x03\x04\x01\x02\x03\x04\x05\x06\x07\x08";
+
+/// Hop by hop options and an authentication header from and to the unspecified address, and a datagram behind them.
+const EXTENSIONS_IP_6: &[u8] = b"\x60\x00\x00\x00\x00\x24\x00\x00\
+      \x00\x00\x00\x00\x00\x00\x00\x00\x00\x00\x00\x00\x00\x00\x00\x00\
+      \x00\x00\x00\x00\x00\x00\x00\x00\x00\x00\x00\x00\x00\x00\x00\x00\
+      \x33\x00\x01\x04\x00\x00\x00\x00\x11\x01\x00\x00\x00\x00\x00\x02\x00\x00\x00\x03";
+
+const EXTENSIONS_UDP: &[u8] = b"\x00\x15\x04\xd2\x00\x10\xea\xd3\x01\x02\x03\x04\x05\x06\x07\x08";
+
+/// The headers of IPv6 of most frames.
+fn ipv6_headers() -> IpHeaders {
+    let header = Ipv6Header {
+        hop_limit: 47,
+        source: SOURCE,
+        destination: DESTINATION,
+        ..Default::default()
+    };
+    IpHeaders::Ipv6(header, Ipv6Extensions::default())
+}
+
+/// An identifier of a tag, of at most 4095.
+fn vlan_id(rt: &impl Abort, id: u16) -> VlanId {
+    VlanId::try_new(id).expect(rt, "above 4095")
+}
+
+fn one_tag(rt: &impl Abort) -> PacketBuilderStep<VlanHeader> {
+    ethernet().single_vlan(vlan_id(rt, 0x123))
+}
+
+fn two_tags(rt: &impl Abort) -> PacketBuilderStep<VlanHeader> {
+    ethernet().double_vlan(vlan_id(rt, 0x123), vlan_id(rt, 0x234))
+}
+
+fn cooked() -> PacketBuilderStep<LinuxSllHeader> {
+    PacketBuilder::linux_sll(LinuxSllPacketType::OTHERHOST, 6, [1, 2, 3, 4, 5, 6, 0, 0])
+}
+
+/// A tag with another type, which is not written.
+fn given_tag(rt: &impl Abort, id: u16) -> SingleVlanHeader {
+    SingleVlanHeader {
+        pcp: VlanPcp::ZERO,
+        drop_eligible_indicator: false,
+        vlan_id: vlan_id(rt, id),
+        ether_type: EtherType(0),
+    }
+}
+
+/// The two tags of most frames.
+fn given_tags(rt: &impl Abort) -> VlanHeader {
+    let outer = given_tag(rt, 0x123);
+    let inner = given_tag(rt, 0x234);
+    VlanHeader::Double(DoubleVlanHeader { outer, inner })
+}
+
+/// A segment of TCP with every flag set, behind IPv4.
+fn with_flags(rt: &impl Abort) -> PacketBuilderStep<TcpHeader> {
+    let step = ipv4().tcp_header(TcpHeader::new(1, 2, 3, 4));
+    let step = step.ns().fin().syn().rst().psh();
+    let step = step.ack(5).urg(6).ece().cwr();
+    let options = [TcpOptionElement::WindowScale(7)];
+    step.options(&options).expect(rt, "of 3 bytes")
+}
+
+/// Headers of IPv6 with options and an authentication header.
+fn with_extensions(rt: &impl Abort) -> IpHeaders {
+    let options = Ipv6RawExtHeader::new_raw(IpNumber(255), &[1, 4, 0, 0, 0, 0]);
+    let auth = IpAuthHeader::new(IpNumber(255), 2, 3, &[]);
+    let extensions = Ipv6Extensions {
+        hop_by_hop_options: Some(options.expect(rt, "of 6 bytes")),
+        auth: Some(auth.expect(rt, "of no bytes")),
+        ..Default::default()
+    };
+    IpHeaders::Ipv6(Ipv6Header::default(), extensions)
+}
 
 /// The bytes of the ARP packet or of the transport layer that a packet shows.
 fn shown<'a>(packet: SlicedPacket<'a>) -> &'a [u8] {
@@ -393,145 +179,576 @@ fn shown<'a>(packet: SlicedPacket<'a>) -> &'a [u8] {
 }
 
 /// The bytes of the ARP packet, or of the transport header and its payload, that a packet holds.
-fn held(alloc: Global, packet: &PacketHeaders) -> Result<Vec<u8>, Fail> {
+fn held(rt: &impl Abort, alloc: Global, packet: &PacketHeaders) -> Vec<u8> {
     let mut buf = Vec::new(alloc);
     if let Some(NetHeaders::Arp(arp)) = &packet.net {
-        arp.write(&mut buf)?;
+        arp.write(&mut buf).expect(rt, "no memory");
     }
     if let Some(transport) = &packet.transport {
-        transport.write(&mut buf)?;
+        transport.write(&mut buf).expect(rt, "no memory");
     }
-    buf.extend_from_slice(packet.payload.slice())?;
-    Ok(buf)
+    let payload = packet.payload.slice();
+    buf.extend_from_slice(payload).expect(rt, "no memory");
+    buf
 }
 
-/// The three parts, one behind the other.
-fn joined(alloc: Global, link: &[u8], net: &[u8], innermost: &[u8]) -> Result<Vec<u8>, Fail> {
-    let mut frame = Vec::new(alloc);
-    frame.extend_from_slice(link)?;
-    frame.extend_from_slice(net)?;
-    frame.extend_from_slice(innermost)?;
-    Ok(frame)
+/// Slices and headers that are read from a frame show these bytes.
+fn reads_back(rt: &impl Abort, alloc: Global, entry: Entry, frame: &[u8], innermost: &[u8]) {
+    let sliced = SlicedPacket::from_entry(entry, frame).expect(rt, "refused");
+    same(rt, &shown(sliced), &innermost);
+    let mut headers = PacketHeaders::new();
+    headers.read_into(entry, frame).expect(rt, "refused");
+    same(rt, &held(rt, alloc, &headers).as_slice(), &innermost);
 }
 
-/// What slices of a frame show.
-fn sliced<'a>(entry: Entry, frame: &'a [u8]) -> Result<&'a [u8], Fail> {
-    Ok(shown(SlicedPacket::from_entry(entry, frame)?))
-}
-
-/// What headers that are read from a frame hold.
-fn read(alloc: Global, entry: Entry, frame: &[u8]) -> Result<Vec<u8>, Fail> {
-    let mut packet = PacketHeaders::new();
-    packet.read_into(entry, frame)?;
-    held(alloc, &packet)
-}
-
-/// Slices and headers that are read from the front of a frame show these bytes.
-fn check_read_back(
+/// A frame was built of these link headers, net headers, and ARP packet or transport layer, and is read back.
+fn is_built(
     rt: &impl Abort,
     alloc: Global,
+    (written, frame): (Result<(), BuildWriteError>, &[u8]),
     entry: Entry,
-    frame: &[u8],
-    innermost: &[u8],
-) -> Result<(), Fail> {
-    assert!(rt; sliced(entry, frame)? == innermost);
-    assert!(rt; read(alloc, entry, frame)?.as_slice() == innermost);
-    Ok(())
+    parts: [&[u8]; 3],
+) {
+    same(rt, &written, &Ok(()));
+    same(
+        rt,
+        &frame,
+        &parts.concat(alloc).expect(rt, "no memory").as_slice(),
+    );
+    reads_back(rt, alloc, entry, frame, parts[2]);
 }
 
-/// A frame is built, and read back by each entry of its first layer as slices and as headers.
-fn check_frame(
-    rt: &(impl AllocGlobal + Abort),
-    built: Built,
-    wanted: &[u8],
-    entries: &[Entry],
-    innermost: &[u8],
-) -> Result<(), Fail> {
-    let mut frame = Vec::new(rt.alloc());
-    build(built, PAYLOAD, &mut frame)?;
-    assert!(rt; frame.as_slice() == wanted);
-    for entry in entries {
-        check_read_back(rt, rt.alloc(), *entry, wanted, innermost)?;
-    }
-    Ok(())
-}
-
-#[test]
-fn frames(rt: HostRuntime) -> Result<(), Fail> {
-    for (built, entries, link, net, innermost) in FRAMES {
-        let wanted = joined(rt.alloc(), link, net, innermost)?;
-        check_frame(&rt, built, wanted.as_slice(), entries, innermost)?;
-    }
-    Ok(())
-}
-
-/// Fragments: their headers, and what they carry of a longer payload.
-const FRAGMENTS: [(Built, &[u8], &[u8]); 4] = [
-    (
-        Built::Ipv4Fragment(0, true),
-        b"\x45\x00\x00\x24\x00\x07\x20\x00\x40\xfd\xd6\x82\xc0\xa8\x01\x01\xc0\xa8\x01\x02",
-        b"\x00\x01\x02\x03\x04\x05\x06\x07\x08\x09\x0a\x0b\x0c\x0d\x0e\x0f",
-    ),
-    (
-        Built::Ipv4Fragment(2, false),
-        b"\x45\x00\x00\x1c\x00\x07\x00\x02\x40\xfd\xf6\x88\xc0\xa8\x01\x01\xc0\xa8\x01\x02",
-        b"\x10\x11\x12\x13\x14\x15\x16\x17",
-    ),
-    (
-        Built::Ipv6Fragment(0, true),
-        b"\x60\x00\x00\x00\x00\x10\x2c\x40\
-          \x00\x00\x00\x00\x00\x00\x00\x00\x00\x00\x00\x00\x00\x00\x00\x00\
-          \x00\x00\x00\x00\x00\x00\x00\x00\x00\x00\x00\x00\x00\x00\x00\x00\
-          \x11\x00\x00\x01\x00\x00\x00\x07",
-        b"\x00\x01\x02\x03\x04\x05\x06\x07",
-    ),
-    (
-        Built::Ipv6Fragment(1, false),
-        b"\x60\x00\x00\x00\x00\x10\x2c\x40\
-          \x00\x00\x00\x00\x00\x00\x00\x00\x00\x00\x00\x00\x00\x00\x00\x00\
-          \x00\x00\x00\x00\x00\x00\x00\x00\x00\x00\x00\x00\x00\x00\x00\x00\
-          \x11\x00\x00\x08\x00\x00\x00\x07",
-        b"\x08\x09\x0a\x0b\x0c\x0d\x0e\x0f",
-    ),
-];
-
-fn check_fragment(
-    rt: &(impl AllocGlobal + Abort),
-    built: Built,
-    headers: &[u8],
-    payload: &[u8],
-) -> Result<(), Fail> {
-    let mut frame = Vec::new(rt.alloc());
-    build(built, payload, &mut frame)?;
-    assert!(rt; frame == joined(rt.alloc(), headers, payload, &[])?);
-    Ok(())
+/// The same for a frame that begins with an IP header, by both of its entries.
+fn is_built_ip(
+    rt: &impl Abort,
+    alloc: Global,
+    (written, frame): (Result<(), BuildWriteError>, &[u8]),
+    ether_type: EtherType,
+    parts: [&[u8]; 2],
+) {
+    same(rt, &written, &Ok(()));
+    same(
+        rt,
+        &frame,
+        &parts.concat(alloc).expect(rt, "no memory").as_slice(),
+    );
+    reads_back(rt, alloc, Entry::Ip, frame, parts[1]);
+    reads_back(rt, alloc, Entry::EtherType(ether_type), frame, parts[1]);
 }
 
 #[test]
-fn fragments(rt: HostRuntime) -> Result<(), Fail> {
-    for (built, headers, payload) in FRAGMENTS {
-        check_fragment(&rt, built, headers, payload)?;
-    }
-    Ok(())
+fn udp_behind_ethernet(rt: HostRuntime) {
+    let mut frame = Vec::new(rt.alloc());
+    let written = ethernet_ipv4().udp(21, 1234).write(&mut frame, PAYLOAD);
+    is_built(
+        &rt,
+        rt.alloc(),
+        (written, &frame),
+        Entry::Ethernet,
+        [ETHERNET, IP, UDP],
+    );
+}
+
+#[test]
+fn udp(rt: HostRuntime) {
+    let mut frame = Vec::new(rt.alloc());
+    let written = ipv4().udp(21, 1234).write(&mut frame, PAYLOAD);
+    is_built_ip(
+        &rt,
+        rt.alloc(),
+        (written, &frame),
+        EtherType::IPV4,
+        [IP, UDP],
+    );
+}
+
+#[test]
+fn udp_behind_a_cooked_header(rt: HostRuntime) {
+    let mut frame = Vec::new(rt.alloc());
+    let written = cooked()
+        .ipv4(SOURCE_4, DESTINATION_4, 20)
+        .udp(21, 1234)
+        .write(&mut frame, PAYLOAD);
+    is_built(
+        &rt,
+        rt.alloc(),
+        (written, &frame),
+        Entry::LinuxSll,
+        [SLL, IP, UDP],
+    );
+}
+
+#[test]
+fn udp_behind_a_tag(rt: HostRuntime) {
+    let mut frame = Vec::new(rt.alloc());
+    let written = one_tag(&rt)
+        .ipv4(SOURCE_4, DESTINATION_4, 20)
+        .udp(21, 1234)
+        .write(&mut frame, PAYLOAD);
+    is_built(
+        &rt,
+        rt.alloc(),
+        (written, &frame),
+        Entry::Ethernet,
+        [TAG, IP, UDP],
+    );
+}
+
+#[test]
+fn udp_behind_two_tags(rt: HostRuntime) {
+    let mut frame = Vec::new(rt.alloc());
+    let written = two_tags(&rt)
+        .ipv4(SOURCE_4, DESTINATION_4, 20)
+        .udp(21, 1234)
+        .write(&mut frame, PAYLOAD);
+    is_built(
+        &rt,
+        rt.alloc(),
+        (written, &frame),
+        Entry::Ethernet,
+        [TAGS, IP, UDP],
+    );
+}
+
+/// The sum of the words is such that the checksum 0 is written as its complement.
+#[test]
+fn udp_checksum_of_ones(rt: HostRuntime) {
+    let net = b"\x45\x00\x00\x1e\x00\x00\x40\x00\x14\x11\xe3\x7b\xc0\xa8\x01\x01\xc0\xa8\x01\x02";
+    let udp = b"\x00\x15\x04\xd2\x00\x0a\xff\xff\x77\x9f";
+    let mut frame = Vec::new(rt.alloc());
+    let written = ethernet_ipv4()
+        .udp(21, 1234)
+        .write(&mut frame, &[0x77, 0x9f]);
+    is_built(
+        &rt,
+        rt.alloc(),
+        (written, &frame),
+        Entry::Ethernet,
+        [ETHERNET, net, udp],
+    );
+}
+
+#[test]
+fn tcp(rt: HostRuntime) {
+    let mut frame = Vec::new(rt.alloc());
+    let written = ethernet_ipv4()
+        .tcp(21, 12, 12345, 4000)
+        .write(&mut frame, PAYLOAD);
+    is_built(
+        &rt,
+        rt.alloc(),
+        (written, &frame),
+        Entry::Ethernet,
+        [ETHERNET, TCP_IP, TCP],
+    );
+}
+
+#[test]
+fn tcp_with_flags(rt: HostRuntime) {
+    let mut frame = Vec::new(rt.alloc());
+    let written = with_flags(&rt).write(&mut frame, PAYLOAD);
+    is_built_ip(
+        &rt,
+        rt.alloc(),
+        (written, &frame),
+        EtherType::IPV4,
+        [FLAGS_IP, FLAGS],
+    );
+}
+
+#[test]
+fn icmpv4_echo_request(rt: HostRuntime) {
+    let mut frame = Vec::new(rt.alloc());
+    let written = ipv4()
+        .icmpv4_echo_request(123, 456)
+        .write(&mut frame, PAYLOAD);
+    is_built_ip(
+        &rt,
+        rt.alloc(),
+        (written, &frame),
+        EtherType::IPV4,
+        [ICMP_IP, ICMP_REQUEST],
+    );
+}
+
+#[test]
+fn icmpv4_echo_reply(rt: HostRuntime) {
+    let mut frame = Vec::new(rt.alloc());
+    let written = ipv4().icmpv4_echo_reply(1, 2).write(&mut frame, PAYLOAD);
+    is_built_ip(
+        &rt,
+        rt.alloc(),
+        (written, &frame),
+        EtherType::IPV4,
+        [ICMP_IP, ICMP_REPLY],
+    );
+}
+
+#[test]
+fn icmpv4_raw(rt: HostRuntime) {
+    let mut frame = Vec::new(rt.alloc());
+    let written = ipv4()
+        .icmpv4_raw(0, 0, [0, 1, 0, 2])
+        .write(&mut frame, PAYLOAD);
+    is_built_ip(
+        &rt,
+        rt.alloc(),
+        (written, &frame),
+        EtherType::IPV4,
+        [ICMP_IP, ICMP_REPLY],
+    );
+}
+
+#[test]
+fn icmpv4_of_a_type(rt: HostRuntime) {
+    let reply = Icmpv4Type::EchoReply(IcmpEchoHeader { id: 1, seq: 2 });
+    let mut frame = Vec::new(rt.alloc());
+    let written = ipv4().icmpv4(reply).write(&mut frame, PAYLOAD);
+    is_built_ip(
+        &rt,
+        rt.alloc(),
+        (written, &frame),
+        EtherType::IPV4,
+        [ICMP_IP, ICMP_REPLY],
+    );
+}
+
+#[test]
+fn udp_over_ipv6(rt: HostRuntime) {
+    let mut frame = Vec::new(rt.alloc());
+    let written = ipv6().udp(21, 1234).write(&mut frame, PAYLOAD);
+    is_built_ip(
+        &rt,
+        rt.alloc(),
+        (written, &frame),
+        EtherType::IPV6,
+        [IP_6, UDP_6],
+    );
+}
+
+#[test]
+fn udp_over_ipv6_behind_ethernet(rt: HostRuntime) {
+    let mut frame = Vec::new(rt.alloc());
+    let written = ethernet()
+        .ipv6(SOURCE, DESTINATION, 47)
+        .udp(21, 1234)
+        .write(&mut frame, PAYLOAD);
+    is_built(
+        &rt,
+        rt.alloc(),
+        (written, &frame),
+        Entry::Ethernet,
+        [ETHERNET_6, IP_6, UDP_6],
+    );
+}
+
+#[test]
+fn udp_over_ipv6_behind_a_cooked_header(rt: HostRuntime) {
+    let mut frame = Vec::new(rt.alloc());
+    let written = cooked()
+        .ipv6(SOURCE, DESTINATION, 47)
+        .udp(21, 1234)
+        .write(&mut frame, PAYLOAD);
+    is_built(
+        &rt,
+        rt.alloc(),
+        (written, &frame),
+        Entry::LinuxSll,
+        [SLL_6, IP_6, UDP_6],
+    );
+}
+
+#[test]
+fn udp_over_ipv6_behind_a_tag(rt: HostRuntime) {
+    let mut frame = Vec::new(rt.alloc());
+    let written = one_tag(&rt)
+        .ipv6(SOURCE, DESTINATION, 47)
+        .udp(21, 1234)
+        .write(&mut frame, PAYLOAD);
+    is_built(
+        &rt,
+        rt.alloc(),
+        (written, &frame),
+        Entry::Ethernet,
+        [TAG_6, IP_6, UDP_6],
+    );
+}
+
+#[test]
+fn ip_headers_behind_ethernet(rt: HostRuntime) {
+    let mut frame = Vec::new(rt.alloc());
+    let written = ethernet()
+        .ip(ipv6_headers())
+        .udp(21, 1234)
+        .write(&mut frame, PAYLOAD);
+    is_built(
+        &rt,
+        rt.alloc(),
+        (written, &frame),
+        Entry::Ethernet,
+        [ETHERNET_6, IP_6, UDP_6],
+    );
+}
+
+#[test]
+fn ip_headers_behind_a_cooked_header(rt: HostRuntime) {
+    let mut frame = Vec::new(rt.alloc());
+    let written = cooked()
+        .ip(ipv6_headers())
+        .udp(21, 1234)
+        .write(&mut frame, PAYLOAD);
+    is_built(
+        &rt,
+        rt.alloc(),
+        (written, &frame),
+        Entry::LinuxSll,
+        [SLL_6, IP_6, UDP_6],
+    );
+}
+
+#[test]
+fn ip_headers_behind_two_tags(rt: HostRuntime) {
+    let mut frame = Vec::new(rt.alloc());
+    let written = two_tags(&rt)
+        .ip(ipv6_headers())
+        .udp(21, 1234)
+        .write(&mut frame, PAYLOAD);
+    is_built(
+        &rt,
+        rt.alloc(),
+        (written, &frame),
+        Entry::Ethernet,
+        [TAGS_6, IP_6, UDP_6],
+    );
+}
+
+#[test]
+fn behind_a_given_tag(rt: HostRuntime) {
+    let tag = VlanHeader::Single(given_tag(&rt, 0x123));
+    let mut frame = Vec::new(rt.alloc());
+    let written = ethernet()
+        .vlan(tag)
+        .ip(ipv6_headers())
+        .udp(21, 1234)
+        .write(&mut frame, PAYLOAD);
+    is_built(
+        &rt,
+        rt.alloc(),
+        (written, &frame),
+        Entry::Ethernet,
+        [TAG_6, IP_6, UDP_6],
+    );
+}
+
+#[test]
+fn behind_given_tags(rt: HostRuntime) {
+    let tags = given_tags(&rt);
+    let mut frame = Vec::new(rt.alloc());
+    let written = ethernet()
+        .vlan(tags)
+        .ip(ipv6_headers())
+        .udp(21, 1234)
+        .write(&mut frame, PAYLOAD);
+    is_built(
+        &rt,
+        rt.alloc(),
+        (written, &frame),
+        Entry::Ethernet,
+        [TAGS_6, IP_6, UDP_6],
+    );
+}
+
+#[test]
+fn tcp_over_ipv6(rt: HostRuntime) {
+    let mut frame = Vec::new(rt.alloc());
+    let written = ipv6().tcp(21, 12, 12345, 4000).write(&mut frame, PAYLOAD);
+    is_built_ip(
+        &rt,
+        rt.alloc(),
+        (written, &frame),
+        EtherType::IPV6,
+        [TCP_IP_6, TCP_6],
+    );
+}
+
+#[test]
+fn tcp_with_raw_options(rt: HostRuntime) {
+    let step = ipv6()
+        .tcp(1, 2, 3, 4)
+        .options_raw(&[1, 1, 1])
+        .expect(&rt, "of 3 bytes");
+    let mut frame = Vec::new(rt.alloc());
+    let written = step.write(&mut frame, PAYLOAD);
+    is_built_ip(
+        &rt,
+        rt.alloc(),
+        (written, &frame),
+        EtherType::IPV6,
+        [OPTIONS_IP_6, OPTIONS],
+    );
+}
+
+#[test]
+fn icmpv6_echo_request(rt: HostRuntime) {
+    let mut frame = Vec::new(rt.alloc());
+    let written = ipv6().icmpv6_echo_request(1, 2).write(&mut frame, PAYLOAD);
+    is_built_ip(
+        &rt,
+        rt.alloc(),
+        (written, &frame),
+        EtherType::IPV6,
+        [ICMP_IP_6, ICMPV6_REQUEST],
+    );
+}
+
+#[test]
+fn icmpv6_of_a_type(rt: HostRuntime) {
+    let request = Icmpv6Type::EchoRequest(IcmpEchoHeader { id: 1, seq: 2 });
+    let mut frame = Vec::new(rt.alloc());
+    let written = ipv6().icmpv6(request).write(&mut frame, PAYLOAD);
+    is_built_ip(
+        &rt,
+        rt.alloc(),
+        (written, &frame),
+        EtherType::IPV6,
+        [ICMP_IP_6, ICMPV6_REQUEST],
+    );
+}
+
+#[test]
+fn icmpv6_echo_reply(rt: HostRuntime) {
+    let mut frame = Vec::new(rt.alloc());
+    let written = ipv6()
+        .icmpv6_echo_reply(123, 456)
+        .write(&mut frame, PAYLOAD);
+    is_built_ip(
+        &rt,
+        rt.alloc(),
+        (written, &frame),
+        EtherType::IPV6,
+        [ICMP_IP_6, ICMPV6_REPLY],
+    );
+}
+
+#[test]
+fn icmpv6_raw(rt: HostRuntime) {
+    let mut frame = Vec::new(rt.alloc());
+    let written = ipv6()
+        .icmpv6_raw(200, 0, [1, 2, 3, 4])
+        .write(&mut frame, PAYLOAD);
+    is_built_ip(
+        &rt,
+        rt.alloc(),
+        (written, &frame),
+        EtherType::IPV6,
+        [ICMP_IP_6, ICMPV6_RAW],
+    );
+}
+
+#[test]
+fn extension_headers(rt: HostRuntime) {
+    let mut frame = Vec::new(rt.alloc());
+    let written = PacketBuilder::ip(with_extensions(&rt))
+        .udp(21, 1234)
+        .write(&mut frame, PAYLOAD);
+    is_built_ip(
+        &rt,
+        rt.alloc(),
+        (written, &frame),
+        EtherType::IPV6,
+        [EXTENSIONS_IP_6, EXTENSIONS_UDP],
+    );
+}
+
+#[test]
+fn arp_behind_ethernet(rt: HostRuntime) {
+    let mut frame = Vec::new(rt.alloc());
+    let written = ethernet().arp(arp_request(&rt)).write(&mut frame);
+    is_built(
+        &rt,
+        rt.alloc(),
+        (written, &frame),
+        Entry::Ethernet,
+        [ETHERNET_ARP, b"", ARP],
+    );
+}
+
+#[test]
+fn arp_behind_two_tags(rt: HostRuntime) {
+    let mut frame = Vec::new(rt.alloc());
+    let written = two_tags(&rt).arp(arp_request(&rt)).write(&mut frame);
+    is_built(
+        &rt,
+        rt.alloc(),
+        (written, &frame),
+        Entry::Ethernet,
+        [TAGS_ARP, b"", ARP],
+    );
+}
+
+#[test]
+fn arp_behind_a_cooked_header(rt: HostRuntime) {
+    let mut frame = Vec::new(rt.alloc());
+    let written = cooked().arp(arp_request(&rt)).write(&mut frame);
+    is_built(
+        &rt,
+        rt.alloc(),
+        (written, &frame),
+        Entry::LinuxSll,
+        [SLL_ARP, b"", ARP],
+    );
+}
+
+/// A fragment, which the IP step writes, is these bytes, of which so many are headers.
+fn is_fragment(
+    rt: &impl Abort,
+    alloc: Global,
+    headers: IpHeaders,
+    number: IpNumber,
+    fragment: &[u8],
+    header_len: usize,
+) {
+    let payload = fragment.get(header_len..).expect(rt, "a payload");
+    let mut frame = Vec::new(alloc);
+    let written = PacketBuilder::ip(headers).write(&mut frame, number, payload);
+    same(rt, &written, &Ok(()));
+    same(rt, &frame.as_slice(), &fragment);
+}
+
+#[test]
+fn fragments_of_ipv4(rt: HostRuntime) {
+    let (first, last) = (ipv4_fragment(&rt, 0, true), ipv4_fragment(&rt, 2, false));
+    is_fragment(&rt, rt.alloc(), first, IpNumber(253), FIRST_IPV4, 20);
+    is_fragment(&rt, rt.alloc(), last, IpNumber(253), LAST_IPV4, 20);
+}
+
+#[test]
+fn fragments_of_ipv6(rt: HostRuntime) {
+    let (first, last) = (ipv6_fragment(&rt, 0, true), ipv6_fragment(&rt, 1, false));
+    is_fragment(&rt, rt.alloc(), first, IpNumber::UDP, FIRST_IPV6, 48);
+    is_fragment(&rt, rt.alloc(), last, IpNumber::UDP, LAST_IPV6, 48);
 }
 
 /// The checksum of a segment behind IPv4, computed anew, is the one that it holds.
 #[test]
-fn tcp_checksum_ipv4(rt: HostRuntime) -> Result<(), Fail> {
+fn tcp_checksum_ipv4(rt: HostRuntime) {
     let mut frame = Vec::new(rt.alloc());
-    build(Built::Tcp(Front::Absent), PAYLOAD, &mut frame)?;
-    let tcp = TcpSlice::from_slice(frame.get(20..).unwrap_or(b""))?;
-    let sum = tcp.calc_checksum_ipv4([192, 168, 1, 1], [192, 168, 1, 2]);
-    assert!(rt; sum == Ok(tcp.checksum()));
-    Ok(())
+    let written = ipv4().tcp(21, 12, 12345, 4000).write(&mut frame, PAYLOAD);
+    same(&rt, &written, &Ok(()));
+    let segment = frame.get(20..).expect(&rt, "a segment");
+    let tcp = TcpSlice::from_slice(segment).expect(&rt, "refused");
+    let sum = tcp.calc_checksum_ipv4(SOURCE_4, DESTINATION_4);
+    same(&rt, &sum, &Ok(tcp.checksum()));
 }
 
 /// The same behind IPv6.
 #[test]
-fn tcp_checksum_ipv6(rt: HostRuntime) -> Result<(), Fail> {
+fn tcp_checksum_ipv6(rt: HostRuntime) {
     let mut frame = Vec::new(rt.alloc());
-    build(Built::TcpOverIpv6, PAYLOAD, &mut frame)?;
-    let tcp = TcpSlice::from_slice(frame.get(40..).unwrap_or(b""))?;
-    assert!(rt; tcp.calc_checksum_ipv6(SOURCE, DESTINATION) == Ok(tcp.checksum()));
-    Ok(())
+    let written = ipv6().tcp(21, 12, 12345, 4000).write(&mut frame, PAYLOAD);
+    same(&rt, &written, &Ok(()));
+    let segment = frame.get(40..).expect(&rt, "a segment");
+    let tcp = TcpSlice::from_slice(segment).expect(&rt, "refused");
+    let sum = tcp.calc_checksum_ipv6(SOURCE, DESTINATION);
+    same(&rt, &sum, &Ok(tcp.checksum()));
 }

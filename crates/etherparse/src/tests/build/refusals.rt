@@ -1,120 +1,132 @@
 //! Frames that are not built, and the texts of the errors.
 
 use super::*;
-use crate::err::packet::BuildWriteError;
 use crate::err::{ValueTooBigError, ValueType, ipv4_exts, ipv6_exts};
 
-/// The headers of a frame.
-#[derive(Clone, Copy)]
-enum Headers {
-    EthernetIpv4,
-    Ipv6,
-    Ipv6Udp,
-    Icmpv6InIpv4,
-}
-
-fn write(headers: Headers, payload: &[u8], buf: &mut Vec<u8>) -> Result<(), BuildWriteError> {
-    match headers {
-        Headers::EthernetIpv4 => ethernet_ipv4().write(buf, IpNumber(253), payload),
-        Headers::Ipv6 => ipv6().write(buf, IpNumber(253), payload),
-        Headers::Ipv6Udp => ipv6().udp(21, 1234).write(buf, payload),
-        Headers::Icmpv6InIpv4 => ipv4().icmpv6_echo_request(123, 456).write(buf, payload),
-    }
-}
-
-/// Headers, the length of a payload, and why they are not written: a length that is too long, and the limit for it.
-const ROWS: [(Headers, usize, Option<(usize, usize, ValueType)>); 5] = [
-    (
-        Headers::EthernetIpv4,
-        65516,
-        Some((65516, 65515, ValueType::Ipv4PayloadLength)),
-    ),
-    (
-        Headers::Icmpv6InIpv4,
-        65508,
-        Some((65516, 65515, ValueType::Ipv4PayloadLength)),
-    ),
-    (
-        Headers::Ipv6,
-        65536,
-        Some((65536, 65535, ValueType::Ipv6PayloadLength)),
-    ),
-    (
-        Headers::Ipv6Udp,
-        65528,
-        Some((65536, 65535, ValueType::Ipv6PayloadLength)),
-    ),
-    (Headers::Icmpv6InIpv4, 8, None),
-];
-
-fn refusal(too_long: Option<(usize, usize, ValueType)>) -> BuildWriteError {
-    match too_long {
-        Some((actual, max_allowed, value_type)) => BuildWriteError::PayloadLen(ValueTooBigError {
-            actual,
-            max_allowed,
-            value_type,
-        }),
-        None => BuildWriteError::Icmpv6InIpv4,
-    }
-}
-
-fn check_refused(
-    rt: &(impl AllocGlobal + Abort),
-    headers: Headers,
-    len: usize,
+/// A frame was refused with this error, and the buffer holds what it held.
+fn is_refused(
+    rt: &impl Abort,
+    answer: &Result<(), BuildWriteError>,
+    buf: &[u8],
     error: BuildWriteError,
-) -> Result<(), Fail> {
-    let mut payload = Vec::new(rt.alloc());
-    payload.resize(len, 0)?;
-    let mut buf = Vec::new(rt.alloc());
-    let answer = write(headers, payload.as_slice(), &mut buf);
-    assert!(rt; answer == Err(error) && buf.is_empty());
-    Ok(())
+) {
+    same(rt, answer, &Err(error));
+    same(rt, &buf, &BEGUN.as_slice());
+}
+
+/// What a buffer holds.
+const BEGUN: [u8; 5] = *b"begun";
+
+fn begun(rt: &impl Abort, alloc: Global) -> Vec<u8> {
+    Vec::from_array(alloc, BEGUN).expect(rt, "no memory")
+}
+
+fn zeros(rt: &impl Abort, alloc: Global, len: usize) -> Vec<u8> {
+    vec![in alloc; 0; len].expect(rt, "no memory")
+}
+
+fn too_long(actual: usize, max_allowed: usize, value_type: ValueType) -> BuildWriteError {
+    BuildWriteError::PayloadLen(ValueTooBigError {
+        actual,
+        max_allowed,
+        value_type,
+    })
 }
 
 #[test]
-fn refused(rt: HostRuntime) -> Result<(), Fail> {
-    for (headers, len, too_long) in ROWS {
-        check_refused(&rt, headers, len, refusal(too_long))?;
-    }
-    Ok(())
-}
-
-/// An error and its text.
-fn texts() -> [(BuildWriteError, &'static str); 6] {
-    let length = ValueTooBigError {
-        actual: 65516,
-        max_allowed: 65515,
-        value_type: ValueType::Ipv4PayloadLength,
-    };
-    let ipv4_exts = ipv4_exts::ExtsWalkError::ExtNotReferenced {
-        missing_ext: ip_number::AUTHENTICATION_HEADER,
-    };
-    let ipv6_exts = ipv6_exts::ExtsWalkError::HopByHopNotAtStart;
-    [
-        (
-            BuildWriteError::PayloadLen(length),
-            "Ipv4PayloadLength: 65516 is above 65515",
-        ),
-        (
-            BuildWriteError::Icmpv6InIpv4,
-            "Error: ICMPv6 can not be combined with an IPv4 headers (checksum can not be calculated).",
-        ),
-        (BuildWriteError::OutOfMemory, "out of memory"),
-        (BuildWriteError::Ipv4Exts(ipv4_exts), "ExtNotReferenced 51"),
-        (BuildWriteError::Ipv6Exts(ipv6_exts), "HopByHopNotAtStart"),
-        (
-            BuildWriteError::ArpHeaderNotMatch,
-            "address size defined in the ARP header does not match the actual size",
-        ),
-    ]
+fn too_long_for_ipv4(rt: HostRuntime) {
+    let payload = zeros(&rt, rt.alloc(), 65516);
+    let mut buf = begun(&rt, rt.alloc());
+    let answer = ethernet_ipv4().write(&mut buf, IpNumber(253), &payload);
+    let error = too_long(65516, 65515, ValueType::Ipv4PayloadLength);
+    is_refused(&rt, &answer, &buf, error);
 }
 
 #[test]
-fn error_texts(rt: HostRuntime) -> Result<(), Fail> {
-    for (error, expected) in texts() {
-        let text = format!(in rt.alloc(); "{error}")?;
-        assert!(rt; text.as_str() == expected);
-    }
-    Ok(())
+fn too_long_for_ipv6(rt: HostRuntime) {
+    let payload = zeros(&rt, rt.alloc(), 65536);
+    let mut buf = begun(&rt, rt.alloc());
+    let answer = ipv6().write(&mut buf, IpNumber(253), &payload);
+    let error = too_long(65536, 65535, ValueType::Ipv6PayloadLength);
+    is_refused(&rt, &answer, &buf, error);
+}
+
+#[test]
+fn too_long_for_udp_in_ipv6(rt: HostRuntime) {
+    let payload = zeros(&rt, rt.alloc(), 65528);
+    let mut buf = begun(&rt, rt.alloc());
+    let answer = ipv6().udp(21, 1234).write(&mut buf, &payload);
+    let error = too_long(65536, 65535, ValueType::Ipv6PayloadLength);
+    is_refused(&rt, &answer, &buf, error);
+}
+
+#[test]
+fn too_long_icmpv6_in_ipv4(rt: HostRuntime) {
+    let payload = zeros(&rt, rt.alloc(), 65508);
+    let mut buf = begun(&rt, rt.alloc());
+    let answer = ipv4()
+        .icmpv6_echo_request(123, 456)
+        .write(&mut buf, &payload);
+    let error = too_long(65516, 65515, ValueType::Ipv4PayloadLength);
+    is_refused(&rt, &answer, &buf, error);
+}
+
+#[test]
+fn icmpv6_in_ipv4(rt: HostRuntime) {
+    let mut buf = begun(&rt, rt.alloc());
+    let answer = ipv4()
+        .icmpv6_echo_request(123, 456)
+        .write(&mut buf, PAYLOAD);
+    is_refused(&rt, &answer, &buf, BuildWriteError::Icmpv6InIpv4);
+}
+
+#[test]
+fn too_many_raw_options(rt: HostRuntime) {
+    let refused = ipv4().tcp(1, 2, 3, 4).options_raw(&[1; 41]).err();
+    same(
+        &rt,
+        &refused,
+        &Some(TcpOptionWriteError::NotEnoughSpace(41)),
+    );
+}
+
+#[test]
+fn too_many_options(rt: HostRuntime) {
+    let options = [(); 5].map(|_| TcpOptionElement::Timestamp(1, 2));
+    let refused = ipv4().tcp(1, 2, 3, 4).options(&options).err();
+    same(
+        &rt,
+        &refused,
+        &Some(TcpOptionWriteError::NotEnoughSpace(50)),
+    );
+}
+
+#[test]
+fn texts_of_lengths(rt: HostRuntime) {
+    let alloc = rt.alloc();
+    let length = too_long(65516, 65515, ValueType::Ipv4PayloadLength);
+    shows(
+        &rt,
+        alloc,
+        &length,
+        "Ipv4PayloadLength: 65516 is above 65515",
+    );
+    shows(&rt, alloc, &BuildWriteError::OutOfMemory, "out of memory");
+    let text = "address size defined in the ARP header does not match the actual size";
+    shows(&rt, alloc, &BuildWriteError::ArpHeaderNotMatch, text);
+}
+
+#[test]
+fn texts_of_combinations(rt: HostRuntime) {
+    let alloc = rt.alloc();
+    let text =
+        "Error: ICMPv6 can not be combined with an IPv4 headers (checksum can not be calculated).";
+    shows(&rt, alloc, &BuildWriteError::Icmpv6InIpv4, text);
+    let missing_ext = ip_number::AUTHENTICATION_HEADER;
+    let missing = ipv4_exts::ExtsWalkError::ExtNotReferenced { missing_ext };
+    let error = BuildWriteError::Ipv4Exts(missing);
+    shows(&rt, alloc, &error, "ExtNotReferenced 51");
+    let not_first = ipv6_exts::ExtsWalkError::HopByHopNotAtStart;
+    let error = BuildWriteError::Ipv6Exts(not_first);
+    shows(&rt, alloc, &error, "HopByHopNotAtStart");
 }

@@ -1,359 +1,383 @@
 //! One payload put together: rows from outside, and the longest payload in many fragments.
 
+use super::Bytes::{Rising, Zeros};
 use super::*;
 
-/// Why a fragment is refused.
-#[derive(Clone, Copy)]
-enum Refusal {
-    Unaligned,
-    TooBig,
-    Conflict(u16, u16),
-}
+/// A fragment at an offset in units of 8 bytes, whether more follow, its bytes, and whether the buffer is complete after
+/// it.
+type Step = (u16, bool, Bytes, bool);
 
-/// A fragment at an offset in units of 8 bytes, its bytes, and whether the buffer is complete after it: one that more
-/// follow, a final one, or one that more follow and that is refused.
-#[derive(Clone, Copy)]
-enum Step {
-    More(u16, Bytes, bool),
-    Last(u16, Bytes, bool),
-    Refused(u16, Bytes, bool, Refusal),
-}
-
-/// A fragment, what it is answered, and whether the buffer is complete after it.
-#[derive(Drop)]
-struct Added {
-    offset: IpFragOffset,
-    more_fragments: bool,
-    bytes: Vec<u8>,
-    answer: Result<(), IpDefragError>,
-    complete: bool,
-}
-
-/// Fragments; the data after them, the sections in order, and the known end.
-const ROWS: [(&[Step], &[Bytes], &[(u16, u16)], Option<u16>); 13] = [
-    (&[], &[], &[], None),
-    (
-        &[
-            Step::More(0, Bytes::Rising(0, 16), false),
-            Step::More(2, Bytes::Rising(16, 32), false),
-            Step::Last(6, Bytes::Rising(48, 16), true),
-        ],
-        &[Bytes::Rising(0, 64)],
-        &[(0, 64)],
-        Some(64),
-    ),
-    (
-        &[
-            Step::Last(6, Bytes::Rising(48, 16), false),
-            Step::More(2, Bytes::Rising(16, 32), false),
-            Step::More(0, Bytes::Rising(0, 16), true),
-        ],
-        &[Bytes::Rising(0, 64)],
-        &[(0, 64)],
-        Some(64),
-    ),
-    (
-        &[
-            Step::More(0, Bytes::Rising(0, 16), false),
-            Step::More(4, Bytes::Rising(0, 16), false),
-            Step::Last(4, Bytes::Rising(32, 16), false),
-            Step::More(2, Bytes::Rising(16, 16), true),
-        ],
-        &[Bytes::Rising(0, 48)],
-        &[(0, 48)],
-        Some(48),
-    ),
-    (
-        &[
-            Step::More(0, Bytes::Rising(0, 64), false),
-            Step::Last(4, Bytes::Rising(32, 16), true),
-        ],
-        &[Bytes::Rising(0, 48)],
-        &[(0, 64)],
-        Some(48),
-    ),
-    (
-        &[
-            Step::More(8, Bytes::Rising(64, 64), false),
-            Step::Last(0, Bytes::Rising(0, 32), false),
-        ],
-        &[Bytes::Rising(0, 32)],
-        &[(0, 32), (64, 128)],
-        Some(32),
-    ),
-    (
-        &[Step::Last(0, Bytes::Zeros(0), true)],
-        &[],
-        &[(0, 0)],
-        Some(0),
-    ),
-    (
-        &[
-            Step::More(2, Bytes::Zeros(0), false),
-            Step::Last(0, Bytes::Rising(0, 8), false),
-        ],
-        &[Bytes::Rising(0, 8)],
-        &[(0, 8), (16, 16)],
-        Some(8),
-    ),
-    (
-        &[Step::More(1, Bytes::Rising(8, 8), false)],
-        &[Bytes::Zeros(8), Bytes::Rising(8, 8)],
-        &[(8, 16)],
-        None,
-    ),
-    (
-        &[
-            Step::More(0, Bytes::Rising(0, 8), false),
-            Step::More(2, Bytes::Rising(16, 8), false),
-            Step::More(1, Bytes::Rising(8, 8), false),
-        ],
-        &[Bytes::Rising(0, 24)],
-        &[(0, 24)],
-        None,
-    ),
-    (
-        &[
-            Step::More(0, Bytes::Rising(0, 16), false),
-            Step::More(1, Bytes::Rising(100, 16), false),
-            Step::Last(3, Bytes::Rising(24, 8), true),
-        ],
-        &[
-            Bytes::Rising(0, 8),
-            Bytes::Rising(100, 16),
-            Bytes::Rising(24, 8),
-        ],
-        &[(0, 32)],
-        Some(32),
-    ),
-    (
-        &[
-            Step::More(0, Bytes::Rising(0, 16), false),
-            Step::Refused(2, Bytes::Rising(16, 7), false, Refusal::Unaligned),
-            Step::Last(2, Bytes::Rising(16, 7), true),
-            Step::Refused(3, Bytes::Rising(24, 8), true, Refusal::Conflict(23, 32)),
-        ],
-        &[Bytes::Rising(0, 23)],
-        &[(0, 23)],
-        Some(23),
-    ),
-    (
-        &[
-            Step::Refused(0, Bytes::Zeros(65536), false, Refusal::TooBig),
-            Step::Refused(6, Bytes::Zeros(65488), false, Refusal::TooBig),
-            Step::Last(2, Bytes::Zeros(65519), false),
-        ],
-        &[Bytes::Zeros(65535)],
-        &[(16, 65535)],
-        Some(65535),
-    ),
-];
-
-/// The answer to a fragment that is refused.
-fn error(refusal: Refusal, offset: IpFragOffset, payload_len: usize) -> IpDefragError {
-    match refusal {
-        Refusal::Unaligned => IpDefragError::UnalignedFragmentPayloadLen {
-            offset,
-            payload_len,
-        },
-        Refusal::TooBig => IpDefragError::SegmentTooBig {
-            offset,
-            payload_len,
-            max: 65535,
-        },
-        Refusal::Conflict(previous_end, conflicting_end) => IpDefragError::ConflictingEnd {
-            previous_end,
-            conflicting_end,
-        },
-    }
-}
-
-fn fragment_of(alloc: Global, step: Step) -> Result<Added, Fail> {
-    let (units, more_fragments, bytes, complete, refusal) = match step {
-        Step::More(units, bytes, complete) => (units, true, bytes, complete, None),
-        Step::Last(units, bytes, complete) => (units, false, bytes, complete, None),
-        Step::Refused(units, bytes, complete, refusal) => {
-            (units, true, bytes, complete, Some(refusal))
-        }
-    };
-    let offset = IpFragOffset::try_new(units)?;
-    let bytes = bytes_of(alloc, &[bytes])?;
-    let answer = match refusal {
-        Some(refusal) => Err(error(refusal, offset, bytes.len())),
-        None => Ok(()),
-    };
-    Ok(Added {
-        offset,
-        more_fragments,
-        bytes,
-        answer,
-        complete,
-    })
-}
+type Answers = Vec<Result<(), IpDefragError>>;
 
 fn new_buffer(alloc: Global) -> IpDefragBuf {
     IpDefragBuf::new(IpNumber::UDP, Vec::new(alloc), Vec::new(alloc))
 }
 
-/// A buffer to which the fragments were added in turn.
-fn one_by_one(rt: &(impl AllocGlobal + Abort), steps: &[Added]) -> Result<IpDefragBuf, Fail> {
-    let mut buffer = new_buffer(rt.alloc());
-    for step in steps {
-        let answer = buffer.add(step.offset, step.more_fragments, step.bytes.as_slice());
-        assert!(rt; answer == step.answer);
-        assert!(rt; buffer.is_complete() == step.complete);
+/// A buffer to which fragments were added, one by one and in one call, and the answers.
+fn adds(rt: &impl Abort, alloc: Global, steps: &[Step]) -> (IpDefragBuf, Answers) {
+    let mut payloads = Vec::new(alloc);
+    for (_, _, bytes, _) in steps {
+        let payload = bytes_of(alloc, &[*bytes]).expect(rt, "no memory");
+        payloads.push(payload).expect(rt, "no memory");
     }
-    Ok(buffer)
-}
-
-/// A buffer to which the fragments were added in one call.
-fn at_once(rt: &(impl AllocGlobal + Abort), steps: &[Added]) -> Result<IpDefragBuf, Fail> {
-    let alloc = rt.alloc();
+    let mut buffer = new_buffer(alloc);
+    let mut answers = Vec::new(alloc);
     let mut fragments = Vec::new(alloc);
-    for step in steps {
-        fragments.push(Fragment {
-            offset: step.offset,
-            more_fragments: step.more_fragments,
-            payload: step.bytes.as_slice(),
-        })?;
+    for ((units, more_fragments, _, complete), payload) in steps.iter().zip(&payloads) {
+        let fragment = Fragment {
+            offset: offset(rt, *units),
+            more_fragments: *more_fragments,
+            payload: payload.as_slice(),
+        };
+        let answer = buffer.add(fragment.offset, *more_fragments, payload);
+        same(rt, &buffer.is_complete(), complete);
+        answers.push(answer).expect(rt, "no memory");
+        fragments.push(fragment).expect(rt, "no memory");
     }
     let (bytes, sections) = (Vec::new(alloc), Vec::new(alloc));
-    let (buffer, answers) = add_all(alloc, IpNumber::UDP, bytes, sections, &fragments)?;
-    assert!(rt; answers.len() == steps.len());
-    Ok(buffer)
-}
-
-fn fragments_of(alloc: Global, steps: &[Step]) -> Result<Vec<Added>, Fail> {
-    let mut fragments = Vec::new(alloc);
-    for step in steps {
-        fragments.push(fragment_of(alloc, *step)?)?;
-    }
-    Ok(fragments)
-}
-
-#[test]
-fn rows(rt: HostRuntime) -> Result<(), Fail> {
-    for (steps, shown, sections, end) in ROWS {
-        let fragments = fragments_of(rt.alloc(), steps)?;
-        let buffer = both_ways(&rt, fragments.as_slice())?;
-        check_shown(&rt, buffer, shown, sections, end)?;
-    }
-    Ok(())
-}
-
-/// A buffer of these fragments, which is the same whether they come one by one or at once.
-fn both_ways(rt: &(impl AllocGlobal + Abort), steps: &[Added]) -> Result<IpDefragBuf, Fail> {
-    let buffer = one_by_one(rt, steps)?;
-    assert!(rt; buffer == at_once(rt, steps)?);
-    Ok(buffer)
-}
-
-/// Whether the sections, in any order, are these.
-fn are_sections(mut shown: Vec<IpFragRange>, sections: &[(u16, u16)]) -> Result<bool, Fail> {
-    shown.sort()?;
-    let starts = shown.iter().map(|section| section.start);
-    let ends = shown.iter().map(|section| section.end);
-    Ok(
-        starts.eq(sections.iter().map(|section| section.0))
-            && ends.eq(sections.iter().map(|section| section.1)),
-    )
-}
-
-/// What a buffer shows.
-fn check_shown(
-    rt: &(impl AllocGlobal + Abort),
-    buffer: IpDefragBuf,
-    shown: &[Bytes],
-    sections: &[(u16, u16)],
-    end: Option<u16>,
-) -> Result<(), Fail> {
-    let wanted = bytes_of(rt.alloc(), shown)?;
-    assert!(rt; buffer.end() == end && *buffer.data() == wanted);
-    assert!(rt; are_sections(buffer.take_bufs().1, sections)?);
-    Ok(())
+    let at_once = add_all(alloc, IpNumber::UDP, bytes, sections, &fragments);
+    same(rt, &at_once, &Ok((buffer, answers)));
+    at_once.expect(rt, "no memory")
 }
 
 fn section(start: u16, end: u16) -> IpFragRange {
     IpFragRange { start, end }
 }
 
+/// What a buffer shows, its sections in order.
+fn shows_parts(
+    rt: &impl Abort,
+    alloc: Global,
+    buffer: IpDefragBuf,
+    shown: &[Bytes],
+    sections: &[IpFragRange],
+    end: Option<u16>,
+) {
+    let bytes = bytes_of(alloc, shown).expect(rt, "no memory");
+    same(rt, &buffer.end(), &end);
+    let (data, mut in_order) = buffer.take_bufs();
+    same(rt, &data, &bytes);
+    in_order.sort().expect(rt, "no memory");
+    same(rt, &in_order.as_slice(), &sections);
+}
+
+/// Fragments that are all accepted.
+fn accepts(
+    rt: &impl Abort,
+    alloc: Global,
+    steps: &[Step],
+    shown: &[Bytes],
+    sections: &[IpFragRange],
+    end: Option<u16>,
+) {
+    let (buffer, answers) = adds(rt, alloc, steps);
+    same(rt, &answers.iter().all(|answer| answer.is_ok()), &true);
+    shows_parts(rt, alloc, buffer, shown, sections, end);
+}
+
 #[test]
-fn merges(rt: HostRuntime) {
-    let rows = [
-        (section(0, 1), section(1, 2), Some(section(0, 2))),
-        (section(0, 1), section(2, 3), None),
-        (section(3, 7), section(1, 2), None),
-        (section(3, 7), section(1, 8), Some(section(1, 8))),
-        (section(5, 2), section(2, 6), Some(section(2, 6))),
-        (section(5, 2), section(3, 3), None),
-        (section(5, 2), section(5, 2), None),
+fn one_after_the_other(rt: HostRuntime) {
+    accepts(
+        &rt,
+        rt.alloc(),
+        &[
+            (0, true, Rising(0, 16), false),
+            (2, true, Rising(16, 32), false),
+            (6, false, Rising(48, 16), true),
+        ],
+        &[Rising(0, 64)],
+        &[section(0, 64)],
+        Some(64),
+    );
+}
+
+#[test]
+fn last_one_first(rt: HostRuntime) {
+    accepts(
+        &rt,
+        rt.alloc(),
+        &[
+            (6, false, Rising(48, 16), false),
+            (2, true, Rising(16, 32), false),
+            (0, true, Rising(0, 16), true),
+        ],
+        &[Rising(0, 64)],
+        &[section(0, 64)],
+        Some(64),
+    );
+}
+
+#[test]
+fn last_one_twice(rt: HostRuntime) {
+    accepts(
+        &rt,
+        rt.alloc(),
+        &[
+            (0, true, Rising(0, 16), false),
+            (4, true, Rising(0, 16), false),
+            (4, false, Rising(32, 16), false),
+            (2, true, Rising(16, 16), true),
+        ],
+        &[Rising(0, 48)],
+        &[section(0, 48)],
+        Some(48),
+    );
+}
+
+#[test]
+fn end_below_what_came(rt: HostRuntime) {
+    accepts(
+        &rt,
+        rt.alloc(),
+        &[
+            (0, true, Rising(0, 64), false),
+            (4, false, Rising(32, 16), true),
+        ],
+        &[Rising(0, 48)],
+        &[section(0, 64)],
+        Some(48),
+    );
+    accepts(
+        &rt,
+        rt.alloc(),
+        &[
+            (8, true, Rising(64, 64), false),
+            (0, false, Rising(0, 32), false),
+        ],
+        &[Rising(0, 32)],
+        &[section(0, 32), section(64, 128)],
+        Some(32),
+    );
+}
+
+#[test]
+fn without_bytes(rt: HostRuntime) {
+    accepts(&rt, rt.alloc(), &[], &[], &[], None);
+    accepts(
+        &rt,
+        rt.alloc(),
+        &[(0, false, Zeros(0), true)],
+        &[],
+        &[section(0, 0)],
+        Some(0),
+    );
+    accepts(
+        &rt,
+        rt.alloc(),
+        &[(2, true, Zeros(0), false), (0, false, Rising(0, 8), false)],
+        &[Rising(0, 8)],
+        &[section(0, 8), section(16, 16)],
+        Some(8),
+    );
+}
+
+#[test]
+fn without_an_end(rt: HostRuntime) {
+    accepts(
+        &rt,
+        rt.alloc(),
+        &[(1, true, Rising(8, 8), false)],
+        &[Zeros(8), Rising(8, 8)],
+        &[section(8, 16)],
+        None,
+    );
+    accepts(
+        &rt,
+        rt.alloc(),
+        &[
+            (0, true, Rising(0, 8), false),
+            (2, true, Rising(16, 8), false),
+            (1, true, Rising(8, 8), false),
+        ],
+        &[Rising(0, 24)],
+        &[section(0, 24)],
+        None,
+    );
+}
+
+#[test]
+fn other_bytes_in_an_overlap(rt: HostRuntime) {
+    accepts(
+        &rt,
+        rt.alloc(),
+        &[
+            (0, true, Rising(0, 16), false),
+            (1, true, Rising(100, 16), false),
+            (3, false, Rising(24, 8), true),
+        ],
+        &[Rising(0, 8), Rising(100, 16), Rising(24, 8)],
+        &[section(0, 32)],
+        Some(32),
+    );
+}
+
+#[test]
+fn unaligned_and_behind_the_end(rt: HostRuntime) {
+    let steps = [
+        (0, true, Rising(0, 16), false),
+        (2, true, Rising(16, 7), false),
+        (2, false, Rising(16, 7), true),
+        (3, true, Rising(24, 8), true),
     ];
-    for (a, b, merged) in rows {
-        assert!(rt; a.merge(b) == merged && b.merge(a) == merged);
-    }
+    let (buffer, answers) = adds(&rt, rt.alloc(), &steps);
+    let unaligned = IpDefragError::UnalignedFragmentPayloadLen {
+        offset: offset(&rt, 2),
+        payload_len: 7,
+    };
+    let conflict = IpDefragError::ConflictingEnd {
+        previous_end: 23,
+        conflicting_end: 32,
+    };
+    let expected = [Ok(()), Err(unaligned), Ok(()), Err(conflict)];
+    same(&rt, &answers.as_slice(), &expected.as_slice());
+    let shown = [Rising(0, 23)];
+    shows_parts(&rt, rt.alloc(), buffer, &shown, &[section(0, 23)], Some(23));
+}
+
+#[test]
+fn above_the_limit(rt: HostRuntime) {
+    let steps = [
+        (0, true, Zeros(65536), false),
+        (6, true, Zeros(65488), false),
+        (2, false, Zeros(65519), false),
+    ];
+    let (buffer, answers) = adds(&rt, rt.alloc(), &steps);
+    let too_big = |units, payload_len| IpDefragError::SegmentTooBig {
+        offset: offset(&rt, units),
+        payload_len,
+        max: 65535,
+    };
+    let expected = [Err(too_big(0, 65536)), Err(too_big(6, 65488)), Ok(())];
+    same(&rt, &answers.as_slice(), &expected.as_slice());
+    let (shown, sections) = ([Zeros(65535)], [section(16, 65535)]);
+    shows_parts(&rt, rt.alloc(), buffer, &shown, &sections, Some(65535));
+}
+
+/// Both ranges as one, or not, whichever of them is asked.
+fn merges(rt: &impl Abort, a: IpFragRange, b: IpFragRange, merged: Option<IpFragRange>) {
+    same(rt, &(a.merge(b), b.merge(a)), &(merged, merged));
+}
+
+#[test]
+fn merged_ranges(rt: HostRuntime) {
+    merges(&rt, section(0, 1), section(1, 2), Some(section(0, 2)));
+    merges(&rt, section(0, 1), section(2, 3), None);
+    merges(&rt, section(3, 7), section(1, 2), None);
+    merges(&rt, section(3, 7), section(1, 8), Some(section(1, 8)));
+    merges(&rt, section(5, 2), section(2, 6), Some(section(2, 6)));
+    merges(&rt, section(5, 2), section(3, 3), None);
+    merges(&rt, section(5, 2), section(5, 2), None);
+}
+
+/// A buffer that uses another's memory shows none of its bytes.
+#[test]
+fn used_again(rt: HostRuntime) {
+    let mut used = new_buffer(rt.alloc());
+    same(&rt, &used.add(IpFragOffset::ZERO, false, PAYLOAD), &Ok(()));
+    let (bytes, sections) = used.take_bufs();
+    let mut buffer = IpDefragBuf::new(IpNumber::TCP, bytes, sections);
+    same(&rt, &buffer.add(offset(&rt, 1), true, PAYLOAD), &Ok(()));
+    same(&rt, &buffer.ip_number(), &IpNumber::TCP);
+    let (shown, sections) = ([Zeros(8), Rising(1, 8)], [section(8, 16)]);
+    shows_parts(&rt, rt.alloc(), buffer, &shown, &sections, None);
 }
 
 /// The fragments of every other part of a payload, of 64 bytes each.
 fn every_other<'a>(
+    rt: &impl Abort,
     alloc: Global,
     payload: &'a [u8],
     parity: usize,
-) -> Result<Vec<Fragment<'a>>, AllocError> {
+) -> Vec<Fragment<'a>> {
     let mut fragments = Vec::new(alloc);
     for (index, part) in payload.chunks(64).enumerate() {
         if index % 2 == parity {
             let units = u16::try_from(index).unwrap_or(0).saturating_mul(8);
-            fragments.push(Fragment {
-                offset: IpFragOffset::try_new(units).unwrap_or(IpFragOffset::ZERO),
+            let fragment = Fragment {
+                offset: offset(rt, units),
                 more_fragments: part.len() == 64,
                 payload: part,
-            })?;
+            };
+            fragments.push(fragment).expect(rt, "no memory");
         }
     }
-    Ok(fragments)
+    fragments
 }
 
 /// The longest payload in many fragments, every other one first, so that there are many sections. A clone in between
 /// is equal.
 #[test]
-fn many_fragments(rt: HostRuntime) -> Result<(), Fail> {
+fn many_fragments(rt: HostRuntime) {
     let alloc = rt.alloc();
-    let payload = bytes_of(alloc, &[Bytes::Rising(0, 65535)])?;
+    let payload = bytes_of(alloc, &[Rising(0, 65535)]).expect(&rt, "no memory");
     let (bytes, sections) = (Vec::new(alloc), Vec::new(alloc));
-    let first = every_other(alloc, payload.as_slice(), 1)?;
-    let (mut buffer, _answers) = add_all(alloc, IpNumber::UDP, bytes, sections, &first)?;
-    assert!(rt; buffer.sections().len() == 512);
-    assert!(rt; buffer.clone()? == buffer);
-    for fragment in every_other(alloc, payload.as_slice(), 0)? {
-        buffer.add(fragment.offset, fragment.more_fragments, fragment.payload)?;
+    let first = every_other(&rt, alloc, &payload, 1);
+    let at_once = add_all(alloc, IpNumber::UDP, bytes, sections, &first);
+    let (mut buffer, _answers) = at_once.expect(&rt, "no memory");
+    same(&rt, &buffer.sections().len(), &512);
+    same(&rt, &buffer.clone().expect(&rt, "no memory"), &buffer);
+    for fragment in every_other(&rt, alloc, &payload, 0) {
+        let added = buffer.add(fragment.offset, fragment.more_fragments, fragment.payload);
+        same(&rt, &added, &Ok(()));
     }
-    assert!(rt; buffer.is_complete() && *buffer.data() == payload);
-    assert!(rt; buffer.clone()? == buffer);
-    Ok(())
+    same(
+        &rt,
+        &(buffer.is_complete(), buffer.data()),
+        &(true, &payload),
+    );
+    same(&rt, &buffer.clone().expect(&rt, "no memory"), &buffer);
 }
 
-/// Takes memory in `add` and `add_all` alone, so that each request of theirs may be refused: then the same call
-/// succeeds again.
-#[test]
-fn want_of_memory(rt: HostRuntime) -> Result<(), Fail> {
-    let mut buffer = new_buffer(rt.alloc());
-    for (units, end) in [(0, 8), (8, 72)] {
-        let offset = IpFragOffset::try_new(units)?;
-        if let Err(error) = buffer.add(offset, true, b"abcdefgh") {
-            assert!(rt; error == IpDefragError::AllocationFailure { len: end });
-            buffer.add(offset, true, b"abcdefgh")?;
-        }
-        assert!(rt; buffer.data().len() == end);
+/// Adds a fragment, a second time where there was no memory at first: then nothing may have changed.
+fn adds_again(
+    rt: &impl Abort,
+    buffer: &mut IpDefragBuf,
+    units: u16,
+    len: usize,
+    (shown, sections): (&[u8], &[IpFragRange]),
+) {
+    if let Err(error) = buffer.add(offset(rt, units), true, PAYLOAD) {
+        same(rt, &error, &IpDefragError::AllocationFailure { len });
+        same(rt, &buffer.data().as_slice(), &shown);
+        same(rt, &buffer.sections().as_slice(), &sections);
+        same(rt, &buffer.end(), &None);
+        same(rt, &buffer.add(offset(rt, units), true, PAYLOAD), &Ok(()));
     }
-    let fragments = [Fragment {
-        offset: IpFragOffset::ZERO,
-        more_fragments: false,
-        payload: b"abcdefgh",
-    }];
+}
+
+/// Takes memory in `add` alone, so that each request of it may be refused: then the same call succeeds again.
+#[test]
+fn want_of_memory(rt: HostRuntime) {
+    let mut buffer = new_buffer(rt.alloc());
+    adds_again(&rt, &mut buffer, 0, 8, (b"", &[]));
+    adds_again(&rt, &mut buffer, 8, 72, (PAYLOAD, &[section(0, 8)]));
+    same(
+        &rt,
+        &(buffer.data().len(), buffer.sections().len()),
+        &(72, 2),
+    );
+}
+
+/// Takes memory in `add_all` alone.
+#[test]
+fn want_of_memory_at_once(rt: HostRuntime) {
+    let fragments = [
+        Fragment {
+            offset: IpFragOffset::ZERO,
+            more_fragments: true,
+            payload: PAYLOAD,
+        },
+        Fragment {
+            offset: offset(&rt, 1),
+            more_fragments: false,
+            payload: PAYLOAD,
+        },
+    ];
     let (bytes, sections) = (Vec::new(rt.alloc()), Vec::new(rt.alloc()));
     match add_all(rt.alloc(), IpNumber::UDP, bytes, sections, &fragments) {
-        Ok((buffer, _answers)) => assert!(rt; buffer.is_complete()),
-        Err(stop) => assert!(rt; stop.at == 0),
+        Ok((buffer, answers)) => {
+            same(&rt, &(buffer.is_complete(), answers.len()), &(true, 2));
+        }
+        Err(stop) => same(&rt, &(stop.at < 2), &true),
     }
-    Ok(())
 }

@@ -5,6 +5,7 @@ ghost use Rattle.std.proofs.Common.{rules, refl};
 ghost use Rattle.std.specs.Cmp.Rules.{comparing};
 ghost use Rattle.std.specs.Ordering.{on};
 
+use super::Bytes::Rising;
 use super::pool::run_with_limits;
 use super::*;
 use std::hash::{Hash, Hasher};
@@ -35,7 +36,7 @@ impl Hash for Halved {
     fn hash<H: Hasher>(&self, _state: &mut H) {}
 }
 
-#[derive(Clone, Copy, PartialEq)]
+#[derive(Clone, Copy)]
 enum Kind {
     Frame,
     Drop,
@@ -57,46 +58,31 @@ struct Step {
 }
 
 impl Step {
-    fn is_fragment(&self) -> bool {
-        self.units > 0 || self.more_fragments
-    }
-
-    fn start(&self) -> u32 {
-        8 * u32::from(self.units)
-    }
-
     fn end(&self) -> u32 {
         8 * u32::from(self.units) + u32::from(self.len)
     }
 
-    fn covers(&self, position: u32) -> bool {
-        self.start() <= position && position < self.end()
-    }
-
-    fn byte(&self, position: u32) -> u8 {
-        let at = position.saturating_sub(self.start()) % 256;
-        self.first.wrapping_add(u8::try_from(at).unwrap_or(0))
+    /// The byte that the fragment has at a position of the payload.
+    fn byte_at(&self, position: u32) -> Option<u8> {
+        let index = position.checked_sub(8 * u32::from(self.units))?;
+        if index < u32::from(self.len) {
+            Some(self.first.wrapping_add(u8::try_from(index).unwrap_or(0)))
+        } else {
+            None
+        }
     }
 }
 
-/// What the definition keeps of a stream: its accepted fragments, and the time of the last one.
+/// What the definition keeps of a stream: its accepted fragments, where the final one ends, and the time of the last.
 #[derive(Drop)]
 struct Kept {
     accepted: Vec<Step>,
+    end: Option<u32>,
     time: u64,
 }
 
-fn end_of(accepted: &[Step]) -> Option<u32> {
-    let mut end = None;
-    for fragment in accepted {
-        if !fragment.more_fragments {
-            end = Some(fragment.end());
-        }
-    }
-    end
-}
-
-fn refusal_of(accepted: &[Step], fragment: Step) -> Option<IpDefragError> {
+/// Why a fragment is refused behind others, of which the final one ends there.
+fn refusal(end: Option<u32>, fragment: Step) -> Option<IpDefragError> {
     let offset = IpFragOffset::try_new(fragment.units).unwrap_or(IpFragOffset::ZERO);
     let payload_len = usize::from(fragment.len);
     let Ok(conflicting_end) = u16::try_from(fragment.end()) else {
@@ -112,86 +98,110 @@ fn refusal_of(accepted: &[Step], fragment: Step) -> Option<IpDefragError> {
             payload_len,
         });
     }
-    let end = end_of(accepted)?;
-    if fragment.end() > end || (!fragment.more_fragments && fragment.end() != end) {
+    let previous_end = u16::try_from(end?).unwrap_or(0);
+    if conflicting_end > previous_end
+        || (!fragment.more_fragments && conflicting_end != previous_end)
+    {
         return Some(IpDefragError::ConflictingEnd {
-            previous_end: u16::try_from(end).unwrap_or(0),
+            previous_end,
             conflicting_end,
         });
     }
     None
 }
 
-fn is_complete(accepted: &[Step]) -> bool {
+/// The bytes up to the end, of each that of the last fragment there, if no byte is missing before any fragment's end.
+fn whole(rt: &impl Abort, alloc: Global, stream: &Kept) -> Option<Vec<u8>> {
+    let end = stream.end?;
     let mut reach = 0;
-    for fragment in accepted {
+    for fragment in &stream.accepted {
         reach = reach.max(fragment.end());
     }
-    end_of(accepted).is_some()
-        && (0..reach).all(|position| accepted.iter().any(|fragment| fragment.covers(position)))
-}
-
-/// The bytes up to the end: of each, that of the last fragment there.
-fn payload_of(alloc: Global, accepted: &[Step]) -> Result<Vec<u8>, AllocError> {
     let mut payload = Vec::new(alloc);
-    for position in 0..end_of(accepted).unwrap_or(0) {
-        let mut byte = 0;
-        for fragment in accepted {
-            if fragment.covers(position) {
-                byte = fragment.byte(position);
-            }
+    for position in 0..reach {
+        let mut byte = None;
+        for fragment in &stream.accepted {
+            byte = fragment.byte_at(position).or(byte);
         }
-        payload.push(byte)?;
+        let byte = byte?;
+        if position < end {
+            payload.push(byte).expect(rt, "no memory");
+        }
     }
-    Ok(payload)
+    Some(payload)
 }
 
 /// The answer to a packet of a stream by the definition, and what is kept afterwards.
 fn answer_frame(
+    rt: &impl Abort,
     alloc: Global,
     stream: &mut Kept,
     fragment: Step,
-) -> Result<Result<Option<IpDefragPayloadVec>, IpDefragError>, AllocError> {
-    if !fragment.is_fragment() {
-        return Ok(Ok(None));
+) -> Result<Option<IpDefragPayloadVec>, IpDefragError> {
+    if fragment.units == 0 && !fragment.more_fragments {
+        return Ok(None);
     }
-    if let Some(error) = refusal_of(&stream.accepted, fragment) {
-        return Ok(Err(error));
+    if let Some(error) = refusal(stream.end, fragment) {
+        return Err(error);
     }
-    stream.accepted.push(fragment)?;
+    stream.accepted.push(fragment).expect(rt, "no memory");
     stream.time = fragment.time;
-    if !is_complete(&stream.accepted) {
-        return Ok(Ok(None));
+    if !fragment.more_fragments {
+        stream.end = Some(fragment.end());
     }
-    let payload = payload_of(alloc, &stream.accepted)?;
-    stream.accepted.clear();
-    Ok(Ok(Some(IpDefragPayloadVec {
-        ip_number: IpNumber(253),
-        len_source: LenSource::Ipv4HeaderTotalLen,
-        payload,
-    })))
+    match whole(rt, alloc, stream) {
+        Some(payload) => {
+            stream.accepted.clear();
+            stream.end = None;
+            Ok(Some(IpDefragPayloadVec {
+                ip_number: IpNumber(253),
+                len_source: LenSource::Ipv4HeaderTotalLen,
+                payload,
+            }))
+        }
+        None => Ok(None),
+    }
 }
 
-/// The answer to a call by the definition, on the streams of two VLANs and of two channels each.
-fn expected(alloc: Global, streams: &mut [Kept], step: Step) -> Result<PoolAnswer, Fail> {
-    match step.kind {
-        Kind::Frame => {
-            let name = usize::from(step.vlan_id) * 2 + usize::from(step.channel / 2);
-            match streams.get_mut(name) {
-                Some(stream) => Ok(PoolAnswer::Frame(answer_frame(alloc, stream, step)?)),
-                None => Err("a stream".into()),
-            }
+/// What the definition keeps after a drop.
+fn drop_older(streams: &mut [Kept], time: u64) {
+    for stream in streams.iter_mut() {
+        if stream.time < time {
+            stream.accepted.clear();
+            stream.end = None;
         }
-        Kind::Drop => {
-            for stream in streams.iter_mut() {
-                if stream.time < step.time {
-                    stream.accepted.clear();
-                }
-            }
-            Ok(PoolAnswer::Dropped)
-        }
-        Kind::Return => Ok(PoolAnswer::Returned),
     }
+}
+
+/// The answers by the definition, on the streams of two VLANs and of two channels each.
+fn expected(rt: &impl Abort, alloc: Global, steps: &[Step]) -> Vec<PoolAnswer> {
+    let mut streams = Vec::new(alloc);
+    for _ in 0..4 {
+        let stream = Kept {
+            accepted: Vec::new(alloc),
+            end: None,
+            time: 0,
+        };
+        streams.push(stream).expect(rt, "no memory");
+    }
+    let mut answers = Vec::new(alloc);
+    for step in steps {
+        let answer = match step.kind {
+            Kind::Frame => {
+                let name = usize::from(step.vlan_id).saturating_mul(2);
+                let name = name.saturating_add(usize::from(step.channel / 2));
+                let stream = streams.get_mut(name).expect(rt, "four streams");
+                PoolAnswer::Frame(answer_frame(rt, alloc, stream, *step))
+            }
+            Kind::Drop => {
+                drop_older(&mut streams, step.time);
+                PoolAnswer::Dropped
+            }
+            Kind::Return => PoolAnswer::Returned,
+        };
+        answers.push(answer).expect(rt, "no memory");
+    }
+    answers
 }
 
 /// Numbers that look random, by a linear congruence.
@@ -241,32 +251,36 @@ impl Numbers {
 }
 
 /// A frame of IPv4 behind one VLAN tag. Its payload, of a number for experiments, is among the bytes.
-fn frame(alloc: Global, step: &Step, bytes: &[u8]) -> Result<Vec<u8>, AllocError> {
+fn frame(rt: &impl Abort, alloc: Global, step: &Step, bytes: &[u8]) -> Vec<u8> {
     let first = usize::from(step.first);
     let payload = bytes
         .get(first..first + usize::from(step.len))
         .unwrap_or(b"");
     let more = if step.more_fragments { 0x2000 } else { 0 };
-    let mut frame = Vec::new(alloc);
-    frame.extend_from_slice(b"\x07\x08\x09\x0a\x0b\x0c\x01\x02\x03\x04\x05\x06\x81\x00\x00")?;
-    frame.push(step.vlan_id)?;
-    frame.extend_from_slice(b"\x08\x00\x45\x00")?;
-    frame.extend_from_slice(&(20 + u16::from(step.len)).to_be_bytes())?;
-    frame.extend_from_slice(&[0, 1])?;
-    frame.extend_from_slice(&(more | step.units).to_be_bytes())?;
-    frame.extend_from_slice(b"\x14\xfd\0\0\xc0\xa8\x01\x01\xc0\xa8\x01\x02")?;
-    frame.extend_from_slice(payload)?;
-    Ok(frame)
+    let offset = (more | step.units).to_be_bytes();
+    let front = b"\x07\x08\x09\x0a\x0b\x0c\x01\x02\x03\x04\x05\x06\x81\x00\x00";
+    let parts = [
+        front.as_slice(),
+        &[step.vlan_id],
+        b"\x08\x00\x45\x00\x00",
+        &[step.len.saturating_add(20)],
+        b"\x00\x01",
+        &offset,
+        b"\x14\xfd\0\0\xc0\xa8\x01\x01\xc0\xa8\x01\x02",
+        payload,
+    ];
+    parts.concat(alloc).expect(rt, "no memory")
 }
 
 fn call<'a>(
+    rt: &impl Abort,
     alloc: Global,
     step: &Step,
     frame: &'a [u8],
-) -> Result<PoolCall<'a, u64, Halved, u64>, Fail> {
-    Ok(match step.kind {
+) -> PoolCall<'a, u64, Halved, u64> {
+    match step.kind {
         Kind::Frame => PoolCall::Frame {
-            packet: SlicedPacket::from_ethernet(frame)?,
+            packet: SlicedPacket::from_ethernet(frame).expect(rt, "refused"),
             timestamp: step.time,
             channel_id: Halved(step.channel),
         },
@@ -276,49 +290,38 @@ fn call<'a>(
             len_source: LenSource::Slice,
             payload: Vec::new(alloc),
         }),
-    })
+    }
 }
 
-fn check_list(rt: &(impl AllocGlobal + Abort), steps: &[Step], bytes: &[u8]) -> Result<(), Fail> {
-    let mut frames = Vec::new(rt.alloc());
+/// A list of calls is answered as the definition says.
+fn is_answered(rt: &impl Abort, alloc: Global, steps: &[Step], bytes: &[u8]) {
+    let mut frames = Vec::new(alloc);
     for step in steps {
-        frames.push(frame(rt.alloc(), step, bytes)?)?;
+        let frame = frame(rt, alloc, step, bytes);
+        frames.push(frame).expect(rt, "no memory");
     }
-    let mut calls = Vec::new(rt.alloc());
+    let mut calls = Vec::new(alloc);
     for (step, frame) in steps.iter().zip(&frames) {
-        calls.push(call(rt.alloc(), step, frame)?)?;
+        let call = call(rt, alloc, step, frame);
+        calls.push(call).expect(rt, "no memory");
     }
-    let (answers, _pool) = run_with_limits(rt.alloc(), calls)?;
-    assert!(rt; answers.len() == steps.len());
-    let mut streams = Vec::new(rt.alloc());
-    for _ in 0..4 {
-        streams.push(Kept {
-            accepted: Vec::new(rt.alloc()),
-            time: 0,
-        })?;
-    }
-    for (answer, step) in answers.iter().zip(steps) {
-        let should_be = expected(rt.alloc(), &mut streams, *step)?;
-        assert_eq!(rt; *answer, should_be);
-    }
-    Ok(())
+    let (answers, _pool) = run_with_limits(alloc, calls).expect(rt, "no memory");
+    same(rt, &answers, &expected(rt, alloc, steps));
 }
 
 /// Lists of calls on few streams, so that payloads are often completed. The first is a long one.
 #[test]
-fn random_lists(rt: HostRuntime) -> Result<(), Fail> {
-    let mut bytes = Vec::new(rt.alloc());
-    for byte in 0..=255u8 {
-        bytes.push(byte)?;
-    }
+fn random_lists(rt: HostRuntime) {
+    let alloc = rt.alloc();
+    let bytes = bytes_of(alloc, &[Rising(0, 256)]).expect(&rt, "no memory");
     let mut numbers = Numbers { state: 1 };
     for list in 0..10_000u32 {
         let end = if list == 0 { 500 } else { 28 };
-        let mut steps = Vec::new(rt.alloc());
+        let mut steps = Vec::new(alloc);
         for time in 4..end {
-            steps.push(numbers.step(time))?;
+            let step = numbers.step(time);
+            steps.push(step).expect(&rt, "no memory");
         }
-        check_list(&rt, &steps, &bytes)?;
+        is_answered(&rt, alloc, &steps, &bytes);
     }
-    Ok(())
 }

@@ -1,28 +1,20 @@
 //! Headers of the net layer by value: what is read, linked, measured and written.
 
-use super::PAYLOAD;
 use crate::err::ip::HeadersWriteError;
 use crate::err::net::NetSetNextHeaderError;
-use crate::err::{Layer, LenError, ValueTooBigError, ValueType, ip, ipv4_exts};
-use crate::{
-    ArpHardwareId, ArpOperation, ArpPacket, EtherType, IpAuthHeader, IpFragOffset, IpHeaders,
-    IpNumber, IpPayloadSlice, Ipv4Extensions, Ipv4Header, Ipv6Extensions, Ipv6FragmentHeader,
-    Ipv6Header, Ipv6RawExtHeader, Ipv6RoutingExtensions, LenSource, NetHeaders, SlicedPacket,
-};
+use crate::err::{Layer, LenError, ValueTooBigError, ValueType, ip, ipv4_exts, ipv6_exts};
+use crate::tests::checks::same;
+use crate::tests::samples::*;
+use crate::*;
 use std::alloc::Global;
 use std::process::Abort;
-use std::test::Fail;
-
-/// An IPv6 packet with two fragment headers, of which the second says that it carries a fragment.
-const FRAGMENT_TWICE: &[u8] =
-    b"\x60\x00\x00\x00\x00\x18\x2c\x40\0\0\0\0\0\0\0\0\0\0\0\0\0\0\0\0\0\0\0\0\0\0\0\0\0\0\0\0\0\0\0\0\x2c\x00\x00\x00\x00\x00\x00\x01\x11\x00\x00\x01\x00\x00\x00\x02\x00\x01\x02\x03\x04\x05\x06\x07";
 
 /// An IPv4 header from 192.168.1.1 to 192.168.1.2, an authentication header, and the payload 1 to 8 of UDP.
-const AUTHENTICATED: &[u8] =
+const AUTHENTICATED_UDP: &[u8] =
     b"\x45\x00\x00\x28\x00\x00\x40\x00\x14\x33\xe3\x4f\xc0\xa8\x01\x01\xc0\xa8\x01\x02\x11\x01\x00\x00\x00\x00\x00\x02\x00\x00\x00\x03\x01\x02\x03\x04\x05\x06\x07\x08";
 
 /// An IPv6 header, hop by hop options, a fragment header of a first fragment, and the payload 1 to 8 of UDP.
-const FIRST_FRAGMENT: &[u8] =
+const FRAGMENTED_UDP: &[u8] =
     b"\x60\x00\x00\x00\x00\x18\x00\x40\0\0\0\0\0\0\0\0\0\0\0\0\0\0\0\0\0\0\0\0\0\0\0\0\0\0\0\0\0\0\0\0\x2c\x00\x01\x04\x00\x00\x00\x00\x11\x00\x00\x01\x00\x00\x00\x07\x01\x02\x03\x04\x05\x06\x07\x08";
 
 /// The headers of the first packet, with no number set.
@@ -37,14 +29,9 @@ fn ipv4_headers() -> IpHeaders {
     IpHeaders::Ipv4(header, Ipv4Extensions { auth })
 }
 
-/// A fragment header with no number set.
-fn fragment_header(more_fragments: bool, identification: u32) -> Ipv6FragmentHeader {
-    Ipv6FragmentHeader {
-        next_header: IpNumber(255),
-        fragment_offset: IpFragOffset::ZERO,
-        more_fragments,
-        identification,
-    }
+/// Hop by hop options with no number set.
+fn hop_by_hop() -> Option<Ipv6RawExtHeader> {
+    Ipv6RawExtHeader::new_raw(IpNumber(255), &[1, 4, 0, 0, 0, 0]).ok()
 }
 
 /// The headers of the second packet, with no number set.
@@ -53,9 +40,15 @@ fn ipv6_headers() -> IpHeaders {
         hop_limit: 64,
         ..Default::default()
     };
+    let fragment = Ipv6FragmentHeader {
+        next_header: IpNumber(255),
+        fragment_offset: IpFragOffset::ZERO,
+        more_fragments: true,
+        identification: 7,
+    };
     let extensions = Ipv6Extensions {
-        hop_by_hop_options: Ipv6RawExtHeader::new_raw(IpNumber(255), &[1, 4, 0, 0, 0, 0]).ok(),
-        fragment: Some(fragment_header(true, 7)),
+        hop_by_hop_options: hop_by_hop(),
+        fragment: Some(fragment),
         ..Default::default()
     };
     IpHeaders::Ipv6(header, extensions)
@@ -71,207 +64,207 @@ fn refused(rt: HostRuntime) {
         layer_start_offset: 0,
     };
     let refusal = ip::HeadersSliceError::Len(empty);
-    assert!(rt; IpHeaders::from_slice(b"").err() == Some(refusal));
+    same(&rt, &IpHeaders::from_slice(b"").err(), &Some(refusal));
     let version = ip::HeaderError::UnsupportedIpVersion { version_number: 5 };
     let refusal = ip::HeadersSliceError::Content(ip::HeadersError::Ip(version));
-    assert!(rt; IpHeaders::from_slice(b"\x50").err() == Some(refusal));
+    same(&rt, &IpHeaders::from_slice(b"\x50").err(), &Some(refusal));
 }
 
-/// The headers hold one of each kind, slices show all.
+/// The headers hold one of each kind.
 #[test]
-fn second_of_a_kind(rt: HostRuntime) -> Result<(), Fail> {
-    let (headers, payload) = IpHeaders::from_slice(FRAGMENT_TWICE)?;
-    let (_, extensions) = headers.ipv6().ok_or("the packet is of IPv6")?;
+fn second_of_a_kind(rt: HostRuntime) {
+    let (headers, payload) = IpHeaders::from_slice(FRAGMENT_TWICE).expect(&rt, "refused");
     let fragment = Ipv6FragmentHeader {
         next_header: IpNumber(44),
-        ..fragment_header(false, 1)
+        fragment_offset: IpFragOffset::ZERO,
+        more_fragments: false,
+        identification: 1,
     };
-    assert!(rt; extensions.fragment == Some(fragment));
-    assert!(rt; headers.header_len() == 48);
+    let (_, extensions) = headers.ipv6().expect(&rt, "IPv6");
+    same(&rt, &extensions.fragment.as_ref(), &Some(&fragment));
+    same(&rt, &headers.header_len(), &48);
     let behind = IpPayloadSlice {
         ip_number: IpNumber(44),
         fragmented: false,
         len_source: LenSource::Ipv6HeaderPayloadLen,
         payload: &FRAGMENT_TWICE[48..],
     };
-    assert!(rt; payload == behind);
+    same(&rt, &payload, &behind);
+}
+
+/// Slices show all.
+#[test]
+fn slices_of_both(rt: HostRuntime) {
+    let packet = SlicedPacket::from_ip(FRAGMENT_TWICE).expect(&rt, "refused");
     let shown = IpPayloadSlice {
         ip_number: IpNumber::UDP,
         fragmented: true,
         len_source: LenSource::Ipv6HeaderPayloadLen,
         payload: b"\x00\x01\x02\x03\x04\x05\x06\x07",
     };
-    let packet = SlicedPacket::from_ip(FRAGMENT_TWICE)?;
-    assert!(rt; packet.ip_payload() == Some(&shown));
-    Ok(())
+    same(&rt, &packet.ip_payload(), &Some(&shown));
 }
 
 /// Headers whose numbers and lengths are set are these bytes, with the payload 1 to 8 of UDP behind them.
-fn assert_written(
-    rt: &impl Abort,
-    alloc: Global,
-    mut headers: IpHeaders,
-    expected: &[u8],
-) -> Result<(), Fail> {
-    headers.set_payload_len(8)?;
-    assert!(rt; headers.next_header() == Ok(IpNumber::UDP));
+fn writes(rt: &impl Abort, alloc: Global, mut headers: IpHeaders, expected: &[u8]) {
+    same(rt, &headers.set_payload_len(8), &Ok(()));
+    same(rt, &headers.next_header(), &Ok(IpNumber::UDP));
     let mut bytes = Vec::new(alloc);
-    headers.write(&mut bytes)?;
-    assert!(rt; headers.header_len() == bytes.len());
-    bytes.extend_from_slice(PAYLOAD)?;
-    assert!(rt; bytes.as_slice() == expected);
-    Ok(())
+    same(rt, &headers.write(&mut bytes), &Ok(()));
+    same(rt, &headers.header_len(), &bytes.len());
+    bytes.extend_from_slice(PAYLOAD).expect(rt, "no memory");
+    same(rt, &bytes.as_slice(), &expected);
 }
 
 /// These bytes, with the payload 1 to 8 of UDP behind headers, are read, and written again.
-fn assert_read_back(rt: &impl Abort, alloc: Global, expected: &[u8]) -> Result<(), Fail> {
-    let (read, number, payload) = IpHeaders::read_from_slice(expected)?;
-    assert!(rt; number == IpNumber::UDP && payload == PAYLOAD);
+fn reads_back(rt: &impl Abort, alloc: Global, expected: &[u8]) {
+    let (read, number, payload) = IpHeaders::read_from_slice(expected).expect(rt, "refused");
+    same(rt, &(number, payload), &(IpNumber::UDP, PAYLOAD));
     let mut bytes = Vec::new(alloc);
-    read.write(&mut bytes)?;
-    bytes.extend_from_slice(payload)?;
-    assert!(rt; bytes.as_slice() == expected);
-    Ok(())
+    same(rt, &read.write(&mut bytes), &Ok(()));
+    bytes.extend_from_slice(payload).expect(rt, "no memory");
+    same(rt, &bytes.as_slice(), &expected);
 }
 
 #[test]
-fn written(rt: HostRuntime) -> Result<(), Fail> {
-    let mut ipv4 = ipv4_headers();
-    assert!(rt; ipv4.set_next_headers(IpNumber::UDP) == EtherType::IPV4);
-    assert!(rt; !ipv4.is_fragmenting_payload());
-    assert_written(&rt, rt.alloc(), ipv4, AUTHENTICATED)?;
-    assert_read_back(&rt, rt.alloc(), AUTHENTICATED)?;
-    let mut ipv6 = ipv6_headers();
-    assert!(rt; ipv6.set_next_headers(IpNumber::UDP) == EtherType::IPV6);
-    assert!(rt; ipv6.is_fragmenting_payload());
-    assert_written(&rt, rt.alloc(), ipv6, FIRST_FRAGMENT)?;
-    assert_read_back(&rt, rt.alloc(), FIRST_FRAGMENT)
-}
-
-/// The longest extension header, with no number set.
-fn longest_header(byte: u8) -> Option<Ipv6RawExtHeader> {
-    Ipv6RawExtHeader::new_raw(IpNumber(255), &[byte; 2046]).ok()
-}
-
-/// An extension header of each kind, each as long as it can be.
-pub(super) fn longest_extensions() -> Ipv6Extensions {
-    let routing = longest_header(5).map(|routing| Ipv6RoutingExtensions {
-        routing,
-        final_destination_options: longest_header(7),
-    });
-    Ipv6Extensions {
-        hop_by_hop_options: longest_header(7),
-        destination_options: longest_header(7),
-        routing,
-        fragment: Some(fragment_header(false, 7)),
-        auth: IpAuthHeader::new(IpNumber(255), 2, 3, &[9; 1016]).ok(),
-    }
+fn ipv4(rt: HostRuntime) {
+    let mut headers = ipv4_headers();
+    same(
+        &rt,
+        &headers.set_next_headers(IpNumber::UDP),
+        &EtherType::IPV4,
+    );
+    same(&rt, &headers.is_fragmenting_payload(), &false);
+    writes(&rt, rt.alloc(), headers, AUTHENTICATED_UDP);
+    reads_back(&rt, rt.alloc(), AUTHENTICATED_UDP);
 }
 
 #[test]
-fn longest(rt: HostRuntime) -> Result<(), Fail> {
-    let mut headers = IpHeaders::Ipv6(Ipv6Header::default(), longest_extensions());
+fn ipv6(rt: HostRuntime) {
+    let mut headers = ipv6_headers();
+    same(
+        &rt,
+        &headers.set_next_headers(IpNumber::UDP),
+        &EtherType::IPV6,
+    );
+    same(&rt, &headers.is_fragmenting_payload(), &true);
+    writes(&rt, rt.alloc(), headers, FRAGMENTED_UDP);
+    reads_back(&rt, rt.alloc(), FRAGMENTED_UDP);
+}
+
+#[test]
+fn longest(rt: HostRuntime) {
+    let mut headers = IpHeaders::Ipv6(Ipv6Header::default(), longest_extensions(&rt));
     headers.set_next_headers(IpNumber::UDP);
-    headers.set_payload_len(0)?;
+    same(&rt, &headers.set_payload_len(0), &Ok(()));
     let mut bytes = Vec::new(rt.alloc());
-    headers.write(&mut bytes)?;
-    assert!(rt; bytes.len() == IpHeaders::MAX_LEN);
-    let (read, _, payload) = IpHeaders::read_from_slice(&bytes)?;
-    assert!(rt; read == headers && payload.is_empty());
-    Ok(())
+    same(&rt, &headers.write(&mut bytes), &Ok(()));
+    same(&rt, &bytes.len(), &IpHeaders::MAX_LEN);
+    let (read, _, payload) = IpHeaders::read_from_slice(&bytes).expect(&rt, "refused");
+    same(&rt, &(read, payload), &(headers, b"".as_slice()));
 }
 
-fn assert_too_long(
+/// A length is refused: the length of what it counts, and the limit for it.
+fn too_long(
     rt: &impl Abort,
     mut headers: IpHeaders,
     len: usize,
-    error: ValueTooBigError<usize>,
+    (actual, max_allowed): (usize, usize),
+    value_type: ValueType,
 ) {
-    assert!(rt; headers.set_payload_len(len) == Err(error));
-}
-
-fn too_big(actual: usize, max_allowed: usize, value_type: ValueType) -> ValueTooBigError<usize> {
-    ValueTooBigError {
+    let error = ValueTooBigError {
         actual,
         max_allowed,
         value_type,
-    }
+    };
+    same(rt, &headers.set_payload_len(len), &Err(error));
+}
+
+#[test]
+fn lengths_of_ipv4(rt: HostRuntime) {
+    let length = ValueType::Ipv4PayloadLength;
+    let plain = IpHeaders::Ipv4(Ipv4Header::default(), Ipv4Extensions::default());
+    too_long(&rt, plain, 65516, (65516, 65515), length);
+    let (most, length) = (usize::MAX, ValueType::Ipv4PayloadLength);
+    too_long(&rt, ipv4_headers(), most, (most, 65503), length);
 }
 
 /// IPv6 with hop by hop options.
-fn extended() -> IpHeaders {
-    let hop_by_hop = Ipv6RawExtHeader::new_raw(IpNumber(59), &[1, 4, 0, 0, 0, 0]).ok();
+fn with_options() -> IpHeaders {
     let extensions = Ipv6Extensions {
-        hop_by_hop_options: hop_by_hop,
+        hop_by_hop_options: hop_by_hop(),
         ..Default::default()
     };
     IpHeaders::Ipv6(Ipv6Header::default(), extensions)
 }
 
 #[test]
-fn payload_lengths(rt: HostRuntime) {
-    let most = usize::MAX;
-    let plain = IpHeaders::Ipv4(Ipv4Header::default(), Ipv4Extensions::default());
-    assert_too_long(
-        &rt,
-        plain,
-        65516,
-        too_big(65516, 65515, ValueType::Ipv4PayloadLength),
-    );
-    assert_too_long(
-        &rt,
-        extended(),
-        65528,
-        too_big(65536, 65535, ValueType::Ipv6PayloadLength),
-    );
-    let ipv4 = ValueType::Ipv4PayloadLength;
-    let ipv6 = ValueType::Ipv6PayloadLength;
-    assert_too_long(&rt, extended(), most, too_big(most, 65527, ipv6));
-    assert_too_long(&rt, ipv4_headers(), most, too_big(most, 65503, ipv4));
+fn lengths_of_ipv6(rt: HostRuntime) {
+    let length = ValueType::Ipv6PayloadLength;
+    too_long(&rt, with_options(), 65528, (65536, 65535), length);
+    let (most, length) = (usize::MAX, ValueType::Ipv6PayloadLength);
+    too_long(&rt, with_options(), most, (most, 65527), length);
+}
+
+/// Headers that are not written leave what a vector holds.
+fn is_refused(rt: &impl Abort, alloc: Global, headers: &IpHeaders, error: HeadersWriteError) {
+    let mut bytes = vec![in alloc; 7; 3].expect(rt, "no memory");
+    same(rt, &headers.write(&mut bytes), &Err(error));
+    same(rt, &bytes.as_slice(), &[7, 7, 7].as_slice());
 }
 
 #[test]
-fn not_referenced(rt: HostRuntime) -> Result<(), Fail> {
-    let mut headers = ipv4_headers();
-    if let IpHeaders::Ipv4(header, _) = &mut headers {
-        header.protocol = IpNumber::UDP;
-    }
-    let refusal = HeadersWriteError::Ipv4Exts(ipv4_exts::ExtsWalkError::ExtNotReferenced {
-        missing_ext: IpNumber(51),
-    });
-    let mut bytes = Vec::new(rt.alloc());
-    assert!(rt; headers.write(&mut bytes) == Err(refusal));
-    Ok(())
-}
-
-fn arp_packet() -> Option<ArpPacket> {
-    let sender = [1, 2, 3, 4, 5, 6];
-    let target = [10, 11, 12, 14, 15, 16];
-    ArpPacket::new(
-        ArpHardwareId::ETHERNET,
-        EtherType::IPV4,
-        ArpOperation::REQUEST,
-        &sender,
-        &[7, 6, 8, 9],
-        &target,
-        &[17, 18, 19, 20],
-    )
-    .ok()
+fn authentication_not_referenced(rt: HostRuntime) {
+    let header = Ipv4Header {
+        protocol: IpNumber::UDP,
+        ..Default::default()
+    };
+    let auth = IpAuthHeader::new(IpNumber(255), 2, 3, &[]).ok();
+    let headers = IpHeaders::Ipv4(header, Ipv4Extensions { auth });
+    let missing_ext = IpNumber(51);
+    let error = ipv4_exts::ExtsWalkError::ExtNotReferenced { missing_ext };
+    is_refused(
+        &rt,
+        rt.alloc(),
+        &headers,
+        HeadersWriteError::Ipv4Exts(error),
+    );
 }
 
 #[test]
-fn net_headers(rt: HostRuntime) -> Result<(), Fail> {
-    let mut ipv6 = NetHeaders::from(ipv6_headers());
-    assert!(rt; ipv6.try_set_next_headers(IpNumber::UDP) == Ok(EtherType::IPV6));
-    assert!(rt; ipv6.header_len() == 56);
-    assert!(rt; ipv6.is_ip() && ipv6.ipv6_ref().is_some() && ipv6.ipv4_ref().is_none());
-    let mut ipv4 = NetHeaders::from(ipv4_headers());
-    assert!(rt; ipv4.try_set_next_headers(IpNumber::UDP) == Ok(EtherType::IPV4));
-    assert!(rt; ipv4.header_len() == 32);
-    assert!(rt; ipv4.is_ipv4() && ipv4.ipv4_ref().is_some() && ipv4.arp_ref().is_none());
-    let mut arp = NetHeaders::from(arp_packet().ok_or("the lengths fit")?);
-    let refusal = NetSetNextHeaderError::ArpHeader;
-    assert!(rt; arp.try_set_next_headers(IpNumber::UDP) == Err(refusal));
-    assert!(rt; arp.is_arp() && arp.header_len() == 28);
-    Ok(())
+fn options_not_referenced(rt: HostRuntime) {
+    let missing_ext = IpNumber(0);
+    let error = ipv6_exts::ExtsWalkError::ExtNotReferenced { missing_ext };
+    is_refused(
+        &rt,
+        rt.alloc(),
+        &with_options(),
+        HeadersWriteError::Ipv6Exts(error),
+    );
+}
+
+#[test]
+fn net_headers_of_ipv6(rt: HostRuntime) {
+    let mut net = NetHeaders::from(ipv6_headers());
+    let set = net.try_set_next_headers(IpNumber::UDP);
+    same(&rt, &(set, net.header_len()), &(Ok(EtherType::IPV6), 56));
+    let versions = (net.ipv4_ref().is_some(), net.ipv6_ref().is_some());
+    same(&rt, &(net.is_ip(), versions), &(true, (false, true)));
+}
+
+#[test]
+fn net_headers_of_ipv4(rt: HostRuntime) {
+    let mut net = NetHeaders::from(ipv4_headers());
+    let set = net.try_set_next_headers(IpNumber::UDP);
+    same(&rt, &(set, net.header_len()), &(Ok(EtherType::IPV4), 32));
+    let kinds = (net.ipv4_ref().is_some(), net.arp_ref().is_some());
+    same(&rt, &(net.is_ipv4(), kinds), &(true, (true, false)));
+}
+
+#[test]
+fn net_headers_of_arp(rt: HostRuntime) {
+    let mut net = NetHeaders::from(arp_request(&rt));
+    let refusal = Err(NetSetNextHeaderError::ArpHeader);
+    same(&rt, &net.try_set_next_headers(IpNumber::UDP), &refusal);
+    same(&rt, &(net.is_arp(), net.header_len()), &(true, 28));
 }

@@ -6,78 +6,74 @@ use crate::err::packet::SliceError;
 use crate::err::{
     Layer, LenError, ip, ip_auth, ipv4, ipv4_exts, ipv6, ipv6_exts, linux_sll, macsec, tcp,
 };
+use crate::tests::checks::shows;
 use crate::{IpNumber, LenSource};
-use std::alloc::Global;
-use std::fmt::Display;
-use std::process::Abort;
-use std::test::Fail;
 
-fn slice_errors() -> [(SliceError, &'static str); 9] {
-    let too_short = LenError {
+#[test]
+fn too_short(rt: HostRuntime) {
+    let error = SliceError::Len(LenError {
         required_len: 14,
         len: 0,
         len_source: LenSource::Slice,
         layer: Layer::Ethernet2Header,
         layer_start_offset: 0,
-    };
-    let ipv4 = ipv4::HeaderError::UnexpectedVersion { version_number: 5 };
-    let ip = ip::HeaderError::UnsupportedIpVersion { version_number: 5 };
-    let ipv6 = ipv6::HeaderError::UnexpectedVersion { version_number: 4 };
-    let sll = linux_sll::HeaderError::UnsupportedPacketTypeField { packet_type: 8 };
-    let tcp = tcp::HeaderError::DataOffsetTooSmall { data_offset: 4 };
-    let hop_by_hop = ipv6_exts::HeaderError::HopByHopNotAtStart;
-    [
-        (
-            SliceError::Len(too_short),
-            "Ethernet2Header: 14 bytes needed, 0 there (limit Slice, offset 0)",
-        ),
-        (SliceError::Ipv4(ipv4), "UnexpectedVersion 5"),
-        (SliceError::Ip(ip), "UnsupportedIpVersion 5"),
-        (SliceError::Ipv6(ipv6), "UnexpectedVersion 4"),
-        (SliceError::Ipv6Exts(hop_by_hop), "HopByHopNotAtStart"),
-        (SliceError::LinuxSll(sll), "UnsupportedPacketTypeField 8"),
-        (
-            SliceError::Macsec(macsec::HeaderError::UnexpectedVersion),
-            "UnexpectedVersion",
-        ),
-        (SliceError::Tcp(tcp), "DataOffsetTooSmall 4"),
-        (
-            SliceError::Ipv4Exts(ip_auth::HeaderError::ZeroPayloadLen),
-            "ZeroPayloadLen",
-        ),
-    ]
-}
-
-fn write_errors() -> [(HeadersWriteError, &'static str); 3] {
-    let missing = ipv4_exts::ExtsWalkError::ExtNotReferenced {
-        missing_ext: IpNumber(51),
-    };
-    let hop_by_hop = ipv6_exts::ExtsWalkError::HopByHopNotAtStart;
-    [
-        (HeadersWriteError::OutOfMemory, "out of memory"),
-        (HeadersWriteError::Ipv4Exts(missing), "ExtNotReferenced 51"),
-        (
-            HeadersWriteError::Ipv6Exts(hop_by_hop),
-            "HopByHopNotAtStart",
-        ),
-    ]
-}
-
-fn assert_texts<E: Display>(
-    rt: &impl Abort,
-    alloc: Global,
-    rows: &[(E, &'static str)],
-) -> Result<(), Fail> {
-    for (error, text) in rows {
-        assert_eq!(rt; error.to_string(alloc)?.as_str(), *text);
-    }
-    Ok(())
+    });
+    let text = "Ethernet2Header: 14 bytes needed, 0 there (limit Slice, offset 0)";
+    shows(&rt, rt.alloc(), &error, text);
 }
 
 #[test]
-fn texts(rt: HostRuntime) -> Result<(), Fail> {
-    assert_texts(&rt, rt.alloc(), &slice_errors())?;
-    assert_texts(&rt, rt.alloc(), &write_errors())?;
-    let arp = "It is not possible to set the payload 'IP number' for an ARP header.";
-    assert_texts(&rt, rt.alloc(), &[(NetSetNextHeaderError::ArpHeader, arp)])
+fn errors_of_links(rt: HostRuntime) {
+    let alloc = rt.alloc();
+    let sll = linux_sll::HeaderError::UnsupportedPacketTypeField { packet_type: 8 };
+    let text = "UnsupportedPacketTypeField 8";
+    shows(&rt, alloc, &SliceError::LinuxSll(sll), text);
+    let macsec = macsec::HeaderError::UnexpectedVersion;
+    shows(&rt, alloc, &SliceError::Macsec(macsec), "UnexpectedVersion");
+}
+
+#[test]
+fn errors_of_versions(rt: HostRuntime) {
+    let alloc = rt.alloc();
+    let ip = ip::HeaderError::UnsupportedIpVersion { version_number: 5 };
+    shows(&rt, alloc, &SliceError::Ip(ip), "UnsupportedIpVersion 5");
+    let ipv4 = ipv4::HeaderError::UnexpectedVersion { version_number: 5 };
+    shows(&rt, alloc, &SliceError::Ipv4(ipv4), "UnexpectedVersion 5");
+    let ipv6 = ipv6::HeaderError::UnexpectedVersion { version_number: 4 };
+    shows(&rt, alloc, &SliceError::Ipv6(ipv6), "UnexpectedVersion 4");
+}
+
+#[test]
+fn errors_behind_ip(rt: HostRuntime) {
+    let alloc = rt.alloc();
+    let zero = ip_auth::HeaderError::ZeroPayloadLen;
+    shows(&rt, alloc, &SliceError::Ipv4Exts(zero), "ZeroPayloadLen");
+    let hop_by_hop = ipv6_exts::HeaderError::HopByHopNotAtStart;
+    shows(
+        &rt,
+        alloc,
+        &SliceError::Ipv6Exts(hop_by_hop),
+        "HopByHopNotAtStart",
+    );
+    let tcp = tcp::HeaderError::DataOffsetTooSmall { data_offset: 4 };
+    shows(&rt, alloc, &SliceError::Tcp(tcp), "DataOffsetTooSmall 4");
+}
+
+#[test]
+fn errors_of_writing(rt: HostRuntime) {
+    let alloc = rt.alloc();
+    shows(&rt, alloc, &HeadersWriteError::OutOfMemory, "out of memory");
+    let missing_ext = IpNumber(51);
+    let missing = ipv4_exts::ExtsWalkError::ExtNotReferenced { missing_ext };
+    let error = HeadersWriteError::Ipv4Exts(missing);
+    shows(&rt, alloc, &error, "ExtNotReferenced 51");
+    let hop_by_hop = ipv6_exts::ExtsWalkError::HopByHopNotAtStart;
+    let error = HeadersWriteError::Ipv6Exts(hop_by_hop);
+    shows(&rt, alloc, &error, "HopByHopNotAtStart");
+}
+
+#[test]
+fn number_of_arp(rt: HostRuntime) {
+    let text = "It is not possible to set the payload 'IP number' for an ARP header.";
+    shows(&rt, rt.alloc(), &NetSetNextHeaderError::ArpHeader, text);
 }

@@ -1,0 +1,134 @@
+//! Packets and headers of many tests.
+
+use crate::*;
+use std::process::Abort;
+
+/// The payload of most packets.
+pub const PAYLOAD: &[u8] = &[1, 2, 3, 4, 5, 6, 7, 8];
+
+/// An Ethernet II frame with the UDP payload 1 to 8 (192.168.1.1, port 21 to 192.168.1.2, port 1234).
+pub const FRAME: &[u8] =
+    b"\x07\x08\x09\x0a\x0b\x0c\x01\x02\x03\x04\x05\x06\x08\x00\x45\x00\x00\x24\x00\x00\x40\x00\x14\x11\xe3\x75\xc0\xa8\x01\x01\xc0\xa8\x01\x02\x00\x15\x04\xd2\x00\x10\x67\x7f\x01\x02\x03\x04\x05\x06\x07\x08";
+
+/// An ARP packet over Ethernet and IPv4.
+pub const ARP: &[u8] =
+    b"\x00\x01\x08\x00\x06\x04\x00\x01\x01\x02\x03\x04\x05\x06\x07\x06\x08\x09\x0a\x0b\x0c\x0e\x0f\x10\x11\x12\x13\x14";
+
+/// Three VLAN tags behind the type of a first one.
+pub const FOUR_TAGS: &[u8] = b"\x00\x01\x81\x00\x00\x02\x81\x00\x00\x03\x81\x00\x00\x04\x08\x00";
+
+/// A MACsec tag whose short length cuts the payload, and a VLAN tag in it.
+pub const TAG_IN_MACSEC: &[u8] =
+    b"\x00\x08\x00\x00\x00\x01\x81\x00\x00\x07\x12\x34\x01\x02\xff\xff";
+
+/// A MACsec tag whose payload is modified, and a byte that its short length cuts off.
+pub const MODIFIED: &[u8] = b"\x0c\x03\x00\x00\x00\x00\xaa\xbb\xcc\xdd";
+
+/// An IPv4 packet with an authentication header in front of four bytes of the number 59.
+pub const AUTHENTICATED: &[u8] =
+    b"\x45\x00\x00\x24\x00\x00\x00\x00\x40\x33\x00\x00\xc0\xa8\x01\x01\xc0\xa8\x01\x02\x3b\x01\x00\x00\x00\x00\x00\x02\x00\x00\x00\x03\x01\x02\x03\x04";
+
+/// An IPv6 packet whose payload, of the number 59, takes all bytes behind the header.
+pub const OPEN_LENGTH: &[u8] =
+    b"\x60\x00\x00\x00\x00\x00\x3b\x40\0\0\0\0\0\0\0\0\0\0\0\0\0\0\0\0\0\0\0\0\0\0\0\0\0\0\0\0\0\0\0\0\x01\x02\x03\x04";
+
+/// An IPv6 packet with two fragment headers, of which the second alone says that it carries a fragment.
+pub const FRAGMENT_TWICE: &[u8] =
+    b"\x60\x00\x00\x00\x00\x18\x2c\x40\0\0\0\0\0\0\0\0\0\0\0\0\0\0\0\0\0\0\0\0\0\0\0\0\0\0\0\0\0\0\0\0\x2c\x00\x00\x00\x00\x00\x00\x01\x11\x00\x00\x01\x00\x00\x00\x02\x00\x01\x02\x03\x04\x05\x06\x07";
+
+/// A cooked capture of Netlink, whose protocol is no ether type.
+pub const NETLINK: &[u8] =
+    b"\x00\x00\x03\x38\x00\x00\x00\x00\x00\x00\x00\x00\x00\x00\x00\x10\x01\x02";
+
+/// The first 16 bytes of the payload 0 to 23, and the last 8, as fragments of IPv4, of a number for experiments.
+pub const FIRST_IPV4: &[u8] =
+    b"\x45\x00\x00\x24\x00\x07\x20\x00\x40\xfd\xd6\x82\xc0\xa8\x01\x01\xc0\xa8\x01\x02\x00\x01\x02\x03\x04\x05\x06\x07\x08\x09\x0a\x0b\x0c\x0d\x0e\x0f";
+
+pub const LAST_IPV4: &[u8] =
+    b"\x45\x00\x00\x1c\x00\x07\x00\x02\x40\xfd\xf6\x88\xc0\xa8\x01\x01\xc0\xa8\x01\x02\x10\x11\x12\x13\x14\x15\x16\x17";
+
+/// Both halves of the payload 0 to 15, as fragments of IPv6, of UDP.
+pub const FIRST_IPV6: &[u8] =
+    b"\x60\x00\x00\x00\x00\x10\x2c\x40\0\0\0\0\0\0\0\0\0\0\0\0\0\0\0\0\0\0\0\0\0\0\0\0\0\0\0\0\0\0\0\0\x11\x00\x00\x01\x00\x00\x00\x07\x00\x01\x02\x03\x04\x05\x06\x07";
+
+pub const LAST_IPV6: &[u8] =
+    b"\x60\x00\x00\x00\x00\x10\x2c\x40\0\0\0\0\0\0\0\0\0\0\0\0\0\0\0\0\0\0\0\0\0\0\0\0\0\0\0\0\0\0\0\0\x11\x00\x00\x08\x00\x00\x00\x07\x08\x09\x0a\x0b\x0c\x0d\x0e\x0f";
+
+/// The value of the ARP packet.
+pub fn arp_request(rt: &impl Abort) -> ArpPacket {
+    let packet = ArpPacket::new(
+        ArpHardwareId::ETHERNET,
+        EtherType::IPV4,
+        ArpOperation::REQUEST,
+        &[1, 2, 3, 4, 5, 6],
+        &[7, 6, 8, 9],
+        &[10, 11, 12, 14, 15, 16],
+        &[17, 18, 19, 20],
+    );
+    packet.expect(rt, "the lengths fit")
+}
+
+/// The longest extension header, with no number set.
+fn longest_header(rt: &impl Abort) -> Ipv6RawExtHeader {
+    Ipv6RawExtHeader::new_raw(IpNumber(255), &[8; 2046]).expect(rt, "of 2048 bytes")
+}
+
+/// The longest authentication header, with no number set.
+pub fn longest_auth(rt: &impl Abort) -> IpAuthHeader {
+    IpAuthHeader::new(IpNumber(255), 2, 3, &[7; 1016]).expect(rt, "of 1028 bytes")
+}
+
+/// An extension header of each kind, each as long as it can be, with no number set.
+pub fn longest_extensions(rt: &impl Abort) -> Ipv6Extensions {
+    let routing = Ipv6RoutingExtensions {
+        routing: longest_header(rt),
+        final_destination_options: Some(longest_header(rt)),
+    };
+    let fragment = Ipv6FragmentHeader {
+        next_header: IpNumber(255),
+        fragment_offset: IpFragOffset::ZERO,
+        more_fragments: true,
+        identification: 9,
+    };
+    Ipv6Extensions {
+        hop_by_hop_options: Some(longest_header(rt)),
+        destination_options: Some(longest_header(rt)),
+        routing: Some(routing),
+        fragment: Some(fragment),
+        auth: Some(longest_auth(rt)),
+    }
+}
+
+/// The headers of a fragment of IPv4, whose offset is in units of 8 bytes.
+pub fn ipv4_fragment(rt: &impl Abort, offset: u16, more_fragments: bool) -> IpHeaders {
+    let header = Ipv4Header {
+        identification: 7,
+        dont_fragment: false,
+        more_fragments,
+        fragment_offset: IpFragOffset::try_new(offset).expect(rt, "above 8191"),
+        time_to_live: 64,
+        source: [192, 168, 1, 1],
+        destination: [192, 168, 1, 2],
+        ..Default::default()
+    };
+    IpHeaders::Ipv4(header, Ipv4Extensions::default())
+}
+
+/// The same of IPv6, from and to the unspecified address.
+pub fn ipv6_fragment(rt: &impl Abort, offset: u16, more_fragments: bool) -> IpHeaders {
+    let header = Ipv6Header {
+        hop_limit: 64,
+        ..Default::default()
+    };
+    let fragment = Ipv6FragmentHeader {
+        next_header: IpNumber(255),
+        fragment_offset: IpFragOffset::try_new(offset).expect(rt, "above 8191"),
+        more_fragments,
+        identification: 7,
+    };
+    let extensions = Ipv6Extensions {
+        fragment: Some(fragment),
+        ..Default::default()
+    };
+    IpHeaders::Ipv6(header, extensions)
+}
