@@ -4,7 +4,7 @@ use crate::checks::{appends, clones, same};
 use ep_transport::icmpv4::TimestampMessage;
 use ep_transport::{
     IcmpEchoHeader, Icmpv4Header, Icmpv4Slice, Icmpv4Type, Icmpv6Header, Icmpv6Slice, Icmpv6Type,
-    Layer, LenError, LenSource,
+    Layer, LenError, LenSource, TransportHeader,
 };
 use std::process::Abort;
 
@@ -88,6 +88,12 @@ fn writes_a_reply(rt: HostRuntime) {
         &Icmpv4Header::from_slice(REPLY),
         &Ok((header, b"".as_slice())),
     );
+}
+
+#[test]
+fn writes_a_reply_as_a_layer(rt: HostRuntime) {
+    let (header, _) = Icmpv4Header::from_slice(REPLY).expect(&rt, "refused");
+    appends(&rt, rt.alloc(), &TransportHeader::Icmpv4(header), REPLY);
 }
 
 #[test]
