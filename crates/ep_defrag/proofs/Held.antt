@@ -1,18 +1,19 @@
 -- What a buffer holds, before and after a fragment.
-use Rattle.std.proofs.Common.{◌≡◌, ℕ, ◌≤◌, length, List, ◌∷◌, [], ◌++◌, Bool, true, false, cond, ◌||◌, ◌&&◌, ◌↔◌, Option, Some, None, is_some, sym, ◌∙◌, subst, ap, refl, arith, inl, inr}
+use Rattle.std.proofs.Common.{◌≡◌, ℕ, ◌≤◌, length, List, ◌∷◌, [], ◌++◌, Bool, true, false, ◌||◌, ◌&&◌, ◌↔◌, Option, Some, None, is_some, sym, ◌∙◌, subst, ap, refl, arith, inl, inr}
 use Rattle.std.specs.List.{All, list_any}
 use Rattle.std.specs.List.Sorted.{IsPermutation}
 use Rattle.std.specs.Option.{option_or}
 use Rattle.std.proofs.lemmas.Bool.{cases_Bool, false≢true, or_cases, or_left, or_right}
-use Rattle.std.proofs.lemmas.List.Elements.{recursion_from_All}
-use Rattle.std.proofs.lemmas.List.Sorted.{list_any-IsPermutation, All-permutation, sum_by-IsPermutation, IsPermutation-sym}
+use Rattle.std.proofs.lemmas.List.Elements.{recursion_from_All, All-from_recursion}
+use Rattle.std.proofs.lemmas.List.Sorted.{list_any-IsPermutation}
 use Rattle.ep_defrag.specs.declared.ip_defrag_buf.IpDefragBuf.{IpDefragBuf}
 use Rattle.ep_defrag.specs.declared.ip_frag_range.IpFragRange.{IpFragRange}
 use Rattle.ep_defrag.specs.Ranges.{has_byte, touches, merges}
 use Rattle.ep_defrag.specs.Fragments.{IpFragment, fragment_end, range_of, covers, end_of, IsComplete}
 use Rattle.ep_defrag.specs.Refusals.{Fits, IsInPlace}
 use Rattle.ep_defrag.specs.Buffers.{HoldsFragments, data_of, sections_of, known_end_of, data_after, end_after, sections_after, is_whole}
-use Rattle.ep_defrag.proofs.Sections.{IsOrdered, merges-from_point, touches-hull, has_byte-hull, test-sections_after, ordered_after, apart_after}
+use Rattle.ep_defrag.proofs.Sections.{IsOrdered, merges-from_point, touches-hull, has_byte-hull, test-sections_after}
+use Rattle.ep_defrag.proofs.Apart.{from_apart, ordered_from, at_most_one}
 use Rattle.ep_defrag.proofs.Data.{FitAfter-push, FitsAt, fits_at, agrees_with, assembled-push, is_covered-push, is_touched-push, end_of-push, own_end}
 use Rattle.ep_defrag.proofs.Complete.{complete_by_sections}
 
@@ -56,6 +57,7 @@ HoldsFragments-push old new fragments fragment held fits data_now sections_now e
     let ordered : IsOrdered range = omega arith in
     let all = recursion_from_All IsOrdered sections held.ordered in
     let after = sections_after range sections in
+    let in_order = from_apart (sections_of new) new.in_order in
     record {
       in_turn = FitAfter-push [] fragments fragment held.in_turn fits;
       contents =
@@ -67,13 +69,8 @@ HoldsFragments-push old new fragments fragment held fits data_now sections_now e
           ∙ ap (λ known. end_after known fragment) held.end
           ∙ end_after-fits (end_of fragments) fragment (fits_at (end_of fragments) fragment fits)
           ∙ sym (end_of-push fragments fragment);
-      ordered = All-permutation IsOrdered after (sections_of new)
-          (IsPermutation-sym (sections_of new) after sections_now) (ordered_after range ordered sections all);
-      apart = λ position. omega (
-        arith,
-        sum_by-IsPermutation (λ section. cond (touches position section) 1 0) (sections_of new) after sections_now,
-        apart_after range ordered sections all position (held.apart position),
-      );
+      ordered = All-from_recursion IsOrdered (sections_of new) (ordered_from 0 (sections_of new) in_order);
+      apart = λ position. at_most_one position 0 (sections_of new) in_order;
       bytes = λ position.
           list_any-IsPermutation (has_byte position) (sections_of new) after sections_now
           ∙ test-sections_after (has_byte position) (has_byte-hull position) range ordered sections all

@@ -1,9 +1,12 @@
 mod Lists
 mod Sections
+mod Apart
+mod Joining
 mod Data
 mod Writing
 mod Complete
 mod Held
+mod Equal
 mod Cuts
 mod Runs
 mod Lookups

@@ -1,6 +1,6 @@
 -- What a buffer shows, and the list of fragments that it holds.
-use Rattle.std.specs.Prelude.{◌≡◌, ℕ, ◌+◌, ◌-◌, ◌≤◌, Bool, false, not, ◌==◌, Option, Some, List, [], ◌∷◌, ◌++◌, length, take, drop, replicate, if◌then◌else◌}
-use Rattle.std.specs.List.{All, list_any, count_by, filter, fold}
+use Rattle.std.specs.Prelude.{◌≡◌, ℕ, ◌+◌, ◌-◌, ◌<◌, ◌≤◌, Bool, false, not, ◌==◌, Option, Some, List, [], ◌∷◌, ◌++◌, length, take, drop, replicate, if◌then◌else◌}
+use Rattle.std.specs.List.{All, AllWithin, list_any, count_by, filter, fold}
 use Rattle.ep_base.specs.declared.ip_number.IpNumber.{IpNumber}
 use Rattle.ep_defrag.specs.declared.ip_frag_range.IpFragRange.{IpFragRange}
 use Rattle.ep_defrag.specs.declared.ip_defrag_buf.IpDefragBuf.{IpDefragBuf}
@@ -54,6 +54,15 @@ union_of range sections = fold hull range (filter (merges range) sections)
 
 abbrev pub sections_after : IpFragRange → List IpFragRange → List IpFragRange
 sections_after range sections = union_of range sections ∷ filter (λ section. not (merges range section)) sections
+
+-- The sections that share a point with a range are those from one place on and before another; the earlier ones end
+-- before its start, and the later ones start behind its end.
+pub record AreNeighbours (range : IpFragRange) (sections : List IpFragRange) (from to : ℕ) : Type 0 where
+  pub order : from ≤ to
+  pub within : to ≤ length sections
+  pub earlier : AllWithin (λ section. section.end < range.start) sections 0 from
+  pub between : AllWithin (λ section. (range.start ≤ section.end) × (section.start ≤ range.end)) sections from to
+  pub later : AllWithin (λ section. range.end < section.start) sections to (length sections)
 
 -- there is one section, and it starts at 0
 abbrev pub is_whole : List IpFragRange → Bool

@@ -1,5 +1,5 @@
 -- Fragments of one IP payload, and what a list of accepted ones says of it. A list is in the order of acceptance.
-use Rattle.std.specs.Prelude.{ℕ, ◌+◌, ◌-◌, ◌*◌, max, Bool, not, ◌&&◌, IsTrue, if◌then◌else◌, Option, Some, None, is_some, unwrap_or, List, [], ◌∷◌, length, map, slice_index}
+use Rattle.std.specs.Prelude.{◌≡◌, ℕ, ◌+◌, ◌-◌, ◌*◌, max, Bool, not, ◌&&◌, IsTrue, if◌then◌else◌, Option, Some, None, is_some, unwrap_or, List, [], ◌∷◌, length, map, slice_index}
 use Rattle.std.specs.List.{list_any, list_all, range_with_len}
 use Rattle.ep_defrag.specs.declared.ip_frag_range.IpFragRange.{IpFragRange}
 use Rattle.ep_defrag.specs.Ranges.{has_byte, touches}
@@ -75,3 +75,13 @@ is_complete fragments =
 
 abbrev pub IsComplete : List IpFragment → Type 0
 IsComplete fragments = IsTrue (is_complete fragments)
+
+-- Two lists of fragments fill the same positions, with the same bytes, and say the same known end.
+pub record FillAlike (fragments others : List IpFragment) : Type 0 where
+  pub covered : (position : ℕ) → is_covered fragments position ≡ is_covered others position
+  pub contents : assembled fragments ≡ assembled others
+  pub end : end_of fragments ≡ end_of others
+
+-- they touch the same positions
+abbrev pub TouchAlike : List IpFragment → List IpFragment → Type 0
+TouchAlike fragments others = (position : ℕ) → is_touched fragments position ≡ is_touched others position

@@ -1,5 +1,5 @@
 -- Ranges of positions in a payload.
-use Rattle.std.specs.Prelude.{ℕ, min, max, Bool, ◌&&◌, ◌||◌, nat_le, nat_lt, IsTrue, if◌then◌else◌, Option, Some, None}
+use Rattle.std.specs.Prelude.{ℕ, min, max, Bool, true, ◌&&◌, ◌||◌, nat_le, nat_lt, IsTrue, if◌then◌else◌, Option, Some, None, List, [], ◌∷◌}
 use Rattle.ep_defrag.specs.declared.ip_frag_range.IpFragRange.{IpFragRange}
 
 -- whether the position is one of the range, from its start on and below its end
@@ -25,3 +25,14 @@ merge_of a b = if merges a b then Some (hull a b) else None
 -- some position touches both
 abbrev pub SharePoint : IpFragRange → IpFragRange → Type 0
 SharePoint a b = (position : ℕ) × IsTrue (touches position a) × IsTrue (touches position b)
+
+-- Ranges that stand apart, in their order: none is reversed, and each start is above the end of the range before it. So
+-- no position touches two of them.
+abbrev pub are_apart : List IpFragRange → Bool
+are_apart [] = true
+are_apart (range ∷ []) = nat_le range.start range.end
+are_apart (range ∷ next ∷ later) =
+    nat_le range.start range.end && nat_lt range.end next.start && are_apart (next ∷ later)
+
+abbrev pub AreApart : List IpFragRange → Type 0
+AreApart ranges = IsTrue (are_apart ranges)

@@ -1,16 +1,16 @@
 //! The buffer that puts one payload together.
 
-ghost use Rattle.std.specs.Prelude.{◌≡◌, ◌≢◌, ◌↔◌, ◌⊎◌, ℕ, ◌+◌, ◌<◌, ◌≤◌, List, [], ◌∷◌, ◌++◌, length, if◌then◌else◌, not, ◌&&◌, is_some, IsTrue, IsFalse, IfOk, IfErr, OnOk, OnErr, IsOk, MatchResult, MatchOption, None, Some, Err, vec_len, vec_capacity};
-ghost use Rattle.std.specs.List.{list_any, Any, position, filter};
+ghost use Rattle.std.specs.Prelude.{◌≡◌, ◌≢◌, ◌↔◌, ◌⊎◌, ℕ, ◌+◌, ◌<◌, ◌≤◌, List, [], ◌∷◌, ◌++◌, length, if◌then◌else◌, ◌&&◌, is_some, IsTrue, IfOk, IfErr, OnOk, OnErr, IsOk, MatchResult, MatchOption, None, Some, Err, vec_len, vec_capacity};
+ghost use Rattle.std.specs.List.{list_any, Any};
 ghost use Rattle.std.specs.List.Sorted.{IsPermutation};
-ghost use Rattle.ep_defrag.specs.Ranges.{merges, SharePoint};
+ghost use Rattle.ep_defrag.specs.Ranges.{merges, SharePoint, AreApart};
 ghost use Rattle.ep_defrag.specs.Fragments.{IpFragment, fragment_with, fragment_end, range_of, IsComplete};
 ghost use Rattle.ep_defrag.specs.Refusals.{Fits, RefusesFragment, MayNeedMemory, refusal_at};
-ghost use Rattle.ep_defrag.specs.Buffers.{ip_number_of, data_of, sections_of, known_end_of, IsUnchanged, HoldsFragments, extended, overwritten, data_after, data_with, end_after, union_of, sections_after, is_whole};
-ghost use Rattle.ep_defrag.specs.Rooms.{data_room_of, sections_room_of, KeepsRoom};
 
 use crate::MAX_IP_DEFRAG_LEN_U16;
+use crate::ip_defrag_bytes::put;
 use crate::ip_defrag_error::IpDefragError;
+use crate::ip_defrag_sections::{is_whole, join, neighbours};
 use crate::ip_frag_range::IpFragRange;
 use ep_base::{IpFragOffset, IpNumber};
 use std::alloc::AllocError;
@@ -21,13 +21,17 @@ pub struct IpDefragBuf {
     ip_number: IpNumber,
     /// The bytes put together so far.
     bytes: Vec<u8>,
-    /// What is filled of the payload: ranges that don't touch.
+    /// What is filled of the payload.
     sections: Vec<IpFragRange>,
     /// Where the payload ends, once a final fragment came.
     end: Option<u16>,
+    ghost in_order: { AreApart sections.items },
 }
 
 impl IpDefragBuf {
+    ghost use Rattle.ep_defrag.specs.Buffers.{ip_number_of, data_of, sections_of, known_end_of, IsUnchanged, HoldsFragments, data_after, data_with, end_after, sections_after, is_whole};
+    ghost use Rattle.ep_defrag.specs.Rooms.{data_room_of, sections_room_of, KeepsRoom};
+
     /// A new buffer for a payload of this kind. It uses the memory of both vectors, whatever they hold.
     pub fn new(
         ip_number: IpNumber,
@@ -68,10 +72,11 @@ impl IpDefragBuf {
         &self.bytes
     }
 
-    /// What is filled of the payload: ranges that don't touch, in no promised order.
+    /// What is filled of the payload: ranges in order, each of which starts above the end of the one before it.
     #[inline]
     pub fn sections(&self) -> &Vec<IpFragRange>
-        ensures { result.now.items ≡ sections_of self.now }
+        ensures shown { result.now.items ≡ sections_of self.now }
+        ensures apart { AreApart result.now.items }
     {
         &self.sections
     }
@@ -200,22 +205,18 @@ impl IpDefragBuf {
         ensures in_place { range.end ≤ length (data_of self.old) →
             IsTrue (list_any (merges range) (sections_of self.old)) → IsOk result }
     {
-        make_room(&mut self.bytes, &mut self.sections, range)?;
+        let near = neighbours(&self.sections, range);
+        self.sections.reserve(usize::from(near.is_empty()))?;
+        self.bytes
+            .reserve(usize::from(range.end).saturating_sub(self.bytes.len()))?;
         put(&mut self.bytes, range, payload);
-        join_section(&mut self.sections, range);
+        join(&mut self.sections, range, near);
         if !more_fragments {
             self.bytes.truncate(usize::from(range.end));
             self.end = Some(range.end);
         }
         Ok(())
     }
-}
-
-/// Whether the end is known, and there is one section, which starts at 0.
-fn is_whole(end: Option<u16>, sections: &[IpFragRange]) -> bool
-    ensures { result ≡ (is_some end && is_whole sections.now) }
-{
-    end.is_some() && matches!(sections, [section] if section.start == 0)
 }
 
 /// The range that a fragment fills, where it fits a payload whose end is known or not.
@@ -262,114 +263,4 @@ fn end_within_limit(start: u16, payload_len: usize) -> Option<u16>
     ensures { MatchOption result (65535 < start + payload_len) (λ end. (end ≡ start + payload_len) × (end ≤ 65535)) }
 {
     start.checked_add(u16::try_from(payload_len).ok()?)
-}
-
-/// Takes the memory that a range needs.
-fn make_room(
-    bytes: &mut Vec<u8>,
-    sections: &mut Vec<IpFragRange>,
-    range: IpFragRange,
-) -> Result<(), AllocError>
-    ensures bytes { bytes.new.items ≡ bytes.old.items }
-    ensures bytes_room { OnOk result (range.end ≤ vec_capacity bytes.new) }
-    ensures bytes_capacity { vec_capacity bytes.old ≤ vec_capacity bytes.new }
-    ensures sections { sections.new.items ≡ sections.old.items }
-    ensures sections_capacity { vec_capacity sections.old ≤ vec_capacity sections.new }
-    ensures sections_room { OnOk result
-        (IsFalse (list_any (merges range) sections.old.items) → vec_len sections.new < vec_capacity sections.new) }
-    ensures in_place { range.end ≤ vec_len bytes.old →
-        IsTrue (list_any (merges range) sections.old.items) → IsOk result }
-{
-    if !any_merging(sections.as_slice(), range) {
-        sections.reserve(1)?;
-    }
-    bytes.reserve(usize::from(range.end).saturating_sub(bytes.len()))
-}
-
-/// Puts a fragment's bytes on its range, behind zeros where the data ends before it. No byte is written twice.
-fn put(bytes: &mut Vec<u8>, range: IpFragRange, payload: &[u8])
-    requires len { range.end ≡ range.start + length payload.now }
-    requires room { range.end ≤ vec_capacity bytes.old }
-    ensures items { bytes.new.items ≡ overwritten (extended bytes.old.items range.end) range.start payload.now }
-    ensures capacity { vec_capacity bytes.old ≤ vec_capacity bytes.new }
-{
-    let start = usize::from(range.start);
-    fill_gap(bytes, start);
-    let (within, behind) = payload.split_at(payload.len().min(bytes.len() - start));
-    bytes.extend_from_slice(behind).unwrap();
-    overwrite(bytes, start, within);
-}
-
-/// Extends the bytes with zeros up to `start`.
-fn fill_gap(bytes: &mut Vec<u8>, start: usize)
-    requires { start ≤ vec_capacity bytes.old }
-    ensures items { bytes.new.items ≡ extended bytes.old.items start }
-    ensures capacity { vec_capacity bytes.old ≤ vec_capacity bytes.new }
-{
-    if bytes.len() < start {
-        bytes.resize(start, 0).unwrap();
-    }
-}
-
-/// Puts a part of a fragment's bytes on those that begin at `start`. In a stream in order that is no part, for which
-/// the copy would cost a call.
-fn overwrite(bytes: &mut Vec<u8>, start: usize, part: &[u8])
-    requires { start + length part.now ≤ vec_len bytes.old }
-    ensures items { bytes.new.items ≡ overwritten bytes.old.items start part.now }
-    ensures capacity { vec_capacity bytes.new ≡ vec_capacity bytes.old }
-{
-    if part.is_empty() {
-        return;
-    }
-    bytes[start..start + part.len()].copy_from_slice(part);
-}
-
-/// The range and the sections that merge with it, as one.
-fn union_of(sections: &[IpFragRange], range: IpFragRange) -> IpFragRange
-    ensures { result ≡ union_of range sections.now }
-{
-    sections
-        .iter()
-        .filter(|section| range.merges_with(**section))
-        .fold(range, |union, section| union.hull(*section))
-}
-
-/// Whether a section merges with the range.
-fn any_merging(sections: &[IpFragRange], range: IpFragRange) -> bool
-    ensures { result ≡ list_any (merges range) sections.now }
-{
-    sections.iter().any(|section| range.merges_with(*section))
-}
-
-/// The first section that merges with the range.
-fn first_merging(sections: &[IpFragRange], range: IpFragRange) -> Option<usize>
-    ensures { result ≡ position (merges range) sections.now }
-{
-    sections
-        .iter()
-        .position(|section| range.merges_with(*section))
-}
-
-/// Leaves the sections that don't merge with the range.
-fn remove_merging(sections: &mut Vec<IpFragRange>, range: IpFragRange)
-    ensures items { sections.new.items ≡ filter (λ section. not (merges range section)) sections.old.items }
-    ensures capacity { vec_capacity sections.new ≡ vec_capacity sections.old }
-{
-    sections.retain(|section| !range.merges_with(*section));
-}
-
-/// Lets a range join the sections: the first that merges with it becomes their union, the others that merge go.
-fn join_section(sections: &mut Vec<IpFragRange>, range: IpFragRange)
-    requires { IsFalse (list_any (merges range) sections.old.items) → vec_len sections.old < vec_capacity sections.old }
-    ensures items { IsPermutation sections.new.items (sections_after range sections.old.items) }
-    ensures capacity { vec_capacity sections.old ≤ vec_capacity sections.new }
-{
-    match first_merging(sections.as_slice(), range) {
-        None => sections.push(range).unwrap(),
-        Some(first) => {
-            let union = union_of(sections.as_slice(), range);
-            remove_merging(sections, range);
-            sections.insert(first, union).unwrap();
-        }
-    }
 }

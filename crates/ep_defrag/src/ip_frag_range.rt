@@ -21,7 +21,7 @@ impl IpFragRange {
     }
 
     /// Whether `merge` makes one range of both.
-    pub(crate) fn merges_with(&self, other: IpFragRange) -> bool
+    fn merges_with(&self, other: IpFragRange) -> bool
         ensures { result ≡ merges self.now other }
     {
         self.touches(other.start)

@@ -4,10 +4,10 @@ ghost use Rattle.std.specs.Prelude.{◌≡◌, ◌↔◌, ◌⊎◌, ℕ, ◌%�
 ghost use Rattle.std.specs.List.{All, Any};
 ghost use Rattle.ep_defrag.specs.declared.TheConstants as constant;
 ghost use Rattle.ep_defrag.specs.Ranges.{touches, merge_of, SharePoint};
-ghost use Rattle.ep_defrag.specs.Fragments.{IpFragment, is_final, IsCovered, assembled, IsComplete};
+ghost use Rattle.ep_defrag.specs.Fragments.{IpFragment, is_final, IsCovered, assembled, IsComplete, FillAlike, TouchAlike};
 ghost use Rattle.ep_defrag.specs.Refusals.{Fits};
 ghost use Rattle.ep_defrag.specs.Cuts.{IsCut};
-ghost use Rattle.ep_defrag.specs.Buffers.{IsUnchanged};
+ghost use Rattle.ep_defrag.specs.Buffers.{IsUnchanged, ip_number_of, HoldsFragments};
 ghost use Rattle.ep_defrag.specs.Comparisons.{range_cmp, buffer_cmp, error_cmp};
 ghost use Rattle.ep_defrag.specs.Streams.{same_stream};
 ghost use Rattle.ep_defrag.specs.Calls.{Call, calls_of, answers_to};
@@ -118,6 +118,21 @@ pub fn comparisons()
     ensures buffers { (a b : IpDefragBuf) → ⟦<IpDefragBuf as Ord>⟧.cmp a b ≡ buffer_cmp a b }
     ensures errors { (a b : IpDefragError) → ⟦<IpDefragError as Ord>⟧.cmp a b ≡ error_cmp a b }
 {}
+
+/// Two buffers of one number that hold lists of fragments are equal exactly where the lists fill the same positions with
+/// the same bytes, say the same known end, and touch the same positions: however they were filled. Of lists without
+/// empty fragments touching need not be asked.
+pub fn equal_buffers()
+    ensures held { (a b : IpDefragBuf) (fragments others : List IpFragment) → ip_number_of a ≡ ip_number_of b →
+        HoldsFragments a fragments → HoldsFragments b others →
+        IsTrue (⟦<IpDefragBuf as PartialEq>⟧.eq a b) ↔ (FillAlike fragments others × TouchAlike fragments others) }
+    ensures not_empty { (a b : IpDefragBuf) (fragments others : List IpFragment) → ip_number_of a ≡ ip_number_of b →
+        HoldsFragments a fragments → HoldsFragments b others →
+        All (λ fragment. 0 < length fragment.bytes) fragments → All (λ fragment. 0 < length fragment.bytes) others →
+        IsTrue (⟦<IpDefragBuf as PartialEq>⟧.eq a b) ↔ FillAlike fragments others }
+{
+    comparisons();
+}
 
 /// A clone equals its source.
 pub fn clones()

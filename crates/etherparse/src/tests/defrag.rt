@@ -12,6 +12,7 @@ mod buffers;
 mod frames;
 mod lists;
 mod pool;
+mod sections;
 
 /// So many bytes: those that rise by 1 from the first, modulo 256, or zeros.
 #[derive(Clone, Copy)]

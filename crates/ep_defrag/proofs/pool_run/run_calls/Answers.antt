@@ -1,4 +1,4 @@
-use Rattle.std.proofs.Common.{rules, length, IsFalse, ◌+◌, vec_len, ◌≡◌, ◌++◌, ◌∷◌, [], map, sym, ap, ◌∙◌, arith, append_assoc}
+use Rattle.std.proofs.Common.{length, IsFalse, ◌+◌, vec_len, ◌≡◌, ◌++◌, ◌∷◌, [], map, sym, ap, ◌∙◌, arith, append_assoc}
 use Rattle.std.proofs.lemmas.List.{map-append, length_push, length-append}
 use Rattle.std.proofs.lemmas.List.Elements.{All-push}
 use Rattle.ep_defrag.specs.Calls.{answers_to, table_after}

@@ -55,10 +55,8 @@ fn shows_parts(
 ) {
     let bytes = bytes_of(alloc, shown).expect(rt, "no memory");
     same(rt, &buffer.end(), &end);
-    let (data, mut in_order) = buffer.take_bufs();
-    same(rt, &data, &bytes);
-    in_order.sort().expect(rt, "no memory");
-    same(rt, &in_order.as_slice(), &sections);
+    same(rt, buffer.data(), &bytes);
+    same(rt, &buffer.sections().as_slice(), &sections);
 }
 
 /// Fragments that are all accepted.

@@ -8,9 +8,9 @@ returns-then-not-more_fragments-clause-data c =
     let written =
     c.put.ensures.items
     ∙ ap (λ bytes. overwritten (extended bytes range.end) range.start c.args.payload.now)
-    c.in_ok-make_room.ensures.bytes in
+    c.in_ok-reserve-2.ensures.items in
     rw c.if-not-more_fragments.true
-    (c.truncate.ensures.items ∙ ap (λ end. take end c.put.new.bytes.items) c.from.ensures
+    (c.truncate.ensures.items ∙ ap (λ end. take end c.put.new.bytes.items) c.from-then-not-more_fragments.ensures
     ∙ ap (take range.end) written)
 
 pub returns-else-not-more_fragments-clause-data : goal.returns-else-not-more_fragments-clause-data
@@ -19,4 +19,4 @@ returns-else-not-more_fragments-clause-data c =
     rw c.if-not-more_fragments.false
     (c.put.ensures.items
     ∙ ap (λ bytes. overwritten (extended bytes range.end) range.start c.args.payload.now)
-    c.in_ok-make_room.ensures.bytes)
+    c.in_ok-reserve-2.ensures.items)

@@ -1,7 +1,7 @@
 use Rattle.std.proofs.Common.{◌≡◌, ◌∙◌, ◌++◌, ◌-◌, min, length, ap, arith}
 use Rattle.ep_defrag.specs.Buffers.{extended}
 use Rattle.ep_defrag.proofs.Writing.{put_in_parts}
-use Rattle.ep_defrag.proofs.ip_defrag_buf.put.Goals as goal
+use Rattle.ep_defrag.proofs.ip_defrag_bytes.put.Goals as goal
 
 pub returns-clause-items : goal.returns-clause-items
 returns-clause-items c =

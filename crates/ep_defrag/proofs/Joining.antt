@@ -1,0 +1,340 @@
+-- A range joins sections that stand apart in order: those that share a point with it are neighbours of one another, and
+-- with their union at their place the sections stand apart in order again.
+use Rattle.std.proofs.Common.{◌≡◌, ℕ, suc, ◌+◌, ◌-◌, ◌<◌, ◌≤◌, nat_le, nat_lt, true, false, not, List, [], ◌∷◌, ◌++◌, length, get_or, set, take, drop, sym, refl, ap, subst, ◌∙◌, inl, inr, arith}
+use Rattle.std.specs.List.{All, AllWithin, AllByRecursion, list_any, filter, fold, insert, remove_range}
+use Rattle.std.specs.List.Sorted.{IsPermutation, IsPartitionPoint}
+use Rattle.std.proofs.lemmas.Bool.{cases_lt, false≢true, ltb-true, ltb-false, leb-true, leb-false}
+use Rattle.std.proofs.lemmas.Bool.Decides.{nat_tests}
+use Rattle.std.proofs.lemmas.List.{append-nil, length-take-le, length-drop, get_or-take, get_or-drop, get_or_default, take-append-drop, drop-drop, drop_more, take_more_set, drop-set-lt, append_assoc}
+use Rattle.std.proofs.lemmas.List.Elements.{filter-append, recursion_from_All}
+use Rattle.std.proofs.lemmas.List.Sorted.{IsPermutation-middle}
+use Rattle.ep_defrag.specs.declared.ip_frag_range.IpFragRange.{IpFragRange}
+use Rattle.ep_defrag.specs.Ranges.{merges, hull, AreApart}
+use Rattle.ep_defrag.specs.Buffers.{sections_after, AreNeighbours}
+use Rattle.ep_defrag.proofs.Lists.{none_from_filter}
+use Rattle.ep_defrag.proofs.Sections.{IsOrdered}
+use Rattle.ep_defrag.proofs.Apart.{AreApartFrom, from_apart, to_apart, ordered_from, from_at, raised, least_behind, least_behind-le, apart_parts, apart_append}
+
+-- ---- a fact of places, of a part
+module _ {X : Type 0} (P : X → Type 0) (xs : List X) where
+  all_of_take : (n : ℕ) → n ≤ length xs → AllWithin P xs 0 n → All P (take n xs)
+  all_of_take n within all k d below =
+      let place : k < n = omega (arith, length-take-le n xs within) in
+      subst P (sym (get_or-take n xs k d place)) (all k d (omega arith) place)
+
+  all_of_drop : (n : ℕ) → n ≤ length xs → AllWithin P xs n (length xs) → All P (drop n xs)
+  all_of_drop n within all k d below =
+      subst P (sym (get_or-drop n xs k d)) (all (n + k) d (omega arith) (omega (arith, length-drop n xs)))
+
+  all_of_slice : (from to : ℕ) → from ≤ to → to ≤ length xs → AllWithin P xs from to
+      → All P (take (to - from) (drop from xs))
+  all_of_slice from to order within all k d below =
+      let len : length (take (to - from) (drop from xs)) ≡ to - from =
+      length-take-le (to - from) (drop from xs) (omega (arith, length-drop from xs)) in
+      let place : k < to - from = omega arith in
+      subst P (sym (get_or-take (to - from) (drop from xs) k d place ∙ get_or-drop from xs k d))
+      (all (from + k) d (omega arith) (omega arith))
+
+-- ---- the union of neighbours
+same_range : (a b : IpFragRange) → a.start ≡ b.start → a.end ≡ b.end → a ≡ b
+same_range a b starts ends = λ i. record { start = starts i; end = ends i }
+
+abbrev pub last_of : IpFragRange → List IpFragRange → IpFragRange
+last_of first [] = first
+last_of first (next ∷ later) = last_of next later
+
+last_behind : (least : ℕ) (first : IpFragRange) (later : List IpFragRange) → AreApartFrom least (first ∷ later)
+    → (first.start ≤ (last_of first later).start) × (first.end ≤ (last_of first later).end)
+last_behind least first [] apart = (omega arith, omega arith)
+last_behind least first (next ∷ later) apart =
+    let rest = last_behind (first.end + 1) next later apart.2 in
+    (omega (arith, rest.0, apart.1, apart.2.0), omega (arith, rest.1, apart.2.0, apart.2.1))
+
+behind_last : (least : ℕ) (first : IpFragRange) (later : List IpFragRange)
+    → least_behind least (first ∷ later) ≡ (last_of first later).end + 1
+behind_last least first [] = refl
+behind_last least first (next ∷ later) = behind_last (first.end + 1) next later
+
+-- only the first and the last decide it
+pub union_of_ends : (least : ℕ) (sofar first : IpFragRange) (later : List IpFragRange)
+    → AreApartFrom least (first ∷ later) → fold hull sofar (first ∷ later) ≡ hull (hull sofar first) (last_of first later)
+union_of_ends least sofar first [] apart =
+    same_range (hull sofar first) (hull (hull sofar first) first) (omega arith) (omega arith)
+union_of_ends least sofar first (next ∷ later) apart =
+    let last = last_of next later in
+    let behind = last_behind (first.end + 1) next later apart.2 in
+    union_of_ends (first.end + 1) (hull sofar first) next later apart.2
+    ∙ same_range (hull (hull (hull sofar first) next) last) (hull (hull sofar first) last)
+    (omega (arith, apart.1, apart.2.0))
+    (omega (arith, behind.1))
+
+last_at : (first : IpFragRange) (later : List IpFragRange) (d : IpFragRange)
+    → last_of first later ≡ get_or (first ∷ later) (length later) d
+last_at first [] d = refl
+last_at first (next ∷ later) d = last_at next later d
+
+-- ---- the sections in three parts
+-- those before the neighbours of a range, these, and those behind them
+pub record AreParts (range : IpFragRange) (earlier between later : List IpFragRange) : Type 0 where
+  pub apart : AreApartFrom 0 (earlier ++ (between ++ later))
+  pub before : AllByRecursion (λ section. section.end < range.start) earlier
+  pub sharing : AllByRecursion (λ section. (range.start ≤ section.end) × (section.start ≤ range.end)) between
+  pub behind : AllByRecursion (λ section. range.end < section.start) later
+
+module _ (range : IpFragRange) (ordered : IsOrdered range) where
+  kept_before : (sections : List IpFragRange) → AllByRecursion IsOrdered sections
+      → AllByRecursion (λ section. section.end < range.start) sections
+      → (filter (merges range) sections ≡ []) × (filter (λ section. not (merges range section)) sections ≡ sections)
+  kept_before [] all before = (refl, refl)
+  kept_before (section ∷ sections) all before =
+      let away : merges range section ≡ false = grind (arith, nat_tests, ordered, all.0, before.0) in
+      let rest = kept_before sections all.1 before.1 in
+      (rw away rest.0, rw away (ap (λ others. section ∷ others) rest.1))
+
+  kept_behind : (sections : List IpFragRange) → AllByRecursion IsOrdered sections
+      → AllByRecursion (λ section. range.end < section.start) sections
+      → (filter (merges range) sections ≡ []) × (filter (λ section. not (merges range section)) sections ≡ sections)
+  kept_behind [] all behind = (refl, refl)
+  kept_behind (section ∷ sections) all behind =
+      let away : merges range section ≡ false = grind (arith, nat_tests, ordered, all.0, behind.0) in
+      let rest = kept_behind sections all.1 behind.1 in
+      (rw away rest.0, rw away (ap (λ others. section ∷ others) rest.1))
+
+  taken_between : (sections : List IpFragRange) → AllByRecursion IsOrdered sections
+      → AllByRecursion (λ section. (range.start ≤ section.end) × (section.start ≤ range.end)) sections
+      → (filter (merges range) sections ≡ sections) × (filter (λ section. not (merges range section)) sections ≡ [])
+  taken_between [] all sharing = (refl, refl)
+  taken_between (section ∷ sections) all sharing =
+      let here : merges range section ≡ true = grind (arith, nat_tests, ordered, all.0, sharing.0.0, sharing.0.1) in
+      let rest = taken_between sections all.1 sharing.1 in
+      (rw here (ap (λ others. section ∷ others) rest.0), rw here rest.1)
+
+  module _ (earlier between later : List IpFragRange) (parts : AreParts range earlier between later) where
+    split_before : AreApartFrom 0 earlier × AreApartFrom (least_behind 0 earlier) (between ++ later)
+    split_before = apart_parts 0 earlier (between ++ later) parts.apart
+
+    split_behind : AreApartFrom (least_behind 0 earlier) between
+        × AreApartFrom (least_behind (least_behind 0 earlier) between) later
+    split_behind = apart_parts (least_behind 0 earlier) between later (split_before).1
+
+    taken : filter (merges range) (earlier ++ (between ++ later)) ≡ between
+    taken =
+        filter-append (merges range) earlier (between ++ later)
+        ∙ ap (λ found. found ++ filter (merges range) (between ++ later))
+        (kept_before earlier (ordered_from 0 earlier (split_before).0) parts.before).0
+        ∙ filter-append (merges range) between later
+        ∙ ap (λ found. found ++ filter (merges range) later)
+        (taken_between between (ordered_from (least_behind 0 earlier) between (split_behind).0) parts.sharing).0
+        ∙ ap (λ found. between ++ found)
+        (kept_behind later (ordered_from (least_behind (least_behind 0 earlier) between) later (split_behind).1)
+        parts.behind).0
+        ∙ append-nil between
+
+    others : filter (λ section. not (merges range section)) (earlier ++ (between ++ later)) ≡ earlier ++ later
+    others =
+        let misses = λ (section : IpFragRange). not (merges range section) in
+        filter-append misses earlier (between ++ later)
+        ∙ ap (λ found. found ++ filter misses (between ++ later))
+        (kept_before earlier (ordered_from 0 earlier (split_before).0) parts.before).1
+        ∙ ap (λ found. earlier ++ found)
+        (filter-append misses between later
+        ∙ ap (λ found. found ++ filter misses later)
+        (taken_between between (ordered_from (least_behind 0 earlier) between (split_behind).0) parts.sharing).1
+        ∙ (kept_behind later (ordered_from (least_behind (least_behind 0 earlier) between) later (split_behind).1)
+        parts.behind).1)
+
+    -- the union at its place, and the others
+    joined : IsPermutation (earlier ++ fold hull range between ∷ later)
+        (sections_after range (earlier ++ (between ++ later)))
+    joined = rw (taken, others) (IsPermutation-middle earlier (fold hull range between) later)
+
+    -- where none is between, none merges
+    none_merging : between ≡ [] → list_any (merges range) (earlier ++ (between ++ later)) ≡ false
+    none_merging none = none_from_filter (merges range) (earlier ++ (between ++ later)) (taken ∙ none)
+
+-- with the union at its place they stand apart in order
+joined_apart : (range : IpFragRange) → IsOrdered range → (earlier between later : List IpFragRange)
+    → AreParts range earlier between later → AreApartFrom 0 (earlier ++ fold hull range between ∷ later)
+joined_apart range ordered earlier [] later parts =
+    let least = least_behind 0 earlier in
+    let split = apart_parts 0 earlier later parts.apart in
+    apart_append 0 earlier (range ∷ later) split.0 (
+      least_behind-le 0 range.start earlier (omega arith) parts.before,
+      ordered,
+      raised least range.end (range.end + 1) later split.1 parts.behind (omega arith),
+    )
+joined_apart range ordered earlier (first ∷ between) later parts =
+    let least = least_behind 0 earlier in
+    let split = apart_parts 0 earlier ((first ∷ between) ++ later) parts.apart in
+    let rest = apart_parts least (first ∷ between) later split.1 in
+    let last = last_of first between in
+    let union = hull (hull range first) last in
+    let low = least_behind-le 0 range.start earlier (omega arith) parts.before in
+    let ends = last_behind least first between rest.0 in
+    let behind : AreApartFrom (last.end + 1) later =
+    subst (λ least. AreApartFrom least later) (behind_last least first between) rest.1 in
+    rw (union_of_ends least range first between rest.0)
+    (apart_append 0 earlier (union ∷ later) split.0 (
+      omega (arith, low, rest.0.0, ends.0),
+      omega (arith, ordered),
+      raised (last.end + 1) range.end (union.end + 1) later behind parts.behind (omega (arith, ends.1)),
+    ))
+
+-- ---- the parts by place
+three_parts : (sections : List IpFragRange) (from to : ℕ) → from ≤ to
+    → take from sections ++ (take (to - from) (drop from sections) ++ drop to sections) ≡ sections
+three_parts sections from to order =
+    let place : from + (to - from) ≡ to = omega arith in
+    ap (λ rest. take from sections ++ rest)
+    (ap (λ rest. take (to - from) (drop from sections) ++ rest)
+    (sym (drop-drop (to - from) from sections ∙ ap (λ place. drop place sections) place))
+    ∙ take-append-drop (to - from) (drop from sections))
+    ∙ take-append-drop from sections
+
+module _ (range : IpFragRange) (ordered : IsOrdered range) (sections : List IpFragRange) (apart : AreApart sections)
+    (from to : ℕ) (near : AreNeighbours range sections from to) where
+  abbrev between : List IpFragRange
+  between = take (to - from) (drop from sections)
+
+  split : take from sections ++ (between ++ drop to sections) ≡ sections
+  split = three_parts sections from to near.order
+
+  parts : AreParts range (take from sections) between (drop to sections)
+  parts = record {
+    apart = subst (λ all. AreApartFrom 0 all) (sym split) (from_apart sections apart);
+    before = recursion_from_All (λ section. section.end < range.start) (take from sections)
+        (all_of_take (λ section. section.end < range.start) sections from (omega (arith, near.order, near.within))
+        near.earlier);
+    sharing = recursion_from_All (λ section. (range.start ≤ section.end) × (section.start ≤ range.end)) between
+        (all_of_slice (λ section. (range.start ≤ section.end) × (section.start ≤ range.end)) sections from to near.order
+        near.within near.between);
+    behind = recursion_from_All (λ section. range.end < section.start) (drop to sections)
+        (all_of_drop (λ section. range.end < section.start) sections to near.within near.later);
+  }
+
+  is_joined : IsPermutation (take from sections ++ fold hull range between ∷ drop to sections)
+      (sections_after range sections)
+  is_joined =
+      subst
+      (λ all. IsPermutation (take from sections ++ fold hull range between ∷ drop to sections) (sections_after range all))
+      split
+      (joined range ordered (take from sections) between (drop to sections) parts)
+
+  is_apart : AreApart (take from sections ++ fold hull range between ∷ drop to sections)
+  is_apart =
+      to_apart 0 (take from sections ++ fold hull range between ∷ drop to sections)
+      (joined_apart range ordered (take from sections) between (drop to sections) parts)
+
+  -- where a section merges, there is a place between
+  pub some_between : list_any (merges range) sections ≡ true → from < to
+  some_between merging = elim (cases_lt from to) [
+    | inl some ↦ some
+    | inr none ↦
+        let nothing : to - from ≡ 0 = omega arith in
+        absurd
+        (false≢true (sym
+        (none_merging range ordered (take from sections) between (drop to sections) parts
+        (ap (λ count. take count (drop from sections)) nothing))
+        ∙ ap (list_any (merges range)) split
+        ∙ merging))
+  ]
+
+  -- with no neighbour the range itself is the union
+  alone : from ≡ to → fold hull range between ≡ range
+  alone same =
+      let none : to - from ≡ 0 = omega arith in
+      ap (λ count. fold hull range (take count (drop from sections))) none
+
+  -- else that of the range with the first and the last
+  with_ends : (d : IpFragRange) → from < to
+      → fold hull range between ≡ hull (hull range (get_or sections from d)) (get_or sections (to - 1) d)
+  with_ends d some =
+      let count = to - from - 1 in
+      let first = get_or sections from d in
+      let rest = take count (drop (from + 1) sections) in
+      let counted : to - from ≡ suc count = omega arith in
+      let place : from + count ≡ to - 1 = omega arith in
+      let opened : between ≡ first ∷ rest =
+      ap (λ count. take count (drop from sections)) counted
+      ∙ ap (take (suc count)) (drop_more sections from d (omega (arith, near.within))) in
+      let len : length rest ≡ count =
+      length-take-le count (drop (from + 1) sections) (omega (arith, near.within, length-drop (from + 1) sections)) in
+      let last : last_of first rest ≡ get_or sections (to - 1) d =
+      last_at first rest d
+      ∙ ap (λ place. get_or (first ∷ rest) place d) len
+      ∙ sym (ap (λ all. get_or all count d) opened)
+      ∙ get_or-take (to - from) (drop from sections) count d (omega arith)
+      ∙ get_or-drop from sections count d
+      ∙ ap (λ place. get_or sections place d) place in
+      let least = least_behind 0 (take from sections) in
+      let whole = apart_parts 0 (take from sections) (between ++ drop to sections) (parts).apart in
+      let here = apart_parts least between (drop to sections) whole.1 in
+      ap (fold hull range) opened
+      ∙ union_of_ends least range first rest (subst (λ all. AreApartFrom least all) opened here.0)
+      ∙ ap (λ last. hull (hull range first) last) last
+
+  -- so the range is inserted at its place
+  module _ (items : List IpFragRange) (same : from ≡ to) (inserted : items ≡ insert sections from range) where
+    inserted_joins : items ≡ take from sections ++ fold hull range between ∷ drop to sections
+    inserted_joins =
+        inserted
+        ∙ ap (λ place. take from sections ++ range ∷ drop place sections) same
+        ∙ ap (λ union. take from sections ++ union ∷ drop to sections) (sym (alone same))
+
+    pub insert_joins : IsPermutation items (sections_after range sections)
+    insert_joins = rw inserted_joins is_joined
+
+    pub insert_apart : AreApart items
+    insert_apart = rw inserted_joins is_apart
+
+  -- or the union is written over the first neighbour, and the others go
+  module _ (items : List IpFragRange) (some : from < to) (first last : IpFragRange)
+      (at_first : first ≡ get_or sections from first) (at_last : last ≡ get_or sections (to - 1) last)
+      (left : items ≡ remove_range (set sections from (hull (hull range first) last)) (from + 1) to) where
+    left_joins : items ≡ take from sections ++ fold hull range between ∷ drop to sections
+    left_joins =
+        let union = hull (hull range first) last in
+        let within : from < length sections = omega (arith, near.within) in
+        let ends : hull (hull range (get_or sections from first)) (get_or sections (to - 1) first) ≡ union =
+        ap (λ other. hull (hull range other) (get_or sections (to - 1) first)) (sym at_first)
+        ∙ ap (λ other. hull (hull range first) other)
+        (get_or_default sections (to - 1) first last (omega (arith, near.within)) ∙ sym at_last) in
+        left
+        ∙ ap (λ kept. kept ++ drop to (set sections from union)) (take_more_set sections from union within)
+        ∙ append_assoc (take from sections) (union ∷ []) (drop to (set sections from union))
+        ∙ ap (λ later. take from sections ++ union ∷ later) (drop-set-lt to sections from union some)
+        ∙ ap (λ union. take from sections ++ union ∷ drop to sections) (sym (with_ends first some ∙ ends))
+
+    pub union_joins : IsPermutation items (sections_after range sections)
+    union_joins = rw left_joins is_joined
+
+    pub union_apart : AreApart items
+    union_apart = rw left_joins is_apart
+
+-- ---- the places from the two searches
+pub near_from_points : (range : IpFragRange) → IsOrdered range → (sections : List IpFragRange) → AreApart sections
+    → (from to : ℕ) → from ≤ length sections → to ≤ length sections
+    → IsPartitionPoint (λ (section : IpFragRange). nat_lt section.end range.start ≡ true)
+    (λ section. nat_lt section.end range.start ≡ false) sections from
+    → IsPartitionPoint (λ (section : IpFragRange). nat_le section.start range.end ≡ true)
+    (λ section. nat_le section.start range.end ≡ false) sections to
+    → AreNeighbours range sections from to
+near_from_points range ordered sections apart from to within within' ends starts = record {
+  order = elim (cases_lt to from) [
+    | inr order ↦ order
+    | inl crossed ↦
+        let section = get_or sections to range in
+        let before : section.end < range.start = ltb-true _ _ (ends.0 to range (omega arith) crossed) in
+        let after : range.end < section.start = leb-false _ _ (starts.1 to range (omega arith) (omega arith)) in
+        let kept : section.start ≤ section.end =
+        (from_at 0 sections (from_apart sections apart) to range (omega arith)).1 in
+        absurd (omega arith)
+  ];
+  within = within';
+  earlier = λ k d low high. ltb-true _ _ (ends.0 k d low high);
+  between = λ k d low high. (
+    ltb-false _ _ (ends.1 k d low (omega arith)),
+    leb-true _ _ (starts.0 k d (omega arith) high),
+  );
+  later = λ k d low high. leb-false _ _ (starts.1 k d low high);
+}
