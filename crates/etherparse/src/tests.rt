@@ -5,5 +5,6 @@ mod checks;
 mod defrag;
 mod derives;
 mod example;
+mod hostile;
 mod packet;
 mod samples;

@@ -10,8 +10,8 @@ use std::process::Abort;
 
 mod buffers;
 mod frames;
-mod lists;
-mod pool;
+pub(crate) mod lists;
+pub(crate) mod pool;
 mod sections;
 
 /// So many bytes: those that rise by 1 from the first, modulo 256, or zeros.

@@ -12,7 +12,7 @@ use std::hash::{Hash, Hasher};
 
 /// A channel whose lowest bit says nothing, and whose hash feeds nothing.
 #[derive(Clone, Copy, Debug)]
-pub(super) struct Halved(pub(super) u8);
+pub(crate) struct Halved(pub(crate) u8);
 
 impl PartialEq for Halved {
     ghost eq = { on (λ channel. channel.0 / 2) nat_eq };
