@@ -2,6 +2,7 @@
 
 mod cuts;
 mod decimals;
+mod failing;
 mod fragments;
 mod frames;
 mod ip;

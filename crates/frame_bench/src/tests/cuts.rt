@@ -8,17 +8,18 @@ use std::test::Fail;
 
 /// A layer of a frame: the length of the frame from which on it is whole, its place, and the answer to a cut within it,
 /// in front of the number of bytes that are there and behind it.
-type Layer = (usize, usize, &'static [u8], &'static [u8]);
+pub(super) type Layer = (usize, usize, &'static [u8], &'static [u8]);
 
 /// A frame and its layers, each of which needs those in front.
-struct Needs {
+#[derive(Drop)]
+pub(super) struct Needs {
     words: &'static [u8],
     frame: &'static [u8],
-    layers: &'static [Layer],
+    pub(super) layers: &'static [Layer],
 }
 
 /// Frames that are cut to each length.
-const CUTS: [Needs; 7] = [
+pub(super) const CUTS: [Needs; 7] = [
     Needs {
         words: b"slice eth ",
         frame: b"0708090a0b0c010203040506080045000024000040001411e375c0a80101c0a80102001504d20010677f0102030405060708",
@@ -101,7 +102,7 @@ fn assert_cuts(rt: &impl Abort, alloc: Global, needs: &Needs) -> Result<(), Fail
 }
 
 /// Appends the refusal of a cut to so many bytes.
-fn push_refusal(wanted: &mut Vec<u8>, layers: &[Layer], len: usize) -> Result<(), Fail> {
+pub(super) fn push_refusal(wanted: &mut Vec<u8>, layers: &[Layer], len: usize) -> Result<(), Fail> {
     for (whole, offset, front, behind) in layers {
         if len < *whole {
             wanted.extend_from_slice(front)?;

@@ -22,6 +22,48 @@ const ROWS: [(&str, &str); 14] = [
     ("slice eth 0708090A0B0C0102030405061234\r", "err line"),
 ];
 
+/// Lines of bytes that are no text, of other white space and of digits of either case, and their answers.
+const BYTES: [(&[u8], &[u8]); 27] = [
+    (b"\x00", b"err line"),
+    (b"\r", b"err line"),
+    (b" ", b"err line"),
+    (b"  ", b"err line"),
+    (b"\xff\xfe", b"err line"),
+    (b"\xef\xbb\xbfslice eth -", b"err line"),
+    (b"slice eth -\x00", b"err line"),
+    (b"slice\x00eth -", b"err line"),
+    (b"slice\teth\t-", b"err line"),
+    (b"slice eth\t-", b"err line"),
+    (b"slice eth -\t", b"err line"),
+    (b"slice  eth -", b"err line"),
+    (b"slice eth\xa0-", b"err line"),
+    (b"slice eth \xe2\x88\x92", b"err line"),
+    (b"slice ip 5\xb0", b"err line"),
+    (b"slice ip 5/", b"err line"),
+    (b"slice ip 5:", b"err line"),
+    (b"slice ip 5@", b"err line"),
+    (b"slice ip 5G", b"err line"),
+    (b"slice ip 5`", b"err line"),
+    (b"slice ip 5g", b"err line"),
+    (b"slice ip fF", b"err ip-version 15"),
+    (b"slice ip Ff", b"err ip-version 15"),
+    (b"slice ip 4F", b"err len 20 1 Slice Ipv4Header 0"),
+    (b"drop \xd9\xa1", b"err line"),
+    (b"drop 1\x00", b"err line"),
+    (b"frag ip 1 \xff 50", b"err line"),
+];
+
+#[test]
+fn answers_each_byte(rt: HostRuntime) -> Result<(), Fail> {
+    let mut input = Vec::new(rt.alloc());
+    let mut wanted = Vec::new(rt.alloc());
+    for (line, answer) in BYTES {
+        push_line(&mut input, line)?;
+        push_line(&mut wanted, answer)?;
+    }
+    assert_answers(&rt, rt.alloc(), input.as_slice(), wanted.as_slice())
+}
+
 /// Texts whose lines are empty or do not end, and their answers.
 const TEXTS: [(&str, &str); 4] = [
     ("", ""),
@@ -68,5 +110,22 @@ fn answers_long_lines(rt: HostRuntime) -> Result<(), Fail> {
         let behind = if follow { digits.as_slice() } else { &[] };
         push_line(&mut wanted, behind)?;
     }
+    assert_answers(&rt, rt.alloc(), input.as_slice(), wanted.as_slice())
+}
+
+/// A frame of 65,535 bytes, and the same with one digit more.
+#[test]
+fn answers_an_odd_digit(rt: HostRuntime) -> Result<(), Fail> {
+    let digits = vec![in rt.alloc(); b'7'; 2 * (65_535 - 14)]?;
+    let mut input = Vec::new(rt.alloc());
+    for behind in [b"".as_slice(), b"7"] {
+        input.extend_from_slice(b"slice eth 0708090a0b0c0102030405061234")?;
+        input.extend_from_slice(digits.as_slice())?;
+        push_line(&mut input, behind)?;
+    }
+    let mut wanted = Vec::new(rt.alloc());
+    wanted.extend_from_slice(b"ok eth - - - ")?;
+    push_line(&mut wanted, digits.as_slice())?;
+    push_line(&mut wanted, b"err line")?;
     assert_answers(&rt, rt.alloc(), input.as_slice(), wanted.as_slice())
 }

@@ -14,7 +14,7 @@ use std::test::Fail;
 
 /// What a call of a reader or a writer does.
 #[derive(Clone, Copy)]
-enum Turn {
+pub(super) enum Turn {
     /// It moves so many bytes, or as many as there are and have room.
     Moves(usize),
     /// It fails.
@@ -23,12 +23,12 @@ enum Turn {
 
 /// The turns of a reader or a writer, of which the last one comes again and again.
 #[derive(Drop)]
-struct Turns {
-    turns: &'static [Turn],
+struct Turns<'a> {
+    turns: &'a [Turn],
     calls: usize,
 }
 
-impl Turns {
+impl Turns<'_> {
     /// How many bytes the next call moves, of so many.
     fn next(&mut self, len: usize) -> io::Result<usize>
         ensures { IfOk result (λ count. count ≤ len) }
@@ -48,7 +48,7 @@ impl Turns {
 #[derive(Drop)]
 struct Source<'a> {
     rest: &'a [u8],
-    turns: Turns,
+    turns: Turns<'a>,
 }
 
 impl Read for Source<'_> {
@@ -63,12 +63,12 @@ impl Read for Source<'_> {
 
 /// A writer that goes by turns.
 #[derive(Drop)]
-struct Target {
+struct Target<'a> {
     bytes: Vec<u8>,
-    turns: Turns,
+    turns: Turns<'a>,
 }
 
-impl Write for Target {
+impl Write for Target<'_> {
     fn write(&mut self, part: &[u8]) -> io::Result<usize> {
         let count = self.turns.next(part.len())?;
         self.bytes.extend_from_slice(&part[..count])?;
@@ -78,6 +78,36 @@ impl Write for Target {
     fn flush(&mut self) -> io::Result<()> {
         Ok(())
     }
+}
+
+/// How a run ends: with which error, how often the reader and the writer were called, and what is written.
+type Ending = (Option<RunError>, (usize, usize), Vec<u8>);
+
+/// Runs between a reader and a writer by their turns.
+pub(super) fn ending_of(
+    alloc: Global,
+    (reading, writing): (&[Turn], &[Turn]),
+    input: &[u8],
+) -> Ending {
+    let mut source = Source {
+        rest: input,
+        turns: Turns {
+            turns: reading,
+            calls: 0,
+        },
+    };
+    let mut target = Target {
+        bytes: Vec::new(alloc),
+        turns: Turns {
+            turns: writing,
+            calls: 0,
+        },
+    };
+    let mut reader = Watched::new(&mut source);
+    let mut writer = Watched::new(&mut target);
+    let error = run(alloc, &mut reader, &mut writer).err();
+    let calls = (source.turns.calls, target.turns.calls);
+    (error, calls, target.bytes)
 }
 
 /// A reader and a writer by their turns, why their run ends, how often each is called, and how much is written.
@@ -92,36 +122,17 @@ struct Streams {
 
 /// Runs between the two, and compares the result, the calls and what is written.
 fn assert_streams(rt: &impl Abort, alloc: Global, streams: &Streams, input: &[u8], wanted: &[u8]) {
-    let mut source = Source {
-        rest: input,
-        turns: Turns {
-            turns: streams.reading,
-            calls: 0,
-        },
-    };
-    let mut target = Target {
-        bytes: Vec::new(alloc),
-        turns: Turns {
-            turns: streams.writing,
-            calls: 0,
-        },
-    };
-    let mut reader = Watched::new(&mut source);
-    let mut writer = Watched::new(&mut target);
-    let error = run(alloc, &mut reader, &mut writer).err();
+    let (error, calls, written) = ending_of(alloc, (streams.reading, streams.writing), input);
     assert!(rt; error == streams.error);
-    assert!(rt; (source.turns.calls, target.turns.calls) == streams.calls);
-    assert_eq!(rt;
-        Some(target.bytes.as_slice()),
-        wanted.get(..streams.written)
-    );
+    assert!(rt; calls == streams.calls);
+    assert_eq!(rt; Some(written.as_slice()), wanted.get(..streams.written));
 }
 
 /// Each call moves all that is there.
-const WHOLE: &[Turn] = &[Turn::Moves(usize::MAX)];
+pub(super) const WHOLE: &[Turn] = &[Turn::Moves(usize::MAX)];
 
 /// Each call moves one byte.
-const SINGLE: &[Turn] = &[Turn::Moves(1)];
+pub(super) const SINGLE: &[Turn] = &[Turn::Moves(1)];
 
 /// Three lines, the last without its line feed.
 const LINES: &[u8] = b"a\nslice eth -\nb";
