@@ -3,6 +3,7 @@
 mod cuts;
 mod decimals;
 mod failing;
+mod floods;
 mod fragments;
 mod frames;
 mod ip;
