@@ -1,0 +1,224 @@
+"""Floods of lines to frame_bench: whether it answers them rightly, in which time, and how much memory it takes at the most.
+
+    python3 compare/floods.py out/frame_bench [--streams 1000000] [--lines 1000000] [--names 10000] [--only WORD]
+
+Each flood is one run of the program. It prints a row for each, and ends with status 1 where an answer is not the one that
+stands here. Memory is the greatest resident size of the process behind its last answer (VmHWM of Linux).
+"""
+
+import argparse
+import hashlib
+import itertools
+import os
+import struct
+import subprocess
+import sys
+import threading
+import time
+
+# A frame of Ethernet II, IPv4 and UDP, and its answer.
+FRAME = "0708090a0b0c0102030405060800450000240000400014 11e375c0a80101c0a80102001504d20010677f0102030405060708".replace(" ", "")
+FRAME_LINE = (f"slice eth {FRAME}", "ok eth - ipv4 udp 0102030405060708")
+EIGHT = "0001020304050607"
+GREATEST = 2**64 - 1
+
+
+def fragment(units, more, payload, identification=1):
+    """An IPv4 packet that carries a fragment of UDP (RFC 791, 3.1)."""
+    flags = more << 13 | units
+    front = struct.pack(">BBHHHBBH", 0x45, 0, 20 + len(payload) // 2, identification, flags, 64, 17, 0)
+    return front.hex() + "c0a80101c0a80102" + payload
+
+
+def pool_line(packet, channel=0, timestamp=1):
+    return f"frag ip {timestamp} {channel} {packet}"
+
+
+FIRST = fragment(0, 1, EIGHT)
+LAST = fragment(1, 0, "08090a0b0c0d0e0f")
+WHOLE = "payload 17 000102030405060708090a0b0c0d0e0f"
+
+
+def cycle(rows, count):
+    """These lines again and again, so many in all, with their answers."""
+    return itertools.islice(itertools.cycle(rows), count)
+
+
+def first_fragments(channels):
+    return ((pool_line(FIRST, channel), "none") for channel in channels)
+
+
+# Std's FoldHasher, by which a hash map finds names, has a fixed seed and takes a name's fields one after the other, each as at
+# most 8 bytes, by a multiplication that gives 0 where the bytes are the state before. So a channel that is this state makes
+# the hash 0.
+MULTIPLIER = 0x9E3779B97F4A7C15
+SEED = 0x243F6A8885A308D3
+
+
+def fold(state, number, length):
+    product = (state ^ number) * (MULTIPLIER ^ 2 * length)
+    return (product & GREATEST) ^ (product >> 64)
+
+
+def short_number(data):
+    """Up to 8 bytes as the hasher reads them."""
+    length = len(data)
+    if length >= 4:
+        return int.from_bytes(data[:4], "little") | int.from_bytes(data[-4:], "little") << 32
+    return data[0] | data[length // 2] << 8 | data[-1] << 16
+
+
+def alike_channel(identification):
+    """The channel with which the name of a fragment of this identification hashes to 0."""
+    writes = [bytes(8)]  # no tags
+    writes.append(bytes(8))  # the variant of IPv4
+    for address in (bytes([192, 168, 1, 1]), bytes([192, 168, 1, 2])):
+        writes.append((4).to_bytes(8, "little"))
+        writes += [bytes([byte]) for byte in address]
+    writes.append(identification.to_bytes(2, "little"))
+    writes.append(bytes([17]))
+    state = SEED
+    for write in writes:
+        state = fold(state, short_number(write), len(write))
+    return state
+
+
+def names(count, channel_of):
+    """So many streams, each named by its identification and a channel: all begin, and then each is completed."""
+    for units, more, payload, answer in ((0, 1, EIGHT, "none"), (1, 0, "08090a0b0c0d0e0f", WHOLE)):
+        for identification in range(count):
+            packet = fragment(units, more, payload, identification)
+            yield pool_line(packet, channel_of(identification)), answer
+
+
+def floods(options):
+    """The name of each flood, and its lines with their answers."""
+    lines, streams = options.lines, options.streams
+    long_frame = "0708090a0b0c0102030405061234" + "5a" * 65521
+    long_line = (f"slice eth {long_frame}", "ok eth - - - " + "5a" * 65521)
+    yield "1,000 frames", cycle([FRAME_LINE], 1000)
+    yield f"{lines:,} frames", cycle([FRAME_LINE], lines)
+    yield "1 frame of 65,535 bytes", [long_line]
+    yield "1,000 frames of 65,535 bytes", cycle([long_line], 1000)
+    yield "1,000 lines that ask nothing", cycle([("slice eth 0g", "err line")], 1000)
+    yield f"{lines:,} lines that ask nothing", cycle([("slice eth 0g", "err line")], lines)
+    yield f"{10 * lines:,} empty lines", cycle([("", "err line")], 10 * lines)
+    yield "100 MB without a line feed", None
+    yield "1,000 first fragments, each of its own stream", first_fragments(range(1000))
+    yield f"{streams:,} first fragments, each of its own stream", first_fragments(range(streams))
+    yield f"the same, a drop of all, and {streams:,} others", itertools.chain(
+        first_fragments(range(streams)), [("drop 2", "ok")], first_fragments(range(streams, 2 * streams))
+    )
+    far = fragment(8191, 1, "")
+    yield "1,000 fragments without bytes at offset 8191, each of its own stream", (
+        (pool_line(far, channel), "none") for channel in range(1000)
+    )
+    yield f"one fragment {lines:,} times", cycle([(pool_line(FIRST), "none")], lines)
+    yield f"{lines:,} fragments without bytes, at every offset", cycle(
+        [(pool_line(fragment(units, 1, "")), "none") for units in range(8192)], lines
+    )
+    yield f"{lines:,} fragments at offset 8191, with ends up to 65536", cycle(
+        [
+            (pool_line(fragment(8191, 0, "01020304050607")), "none"),
+            (pool_line(fragment(8191, 0, EIGHT)), "err too-big 8191 8 65535"),
+            (pool_line(fragment(8191, 1, EIGHT)), "err too-big 8191 8 65535"),
+            (pool_line(fragment(8191, 1, "01020304050607")), "err unaligned 8191 7"),
+            (pool_line(fragment(8191, 1, "")), "none"),
+            (pool_line(fragment(8191, 0, "")), "err conflict 65535 65528"),
+        ],
+        lines,
+    )
+    yield f"{lines:,} final fragments of alternating ends", cycle(
+        [
+            (pool_line(fragment(2, 0, EIGHT)), "none"),
+            (pool_line(fragment(3, 0, EIGHT)), "err conflict 24 32"),
+            (pool_line(fragment(1, 0, EIGHT)), "err conflict 24 16"),
+        ],
+        lines,
+    )
+    yield f"{lines:,} lines, a drop behind each first fragment", cycle(
+        [(pool_line(FIRST), "none"), ("drop 2", "ok")], lines
+    )
+    yield f"{lines:,} fragments, each second of which completes a payload", cycle(
+        [(pool_line(FIRST), "none"), (pool_line(LAST), WHOLE)], lines
+    )
+    count = options.names
+    yield f"{count:,} streams with names in turn", names(count, lambda identification: 0)
+    yield f"{count:,} streams whose names hash alike", names(count, alike_channel)
+
+
+def pieces(rows):
+    """The lines and their answers, in pieces of some length."""
+    while part := list(itertools.islice(rows, 4096)):
+        yield tuple("".join(f"{text}\n" for text in texts).encode("ascii") for texts in zip(*part))
+
+
+class Reading(threading.Thread):
+    """Reads what a program writes, up to its end."""
+
+    def __init__(self, source):
+        super().__init__()
+        self.source = source
+        self.digest, self.length, self.lines = hashlib.sha256(), 0, 0
+        self.start()
+
+    def run(self):
+        while part := self.source.read1(1 << 16):
+            self.digest.update(part)
+            self.lines += part.count(b"\n")
+            self.length += len(part)
+
+
+def greatest_size(process):
+    """The greatest resident size of a process that still runs, in MiB."""
+    with open(f"/proc/{process}/status", encoding="ascii") as status:
+        return next(int(line.split()[1]) for line in status if line.startswith("VmHWM:")) / 1024
+
+
+def measure(program, rows):
+    """How many lines were answered, whether rightly, in how many processor seconds, and the greatest size in MiB."""
+    run = subprocess.Popen([program], stdin=subprocess.PIPE, stdout=subprocess.PIPE)
+    reading = Reading(run.stdout)
+    wanted, length = hashlib.sha256(), 0
+    given = ((b"a" * 1_000_000, b"") for _ in range(100)) if rows is None else pieces(iter(rows))
+    for part, answers in given:
+        wanted.update(answers)
+        length += len(answers)
+        run.stdin.write(part)
+    run.stdin.flush()
+    while reading.length < length and run.poll() is None:
+        time.sleep(0.01)
+    if rows is None:
+        # Answered at the end of input alone: until then, all is read.
+        time.sleep(1)
+        wanted.update(b"err line\n")
+    size = greatest_size(run.pid)
+    run.stdin.close()
+    reading.join()
+    _, status, usage = os.wait4(run.pid, 0)
+    is_right = status == 0 and reading.digest.digest() == wanted.digest()
+    return reading.lines, is_right, usage.ru_utime + usage.ru_stime, size
+
+
+def main():
+    parser = argparse.ArgumentParser(description=__doc__, formatter_class=argparse.RawDescriptionHelpFormatter)
+    parser.add_argument("program")
+    parser.add_argument("--streams", type=int, default=1_000_000)
+    parser.add_argument("--lines", type=int, default=1_000_000)
+    parser.add_argument("--names", type=int, default=10_000)
+    parser.add_argument("--only", default="")
+    options = parser.parse_args()
+    all_right = True
+    print("| Input | Answers | Processor seconds | Greatest resident size, MiB |")
+    print("|---|---|---|---|")
+    for name, rows in floods(options):
+        if options.only not in name:
+            continue
+        lines, is_right, seconds, size = measure(options.program, rows)
+        all_right &= is_right
+        print(f"| {name} | {lines:,}{'' if is_right else ' WRONG'} | {seconds:.2f} | {size:.1f} |", flush=True)
+    return 0 if all_right else 1
+
+
+if __name__ == "__main__":
+    sys.exit(main())
