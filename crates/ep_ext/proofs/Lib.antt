@@ -14,4 +14,5 @@ pub mod ValueLaws
 pub mod ValueLemmas
 pub mod WalkLaws
 pub mod WalkLemmas
+pub mod WalkLength
 pub mod WalkMarks

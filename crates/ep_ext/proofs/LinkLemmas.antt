@@ -28,7 +28,7 @@ use Rattle.ep_ext.proofs.WalkMarks.{no_marks}
 
 -- ---- where all headers were taken, no further one is
 
-no_row : (test : Bool) (number : ℕ) (rest : Option ℕ) → (if test then Some number else rest) ≡ None
+pub no_row : (test : Bool) (number : ℕ) (rest : Option ℕ) → (if test then Some number else rest) ≡ None
     → (test ≡ false) × (rest ≡ None)
 no_row true number rest none = absurd (none-some number (sym none))
 no_row false number rest none = (refl, none)

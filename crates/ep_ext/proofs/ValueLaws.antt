@@ -43,7 +43,7 @@ fresh taken walked number part has demand same = record {
 
 -- ---- how long a value is
 
-abbrev total : Ipv6Extensions → ℕ
+abbrev pub total : Ipv6Extensions → ℕ
 total extensions = option_map_or raw_extension_len extensions.hop_by_hop_options 0
     + option_map_or raw_extension_len extensions.destination_options 0
     + (option_map_or raw_extension_len (option_map routing_header extensions.routing) 0
@@ -71,7 +71,7 @@ destination_longer hop destination (Some behind) fragmenting auth header free =
     omega (arith, absent raw_extension_len behind.final_destination_options free)
 
 -- a header more
-longer : (walked : Ipv6Extensions) (part : ExtensionPart) → has_kind walked (part_number part) ≡ false
+pub longer : (walked : Ipv6Extensions) (part : ExtensionPart) → has_kind walked (part_number part) ≡ false
     → total (with_part walked part) ≡ total walked + length (part_bytes part)
 longer walked (hop_by_hop header) free = omega (arith, absent raw_extension_len walked.hop_by_hop_options free)
 longer walked (destination_options header) free =

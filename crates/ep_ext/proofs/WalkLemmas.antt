@@ -1,7 +1,7 @@
 -- A walk along the extension headers of IPv6, and the marks that it leaves.
-use Rattle.std.proofs.Common.{◌≡◌, ℕ, ◌+◌, ◌<◌, ◌≤◌, ◌&&◌, Bool, true, false, not, if◌then◌else◌, List, [], ◌∷◌, ◌++◌, Option, Some, None, refl, sym, ap, subst, ◌∙◌, inl, inr, arith, length, length-append, append_assoc, vec_capacity}
+use Rattle.std.proofs.Common.{◌≡◌, ℕ, ◌+◌, ◌<◌, ◌≤◌, ◌&&◌, Bool, true, false, not, if◌then◌else◌, List, [], ◌∷◌, ◌++◌, Option, Some, None, refl, sym, ap, subst, ◌∙◌, inl, inr, arith, length, length-append, append_assoc, vec_len, vec_capacity}
 use Rattle.std.specs.Option.{option_map, is_some}
-use Rattle.std.specs.Prelude.{Result, Ok, Err, OnOk, OnErr, is_err}
+use Rattle.std.specs.Prelude.{Result, Ok, Err, OnOk, OnErr, IsOk, is_err, is_ok}
 use Rattle.std.specs.Global.{Vec}
 use Rattle.std.proofs.lemmas.Bool.{cases_eq, false≢true, true≢false}
 use Rattle.std.proofs.lemmas.Option.{none-some}
@@ -14,7 +14,7 @@ use Rattle.ep_ext.specs.declared.ipv6_exts_walk.Marks.{Marks}
 use Rattle.ep_base.specs.declared.err.ipv6_exts.ExtsWalkError.{ExtsWalkError}
 use Rattle.ep_ext.specs.ExtensionParts.{ExtensionPart, hop_by_hop, destination_options, routing, fragment, authentication, part_number, part_next, part_bytes, FitsPart}
 use Rattle.ep_ext.specs.Chains.{is_first, is_taken, parts_bytes, FitParts}
-use Rattle.ep_ext.specs.Ipv6Chains.{no_ipv6_extensions, extensions_of, with_part, with_destination, has_destination, final_by, header_for, IsWalkBehind, missing_number, walk_refusal, WalksAll, RefusesWalk}
+use Rattle.ep_ext.specs.Ipv6Chains.{no_ipv6_extensions, extensions_of, with_part, with_destination, has_destination, final_by, ipv6_parts, header_for, IsWalkBehind, missing_number, walk_refusal, WalksAll, RefusesWalk}
 use Rattle.ep_ext.specs.Walks.{marked, header_at, missing_at}
 use Rattle.ep_ext.proofs.ValueLemmas.{HasTaken, none_taken, taken_more, with_parts-append, bytes-append}
 use Rattle.ep_ext.proofs.WalkMarks.{no_marks, marks_left, unmarked}
@@ -237,12 +237,12 @@ of_kind kind number numbered None part found = absurd (none-some part found)
 of_kind kind number numbered (Some header) part found = let same : kind header ≡ part = cc in numbered header
     ∙ ap part_number same
 
-untaken : (test : Bool) (choice : Option ExtensionPart) (part : ExtensionPart)
+pub untaken : (test : Bool) (choice : Option ExtensionPart) (part : ExtensionPart)
     → (if test then None else choice) ≡ Some part → (test ≡ false) × (choice ≡ Some part)
 untaken true choice part found = absurd (none-some part found)
 untaken false choice part found = (refl, found)
 
-one_of : (test : Bool) (choice other : Option ExtensionPart) (P : Type 0) (part : ExtensionPart)
+pub one_of : (test : Bool) (choice other : Option ExtensionPart) (P : Type 0) (part : ExtensionPart)
     → (choice ≡ Some part → P) → (other ≡ Some part → P) → (if test then choice else other) ≡ Some part → P
 one_of true choice other P part a b found = a found
 one_of false choice other P part a b found = b found
@@ -474,6 +474,7 @@ pub record HasWritten (extensions : Ipv6Extensions) (first number : ℕ) (marks 
   pub fit : FitParts parts
   pub written : now.items ≡ start.items ++ parts_bytes parts
   pub capacity : vec_capacity start ≤ vec_capacity now
+  pub room : vec_len start + length (parts_bytes (ipv6_parts extensions)) ≤ vec_capacity now
 
 pub written_more : (start items more : List ℕ) (parts : List ExtensionPart) (part : ExtensionPart)
     → items ≡ start ++ parts_bytes parts → more ≡ items ++ part_bytes part
@@ -488,15 +489,15 @@ pub fit_more : (parts : List ExtensionPart) (part : ExtensionPart) → FitParts 
 fit_more [] part fit here = (here, tt)
 fit_more (other ∷ parts) part fit here = (fit.0, fit_more parts part fit.1 here)
 
--- where a header found no room, there is none for all headers
-pub no_room : (room len now size : ℕ) (parts : List ExtensionPart) (part : ExtensionPart) (rest : List ExtensionPart)
-    → room ≤ now → size ≡ len + length (parts_bytes parts) → now < size + length (part_bytes part)
-    → room < len + length (parts_bytes ((parts ++ part ∷ []) ++ rest))
-no_room room len now size parts part rest grown written full = omega (
+-- where there is room for all headers of a walk, there is for each
+pub room_for : (room len size all : ℕ) (parts : List ExtensionPart) (part : ExtensionPart) (rest : List ExtensionPart)
+    → len + all ≤ room → length (parts_bytes ((parts ++ part ∷ []) ++ rest)) ≡ all
+    → size ≡ len + length (parts_bytes parts) → size + length (part_bytes part) ≤ room
+room_for room len size all parts part rest enough whole written = omega (
   arith,
-  grown,
+  enough,
+  whole,
   written,
-  full,
   bytes-append (parts ++ part ∷ []) rest,
   ap length (parts_bytes-append parts part),
   length-append (parts_bytes parts) (part_bytes part),
@@ -511,3 +512,14 @@ on_err (Err error) P is holds = holds
 pub on_ok : {A E : Type 0} (answer : Result A E) (P : Type 0) → is_err answer ≡ false → OnOk answer P → P
 on_ok (Ok value) P none holds = holds
 on_ok (Err error) P none holds = absurd (true≢false none)
+
+-- the same of an answer that is Ok
+pub when_ok : {A E : Type 0} (answer : Result A E) (P : Type 0) → is_ok answer ≡ true → OnOk answer P → P
+when_ok (Ok value) P is holds = holds
+when_ok (Err error) P is holds = absurd (false≢true is)
+
+-- a call that fails for want of room alone succeeds where there is room
+pub succeeds : {A E : Type 0} (answer : Result A E) (room needed : ℕ) → OnErr answer (room < needed) → needed ≤ room
+    → IsOk answer
+succeeds (Ok value) room needed full enough = refl
+succeeds (Err error) room needed full enough = absurd (omega (arith, full, enough))

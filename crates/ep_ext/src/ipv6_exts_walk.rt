@@ -119,7 +119,8 @@ impl Ipv6Extensions {
     }
 
     /// Appends the headers' bytes in the order in which the numbers lead to them, where this is the first number. A
-    /// refusal leaves the buffer as it was, and want of memory comes only where the buffer would have to grow.
+    /// refusal leaves the buffer as it was, and want of memory comes only where the buffer would have to grow: it asks
+    /// for memory at most once, for all headers.
     pub fn write(&self, buf: &mut Vec<u8>, first: IpNumber) -> Result<(), HeaderWriteError>
         ensures ok { OnOk result ((parts : List ExtensionPart) × (last : ℕ) × WalksAll self.now first.0 parts last
             × FitParts parts × (buf.new.items ≡ buf.old.items ++ parts_bytes parts)) }
@@ -134,14 +135,13 @@ impl Ipv6Extensions {
         if let Err(error) = self.next_header(first) {
             return Err(HeaderWriteError::Content(error));
         }
-        let start = buf.len();
+        if buf.reserve(self.header_len()).is_err() {
+            return Err(HeaderWriteError::OutOfMemory);
+        }
         let mut marks = Marks::default();
         let mut number = first;
         while let Some(header) = self.find(&marks, number) {
-            if header.write(buf).is_err() {
-                buf.truncate(start);
-                return Err(HeaderWriteError::OutOfMemory);
-            }
+            header.write(buf).unwrap();
             marks.mark(&header);
             number = header.next_header();
         }

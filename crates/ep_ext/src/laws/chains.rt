@@ -97,10 +97,13 @@ pub fn linked_ipv6()
         (chain_of (ipv6_parts (ipv6_linked extensions last)) last.0 rest) }
 {}
 
-/// The headers that are written along the numbers, which lead to no further header, are a chain, with any bytes behind
-/// them.
+/// The headers that are written along the numbers have as many bytes as all headers of the value. Where the numbers lead
+/// to no further header, they are a chain, with any bytes behind them.
 pub fn written_ipv6()
-    ensures { (extensions : Ipv6Extensions) (first : ℕ) (parts : List ExtensionPart) (last : ℕ) (rest : List ℕ)
+    ensures len { (extensions : Ipv6Extensions) (first : ℕ) (parts : List ExtensionPart) (last : ℕ)
+        → WalksAll extensions first parts last
+        → length (parts_bytes parts) ≡ length (parts_bytes (ipv6_parts extensions)) }
+    ensures chain { (extensions : Ipv6Extensions) (first : ℕ) (parts : List ExtensionPart) (last : ℕ) (rest : List ℕ)
         → WalksAll extensions first parts last → FitParts parts → is_ipv6_extension last ≡ false
         → IsExtensionChain ipv6 headers first (parts_bytes parts ++ rest) (chain_of parts last rest) }
 {}

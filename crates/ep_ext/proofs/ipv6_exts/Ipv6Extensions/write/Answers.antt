@@ -1,12 +1,14 @@
-use Rattle.std.proofs.Common.{◌≡◌, ◌+◌, ◌<◌, suc, List, [], ◌∷◌, ◌++◌, length, length-append, vec_len, vec_capacity, None, Err, refl, sym, ap, subst, ◌∙◌, arith}
+use Rattle.std.proofs.Common.{◌≡◌, ◌+◌, suc, List, [], ◌∷◌, ◌++◌, length, length-append, vec_len, vec_capacity, None, Err, refl, sym, ap, subst, ◌∙◌, arith}
 use Rattle.std.proofs.lemmas.List.{append-nil}
 use Rattle.std.specs.Option.{option_map}
+use Rattle.std.specs.Prelude.{is_err}
 use Rattle.ep_base.specs.declared.err.ipv6_exts.HeaderWriteError.TheVariants as write_error
-use Rattle.ep_ext.specs.ExtensionParts.{ExtensionPart, part_next}
+use Rattle.ep_ext.specs.ExtensionParts.{ExtensionPart, part_bytes, part_next}
 use Rattle.ep_ext.specs.Chains.{parts_bytes}
-use Rattle.ep_ext.specs.Ipv6Chains.{RefusesWalk, missing_number, extensions_of}
+use Rattle.ep_ext.specs.Ipv6Chains.{RefusesWalk, missing_number, extensions_of, ipv6_parts}
 use Rattle.ep_ext.specs.Walks.{marked, header_ref_part, header_at}
-use Rattle.ep_ext.proofs.WalkLemmas.{WalkedBy, walk_start, walk_more, walk_fewer, walk_end, written_more, fit_more, one_walk, one_walk_refusal, walks_not_refused, no_room, on_ok, on_err}
+use Rattle.ep_ext.proofs.WalkLemmas.{WalkedBy, walk_start, walk_more, walk_fewer, walk_end, written_more, fit_more, one_walk, one_walk_refusal, walks_not_refused, room_for, succeeds, on_ok, on_err, when_ok}
+use Rattle.ep_ext.proofs.WalkLength.{walk_len}
 use Rattle.ep_ext.proofs.WalkLaws.{walk_there}
 use Rattle.ep_ext.proofs.WalkMarks.{no_marks, marks_left}
 use Rattle.ep_ext.proofs.ipv6_exts.Ipv6Extensions.write.Goals as goal
@@ -36,8 +38,14 @@ loop-header-init c =
       by = subst (WalkedBy c.args.self.now c.args.first.0 [] c.args.first.0) none
           (walk_start c.args.self.now c.args.first.0);
       fit = tt;
-      written = sym (append-nil c.args.buf.now.items);
-      capacity = omega arith;
+      written = c.reserve.ensures.items ∙ sym (append-nil c.args.buf.now.items);
+      capacity = c.reserve.ensures.capacity;
+      room = omega (
+        arith,
+        when_ok c.reserve.result _ c.if-is_err.ensures.negation c.reserve.ensures.ok,
+        c.reserve.ensures.len,
+        c.header_len.ensures.bytes,
+      );
     }
 
 pub returns-then-is_err-clause-walk : goal.returns-then-is_err-clause-walk
@@ -49,9 +57,25 @@ returns-then-is_err-clause-walk c =
       (λ same. absurd (cc)),
     )
 
--- a header of the walk had no room, and so there is none for all of them
+-- where there was no room, there is none for the headers of the walk
 pub returns-then-is_err-clause-full : goal.returns-then-is_err-clause-full
 returns-then-is_err-clause-full c =
+    let walks = c.in_default.ensures.ok in
+    λ wanting. (
+      walks.0,
+      c.in_default.field-0.0,
+      walks.1,
+      omega (
+        arith,
+        on_err c.reserve.result _ (sym c.if-is_err.ensures.value) c.reserve.ensures.full,
+        c.header_len.ensures.bytes,
+        walk_len c.args.self.now c.args.first.0 walks.0 c.in_default.field-0.0 walks.1,
+      ),
+    )
+
+-- the room of all headers is enough for each
+pub unwrap-requires : goal.unwrap-requires
+unwrap-requires c =
     let e = c.args.self.now in
     let first = c.args.first.0 in
     let inv = c.loop-header.invariant in
@@ -66,22 +90,19 @@ returns-then-is_err-clause-full c =
     let same = one_walk e [] first walks.0 (front ++ behind.0) c.in_default.field-0.0 behind.1 walks.1.0
     (more.walk behind.0 behind.1 behind.2) in
     let start = c.args.buf.now in
-    let full = on_err c.write.result _ (sym c.is_err.ensures.value ∙ c.if-is_err.true) c.write.ensures.full in
-    let size : vec_len c.loop-header.buf ≡ vec_len start + length (parts_bytes inv.parts) = omega (
+    let now = c.loop-header.buf in
+    let size : vec_len now ≡ vec_len start + length (parts_bytes inv.parts) = omega (
       arith,
-      c.loop-header.buf.ok.0,
+      now.ok.0,
       start.ok.0,
       ap length inv.written,
       length-append start.items (parts_bytes inv.parts),
     ) in
-    λ wanting. (
-      walks.0,
-      c.in_default.field-0.0,
-      walks.1,
-      subst (λ (p : List ExtensionPart). vec_capacity start < vec_len start + length (parts_bytes p)) (sym same.0)
-          (no_room (vec_capacity start) (vec_len start) (vec_capacity c.loop-header.buf) (vec_len c.loop-header.buf)
-          inv.parts part behind.0 inv.capacity size full),
-    )
+    succeeds c.write.result (vec_capacity now) (vec_len now + length (part_bytes part)) c.write.ensures.full
+    (room_for (vec_capacity now) (vec_len start) (vec_len now) (length (parts_bytes (ipv6_parts e)))
+    inv.parts part behind.0 inv.room
+    (sym (ap (λ (p : List ExtensionPart). length (parts_bytes p)) same.0)
+    ∙ walk_len e first walks.0 c.in_default.field-0.0 walks.1) size)
 
 pub loop-header-smaller : goal.loop-header-smaller
 loop-header-smaller c =
@@ -100,8 +121,9 @@ loop-header-preserved c =
       fit = fit_more inv.parts part inv.fit c.write.ensures.fits;
       written = written_more c.args.buf.now.items c.loop-header.buf.items c.write.new.buf.items inv.parts part
           inv.written
-          (on_ok c.write.result _ (sym c.is_err.ensures.value ∙ c.if-is_err.false) c.write.ensures.ok);
+          (on_ok c.write.result _ (ap is_err c.unwrap.ensures) c.write.ensures.ok);
       capacity = omega (arith, inv.capacity, c.write.ensures.capacity);
+      room = omega (arith, inv.room, c.write.ensures.capacity);
     }
 
 pub returns-clause-ok : goal.returns-clause-ok
