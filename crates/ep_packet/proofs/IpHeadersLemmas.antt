@@ -2,7 +2,7 @@
 use Rattle.std.proofs.Common.{◌≡◌, ◌⊎◌, ◌↔◌, ℕ, ◌+◌, ◌-◌, ◌^◌, ◌<◌, ◌==◌, ◌&&◌, ◌≤◌, false, if◌then◌else◌, List, []}
 use Rattle.std.proofs.Common.{◌∷◌, ◌++◌, length, take, drop, Option, Some, None, Result, Ok, Err, refl, sym, ap, subst}
 use Rattle.std.proofs.Common.{◌∙◌, inl, inr, arith}
-use Rattle.std.specs.Prelude.{IfOk, IfErr, IsOkAnd, MatchResult, nat_lt}
+use Rattle.std.specs.Prelude.{IfOk, IfErr, IsOk, IsOkAnd, MatchResult, nat_lt}
 use Rattle.std.proofs.lemmas.Result.{MatchResult-weaker}
 use Rattle.std.proofs.lemmas.Bool.{cases_eq}
 use Rattle.std.proofs.lemmas.Grind.{common_steps}
@@ -39,6 +39,7 @@ use Rattle.ep_ext.specs.Ipv4Chains.{ipv4_first, ipv4_linked, ipv4_parts, ipv4_wa
 use Rattle.ep_ext.specs.Ipv6Chains.{RefusesWalk, ipv6_first, ipv6_linked, ipv6_parts}
 use Rattle.ep_ext.proofs.LinkLemmas.{linked_chain, linked_chain_4, linked_value, linked_walk, linked_walk_4}
 use Rattle.ep_ext.proofs.WalkLemmas.{one_walk, one_walk_refusal, walks_not_refused}
+use Rattle.ep_ext.proofs.WalkLength.{walk_len}
 use Rattle.ep_ip.specs.declared.ipv4_header.Ipv4Header.{Ipv4Header}
 use Rattle.ep_ip.specs.declared.ipv6_header.Ipv6Header.{Ipv6Header}
 use Rattle.ep_ip.specs.IpPackets.{IpPacket, IpPart, ipv4_part, ipv6_part, IsIp, IsIpv4, IsIpv6, RefusesIp, RefusesIpv4}
@@ -384,6 +385,31 @@ pub never_6 : (headers : IpHeaders) (header : Ipv6Header) (extensions : Ipv6Exte
     → (error : ExtsWalkError) → RefusesLeading headers error → ⊥
 never_6 headers header extensions is never error refused =
     let there = subst (λ (h : IpHeaders). RefusesLeading h error) is refused in never there.0 there.1
+
+-- numbers lead through as many bytes as the extension headers have
+pub leading_len : (headers : IpHeaders) (parts : List ExtensionPart) (last : ℕ) → LeadThrough headers parts last
+    → length (parts_bytes parts) ≡ ip_extensions_len headers
+leading_len (variant.Ipv4 header extensions) parts last leads =
+    ap (λ (p : List ExtensionPart). length (parts_bytes p)) leads.0
+leading_len (variant.Ipv6 header extensions) parts last leads =
+    walk_len extensions header.next_header.0 parts last leads
+
+-- extension headers to which the numbers lead are written where there is room for them
+pub extensions_succeed : (headers : IpHeaders) (parts : List ExtensionPart) (last len room : ℕ)
+    (answer : Result (Unit {0}) HeadersWriteError) → LeadThrough headers parts last
+    → len + ip_extensions_len headers ≤ room → TellsLeading headers answer
+    → (answer ≡ Err write_error.OutOfMemory → (other : List ExtensionPart) × (end : ℕ) × LeadThrough headers other end
+    × (room < len + length (parts_bytes other))) → IsOk answer
+extensions_succeed headers parts last len room (Ok done) leads enough leading full = refl
+extensions_succeed headers parts last len room (Err write_error.OutOfMemory) leads enough leading full =
+    let wanting = full refl in
+    absurd (omega (arith, wanting.3, enough, leading_len headers wanting.0 wanting.1 wanting.2))
+extensions_succeed headers parts last len room (Err (write_error.Ipv4Exts error)) leads enough leading full =
+    absurd (not_refused headers parts last (walk_error.Ipv4Exts error) leads
+    ((leading (walk_error.Ipv4Exts error)).1 refl))
+extensions_succeed headers parts last len room (Err (write_error.Ipv6Exts error)) leads enough leading full =
+    absurd (not_refused headers parts last (walk_error.Ipv6Exts error) leads
+    ((leading (walk_error.Ipv6Exts error)).1 refl))
 
 -- numbers that lead from a header of IPv4 to a number
 pub leads_4 : (headers : IpHeaders) (header : Ipv4Header) (extensions : Ipv4Extensions) (last : IpNumber)

@@ -1,6 +1,8 @@
 //! IP headers by value: a header, and the extension headers behind it.
 
-ghost use Rattle.std.specs.Prelude.{◌≡◌};
+ghost use Rattle.std.specs.Prelude.{◌≡◌, ◌≤◌, length};
+ghost use Rattle.ep_ip.specs.Ipv4.{ipv4_bytes, ipv4_checksum};
+ghost use Rattle.ep_ip.specs.Ipv6.{ipv6_bytes};
 ghost use Rattle.ep_packet.specs.IpHeaders.{of_walk_error};
 
 use crate::err::HeadersWriteError;
@@ -160,8 +162,8 @@ impl IpHeaders {
 
     /// Appends the headers' bytes: the header, with its checksum as it is computed, and the extension headers in the
     /// order in which the numbers lead to them. That the numbers lead to each is looked at first. A refusal leaves the
-    /// buffer as it was, and want of memory comes only where the buffer would have to grow. Each field of what is
-    /// written fits its place.
+    /// buffer as it was, and want of memory comes only where the buffer would have to grow: it asks for memory at most
+    /// once, for all headers. Each field of what is written fits its place.
     pub fn write(&self, buf: &mut Vec<u8>) -> Result<(), HeadersWriteError>
         ensures ok { OnOk result ((parts : List ExtensionPart) × (last : ℕ) × LeadThrough self.now parts last
             × FitParts parts × (buf.new.items ≡ buf.old.items ++ written_headers self.now parts)) }
@@ -177,16 +179,23 @@ impl IpHeaders {
         if let Err(error) = self.next_header() {
             return Err(of_walk_error(error));
         }
-        let start = buf.len();
-        if self.write_header(buf).is_err() {
+        if buf.reserve(self.written_len()).is_err() {
             return Err(HeadersWriteError::OutOfMemory);
         }
-        match self.write_extensions(buf) {
-            Ok(()) => Ok(()),
-            Err(error) => {
-                buf.truncate(start);
-                Err(error)
-            }
+        self.write_header(buf).unwrap();
+        self.write_extensions(buf).unwrap();
+        Ok(())
+    }
+
+    /// The number of bytes that are written, where the numbers lead through all headers.
+    #[inline]
+    fn written_len(&self) -> usize
+        ensures value { result ≡ length (ip_header_bytes (with_checksum self.now)) + ip_extensions_len self.now }
+        ensures bound { result ≤ 9268 }
+    {
+        match self {
+            IpHeaders::Ipv4(header, extensions) => ipv4_len(header) + extensions.header_len(),
+            IpHeaders::Ipv6(header, extensions) => ipv6_len(header) + extensions.header_len(),
         }
     }
 
@@ -244,6 +253,28 @@ impl IpHeaders {
             }
         }
     }
+}
+
+/// The number of bytes of a header of IPv4, whose addresses are read to see their lengths.
+#[inline]
+fn ipv4_len(header: &Ipv4Header) -> usize
+    ensures value { result ≡ length (ipv4_bytes (record header.now { header_checksum = ipv4_checksum header.now })) }
+    ensures bound { result ≤ 60 }
+{
+    let (source, destination): (&[u8], &[u8]) = (&header.source, &header.destination);
+    let _addresses_len = source.len() + destination.len();
+    header.header_len()
+}
+
+/// The same of a header of IPv6.
+#[inline]
+fn ipv6_len(header: &Ipv6Header) -> usize
+    ensures value { result ≡ length (ipv6_bytes header.now) }
+    ensures bound { result ≤ 40 }
+{
+    let (source, destination): (&[u8], &[u8]) = (&header.source, &header.destination);
+    let _addresses_len = source.len() + destination.len();
+    header.header_len()
 }
 
 /// A refusal of the walk along the numbers, as one of headers that were to be written.
