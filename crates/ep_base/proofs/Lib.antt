@@ -1,5 +1,6 @@
 pub mod BytesLemmas
 pub mod DecidedLemmas
+pub mod MissingLemmas
 pub mod Residue
 pub mod Sums
 pub mod TableLemmas

@@ -6,6 +6,7 @@ pub mod EtherTypes
 pub mod IpNumbers
 pub mod IpPayload
 pub mod Layer
+pub mod Missing
 pub mod Names
 pub mod Padding
 pub mod Tables

@@ -8,6 +8,7 @@ pub mod LinkLemmas
 pub mod PartLemmas
 pub mod RawExtensionLemmas
 pub mod ReadLemmas
+pub mod ReadingLemmas
 pub mod RefusalLemmas
 pub mod ShownLemmas
 pub mod ValueLaws

@@ -111,6 +111,11 @@ NoKindTwice taken [] = Unit {0}
 NoKindTwice taken (part ∷ parts) =
     (is_taken taken (part_number part) ≡ false) × NoKindTwice (part_number part ∷ taken) parts
 
+-- behind the headers that were taken, and these, a header of a kind that was taken would come next
+abbrev pub StopsAtSecond : List ℕ → List ExtensionPart → ℕ → Type 0
+StopsAtSecond taken [] last = is_taken taken last ≡ true
+StopsAtSecond taken (part ∷ parts) last = StopsAtSecond (part_number part ∷ taken) parts last
+
 -- ---- what is no chain
 
 -- the same refusal, seen from a start that lies so many bytes further in front

@@ -1,3 +1,4 @@
+pub mod AlikeLemmas
 pub mod Deciders
 pub mod EntryLemmas
 pub mod FrameBytesLemmas

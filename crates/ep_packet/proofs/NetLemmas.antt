@@ -19,7 +19,7 @@ use Rattle.ep_packet.proofs.NetBytesLemmas.{behind_payload, layer_bytes}
 -- ---- the net layer alone
 
 -- bytes are one net layer of a kind, or are refused
-layer_decided : Deciders → (reading : Reading) (kind : NetKind) (offset : ℕ) (bytes : List ℕ) → AreBytes bytes
+pub layer_decided : Deciders → (reading : Reading) (kind : NetKind) (offset : ℕ) (bytes : List ℕ) → AreBytes bytes
     → IsDecided (IsNetLayer reading kind bytes) (RefusesNetLayer reading kind offset bytes)
 layer_decided deciders reading only_ipv4 offset bytes fits =
     decided_as ipv4_layer (λ error. error) (refused_as (ipv4_refusal offset) (deciders.ipv4 reading bytes fits))

@@ -1,9 +1,12 @@
 -- What a frame's layers in the reading of slices and in the reading of headers have in common.
 use Rattle.std.specs.Prelude.{◌≡◌, ⊤, ℕ, List, [], Option, Some, None}
-use Rattle.ep_ext.specs.Chains.{NoKindTwice}
+use Rattle.ep_ext.specs.Chains.{NoKindTwice, StopsAtSecond}
 use Rattle.ep_transport.specs.TransportParts.{TransportLayer}
 use Rattle.ep_transport.specs.declared.transport_header.TransportHeader.{TransportHeader}
 use Rattle.ep_transport.specs.declared.transport_header.TransportHeader.TheVariants as header
+use Rattle.ep_transport.specs.Udp.{IsOfUdpLength}
+use Rattle.ep_packet.specs.declared.err.slice_error.SliceError.{SliceError}
+use Rattle.ep_packet.specs.declared.err.slice_error.SliceError.TheVariants.{Len}
 use Rattle.ep_packet.specs.FrameBytes.{last_payload}
 use Rattle.ep_packet.specs.Layers.{Layers, NetLayer, ipv4, ipv6, arp}
 use Rattle.ep_packet.specs.ShownBytes.{BeginsWith}
@@ -41,3 +44,17 @@ pub record Agree (layers other : Layers) : Type 0 where
   pub net : layers.net ≡ other.net
   pub transport : TransportAgrees layers.transport other.transport
   pub payload : LastAgrees layers.transport (last_payload layers) (last_payload other)
+
+-- ---- refusals
+
+-- a refusal by the length field of UDP
+abbrev pub IsUdpLengthRefusal : SliceError → Type 0
+IsUdpLengthRefusal (Len error) = IsOfUdpLength error
+IsUdpLengthRefusal error = ⊥
+
+-- the extension headers of IPv6 stop, as headers are read, where one of a kind that was taken would come next
+abbrev pub StopsAtSecondKind : Option NetLayer → Type 0
+StopsAtSecondKind None = ⊥
+StopsAtSecondKind (Some (ipv4 header extensions payload)) = ⊥
+StopsAtSecondKind (Some (ipv6 header extensions payload)) = StopsAtSecond [] extensions payload.number
+StopsAtSecondKind (Some (arp packet)) = ⊥

@@ -83,7 +83,7 @@ numbered n = elim (cases_eq n udp_number) [
 ]
 
 -- a number without a header has no table, and nothing is read
-no_rows : (reading : Reading) (number : ℕ) (bytes : List ℕ) → HasNoHeader number
+pub no_rows : (reading : Reading) (number : ℕ) (bytes : List ℕ) → HasNoHeader number
     → transport_rows reading number bytes ≡ []
 no_rows reading number bytes other =
     cond-false (number == udp_number) _ _ (ne_eqb number udp_number other.0)

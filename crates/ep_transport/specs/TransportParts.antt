@@ -4,7 +4,7 @@ use Rattle.ep_base.specs.IpNumbers.{icmpv4_number, tcp_number, udp_number, icmpv
 use Rattle.ep_base.specs.Layer.{Reading, slices, headers}
 use Rattle.ep_base.specs.Tables.{Refuses, parts_of, rows_as}
 use Rattle.ep_base.specs.declared.err.tcp.HeaderSliceError.{HeaderSliceError}
-use Rattle.ep_base.specs.declared.err.tcp.HeaderSliceError.TheVariants.{Len}
+use Rattle.ep_base.specs.declared.err.tcp.HeaderSliceError.TheVariants.{Len, Content}
 use Rattle.ep_base.specs.declared.err.len_error.LenError.{LenError}
 use Rattle.ep_transport.specs.declared.udp_header.UdpHeader.{UdpHeader}
 use Rattle.ep_transport.specs.declared.transport_header.TransportHeader.{TransportHeader}
@@ -12,7 +12,7 @@ use Rattle.ep_transport.specs.declared.transport_header.TransportHeader.TheVaria
 use Rattle.ep_transport.specs.declared.transport_slice.TransportSlice.{TransportSlice}
 use Rattle.ep_transport.specs.declared.transport_slice.TransportSlice.TheVariants as slice
 use Rattle.ep_transport.specs.TransportHeaders.{EncodesTransportHeader}
-use Rattle.ep_transport.specs.Udp.{IsUdp, IsUdpHeader, udp_header_rows, udp_rows}
+use Rattle.ep_transport.specs.Udp.{IsOfUdpLength, IsUdp, IsUdpHeader, udp_header_rows, udp_rows}
 use Rattle.ep_transport.specs.UdpSlices.{udp_slice_bytes, udp_slice_header, udp_slice_payload}
 use Rattle.ep_transport.specs.Tcp.{IsTcp, tcp_rows}
 use Rattle.ep_transport.specs.TcpSlices.{tcp_slice_bytes, tcp_slice_header, tcp_slice_payload}
@@ -64,6 +64,24 @@ IsTransportPart reading number fragmented bytes None = (fragmented ≡ true) ⊎
 IsTransportPart reading number fragmented bytes (Some layer) =
     (fragmented ≡ false) × IsTransportLayer reading number bytes layer.header layer.payload
 
+-- what the cut of a layer with this header and this payload leaves: the length field of UDP cuts, as slices are read
+abbrev pub IsLeftBehind : Reading → List ℕ → TransportHeader → List ℕ → List ℕ → Type 0
+IsLeftBehind slices bytes (header.Udp header) payload left = IsUdp bytes (parts_of header payload left)
+IsLeftBehind headers bytes (header.Udp header) payload left = left ≡ []
+IsLeftBehind reading bytes (header.Tcp header) payload left = left ≡ []
+IsLeftBehind reading bytes (header.Icmpv4 header) payload left = left ≡ []
+IsLeftBehind reading bytes (header.Icmpv6 header) payload left = left ≡ []
+
+-- what a layer's cut leaves of the bytes; where they have no layer, all of them are the payload
+abbrev pub IsLeftBy : Reading → List ℕ → Option TransportLayer → List ℕ → Type 0
+IsLeftBy reading bytes None left = left ≡ []
+IsLeftBy reading bytes (Some layer) left = IsLeftBehind reading bytes layer.header layer.payload left
+
+-- the transport layer that bytes are, where they are one, and what its cut leaves
+abbrev pub IsTransportCut : Reading → ℕ → Bool → List ℕ → Option TransportLayer × List ℕ → Type 0
+IsTransportCut reading number fragmented bytes read =
+    IsTransportPart reading number fragmented bytes read.0 × IsLeftBy reading bytes read.0 read.1
+
 -- ---- why bytes are none where they must
 
 -- the table of UDP
@@ -87,6 +105,11 @@ transport_part_rows reading number fragmented bytes = if fragmented then [] else
 -- why the bytes of an IP payload have no transport layer where they must have one
 abbrev pub RefusesTransportPart : Reading → ℕ → Bool → List ℕ → HeaderSliceError → Type 0
 RefusesTransportPart reading number fragmented bytes = Refuses (transport_part_rows reading number fragmented bytes)
+
+-- a refusal by the length field of UDP
+abbrev pub IsUdpLengthError : HeaderSliceError → Type 0
+IsUdpLengthError (Len error) = IsOfUdpLength error
+IsUdpLengthError (Content error) = ⊥
 
 -- ---- the bytes of a transport layer
 

@@ -69,3 +69,7 @@ RefusesUdp bytes = Refuses (udp_rows bytes)
 -- the datagram that bytes are, and what its cut left
 abbrev pub udp_parts : List ℕ → List ℕ → Parts UdpHeader
 udp_parts bytes left = record { header = udp_header_of bytes; payload = drop 8 bytes; left = left }
+
+-- a refusal by the length field: the field is below the header's length, or above the bytes that are there
+abbrev pub IsOfUdpLength : LenError → Type 0
+IsOfUdpLength error = (error.len_source ≡ source.UdpHeaderLen) ⊎ (error.layer ≡ layer.UdpPayload)

@@ -1,15 +1,16 @@
 //! What holds of every list of bytes, each law the contract of a function that does nothing.
 
-ghost use Rattle.std.specs.Prelude.{◌≡◌, ◌%◌, ◌≤◌, ◌++◌, ◌↔◌, ℕ, Bool, IsTrue, List, length, take, drop, map, Option, Result, Ok};
+ghost use Rattle.std.specs.Prelude.{◌≡◌, ◌%◌, ◌≤◌, ◌⊎◌, ◌++◌, ◌↔◌, ℕ, Bool, IsTrue, List, length, take, drop, map, Option, Result, Ok};
 ghost use Rattle.std.specs.Int.{w16, to_be_bytes};
 ghost use Rattle.std.specs.List.{All};
 ghost use Rattle.ep_transport.specs.declared.tcp_option_element.TcpOptionElement.{TcpOptionElement};
 ghost use Rattle.ep_transport.specs.declared.tcp_option_element.TcpOptionReadError.{TcpOptionReadError};
 ghost use Rattle.ep_base.specs.Bytes.{AreBytes};
 ghost use Rattle.ep_base.specs.Checksum.{ones_sum, checksum_of, no_zero};
-ghost use Rattle.ep_base.specs.Layer.{Reading};
+ghost use Rattle.ep_base.specs.Layer.{Reading, slices, headers};
 ghost use Rattle.ep_base.specs.Tables.{IsDecided};
 ghost use Rattle.ep_base.specs.declared.err.len_error.LenError.{LenError};
+ghost use Rattle.ep_base.specs.declared.err.tcp.HeaderSliceError.{HeaderSliceError};
 ghost use Rattle.ep_base.specs.declared.err.tcp.HeaderSliceError.TheVariants as header_error;
 ghost use Rattle.ep_transport.specs.Udp.{IsUdp, IsUdpHeader, RefusesUdp, RefusesUdpHeader, udp_bytes};
 ghost use Rattle.ep_transport.specs.Tcp.{IsTcp, RefusesTcp, tcp_bytes, default_tcp_header};
@@ -24,7 +25,7 @@ ghost use Rattle.ep_transport.specs.declared.tcp_options.TcpOptionWriteError.{Tc
 ghost use Rattle.ep_transport.specs.TcpOptionSteps.{options_left};
 ghost use Rattle.ep_transport.specs.UdpSlices.{udp_slice_bytes};
 ghost use Rattle.ep_transport.specs.TcpSlices.{tcp_slice_bytes};
-ghost use Rattle.ep_transport.specs.TransportParts.{TransportLayer, AreTransport, IsTransportPart, RefusesTransportPart};
+ghost use Rattle.ep_transport.specs.TransportParts.{TransportLayer, AreTransport, HasNoHeader, IsTransportCut, IsTransportPart, IsUdpLengthError, RefusesTransportPart};
 ghost use Rattle.ep_transport.specs.TransportParts.{transport_slice_bytes};
 ghost use Rattle.ep_transport.specs.TransportNumbers.{transport_slice_number};
 
@@ -83,6 +84,27 @@ pub fn transport()
     ensures { (reading : Reading) (number : ℕ) (fragmented : Bool) (bytes : List ℕ) → AreBytes bytes
         → IsDecided (IsTransportPart reading number fragmented bytes)
         (RefusesTransportPart reading number fragmented bytes) }
+{}
+
+/// The bytes of an IP payload have one transport layer, or none, and one part that its cut leaves, or are refused with one
+/// error, and never both.
+pub fn transport_cut()
+    ensures { (reading : Reading) (number : ℕ) (fragmented : Bool) (bytes : List ℕ) → AreBytes bytes
+        → IsDecided (IsTransportCut reading number fragmented bytes)
+        (RefusesTransportPart reading number fragmented bytes) }
+{}
+
+/// What is refused in the reading of headers is refused in that of slices, with the same error. Slices alone refuse by the
+/// length field of UDP, and bytes of a number of no header are never refused.
+pub fn transport_of_headers()
+    ensures refused { (number : ℕ) (fragmented : Bool) (bytes : List ℕ) (error : HeaderSliceError)
+        → RefusesTransportPart headers number fragmented bytes error
+        → RefusesTransportPart slices number fragmented bytes error }
+    ensures alone { (number : ℕ) (fragmented : Bool) (bytes : List ℕ) (error : HeaderSliceError)
+        → RefusesTransportPart slices number fragmented bytes error
+        → RefusesTransportPart headers number fragmented bytes error ⊎ IsUdpLengthError error }
+    ensures none { (reading : Reading) (number : ℕ) (fragmented : Bool) (bytes : List ℕ) (error : HeaderSliceError)
+        → HasNoHeader number → ¬ RefusesTransportPart reading number fragmented bytes error }
 {}
 
 /// The bytes of an IP payload are the transport header, its payload, and what its cut leaves.

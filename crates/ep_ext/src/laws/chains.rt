@@ -1,12 +1,13 @@
 //! What holds of every chain of extension headers, each law the contract of a function that does nothing.
 
-ghost use Rattle.std.specs.Prelude.{◌≡◌, ◌≤◌, ◌+◌, ◌++◌, ℕ, List, [], None, Ok, false, length};
+ghost use Rattle.std.specs.Prelude.{◌≡◌, ◌≤◌, ◌+◌, ◌⊎◌, ◌++◌, ℕ, List, [], None, Ok, true, false, length};
 ghost use Rattle.ep_base.specs.declared.err.ipv6_exts.ExtsWalkError.{ExtsWalkError};
+ghost use Rattle.ep_base.specs.declared.err.ipv6_exts.HeaderSliceError.{HeaderSliceError};
 ghost use Rattle.ep_base.specs.Bytes.{AreBytes};
 ghost use Rattle.ep_base.specs.IpNumbers.{authentication_number};
 ghost use Rattle.ep_base.specs.Layer.{Reading, slices, headers};
 ghost use Rattle.ep_base.specs.Tables.{IsDecided};
-ghost use Rattle.ep_ext.specs.Chains.{IpVersion, ipv4, ipv6, ExtensionChain, IsExtensionChain, RefusesExtensionChain, NoKindTwice, FitParts, EncodesParts, chain_of, chain_fragments, is_ipv6_extension, parts_bytes};
+ghost use Rattle.ep_ext.specs.Chains.{IpVersion, ipv4, ipv6, ExtensionChain, IsExtensionChain, RefusesExtensionChain, NoKindTwice, StopsAtSecond, FitParts, EncodesParts, chain_of, chain_fragments, is_ipv6_extension, parts_bytes};
 ghost use Rattle.ep_ext.specs.ExtensionParts.{ExtensionPart};
 ghost use Rattle.ep_ext.specs.declared.ipv4_exts.Ipv4Extensions.{Ipv4Extensions};
 ghost use Rattle.ep_ext.specs.declared.ipv6_exts.Ipv6Extensions.{Ipv6Extensions};
@@ -30,6 +31,18 @@ pub fn chain_without_second_kind()
     ensures { (version : IpVersion) (number : ℕ) (bytes : List ℕ) (chain : ExtensionChain)
         → IsExtensionChain version slices number bytes chain → NoKindTwice [] chain.parts
         → IsExtensionChain version headers number bytes chain }
+{}
+
+/// A chain in the reading of headers is one in that of slices too, unless it is of IPv6 and stops where a header of a kind
+/// that was taken would come next. What is refused in the reading of headers is refused in that of slices, with the same
+/// error.
+pub fn chain_of_headers()
+    ensures chain { (version : IpVersion) (number : ℕ) (bytes : List ℕ) (chain : ExtensionChain)
+        → IsExtensionChain version headers number bytes chain → IsExtensionChain version slices number bytes chain
+        ⊎ ((version ≡ ipv6) × StopsAtSecond [] chain.parts chain.last × (is_ipv6_extension chain.last ≡ true)) }
+    ensures refused { (version : IpVersion) (number : ℕ) (bytes : List ℕ) (error : HeaderSliceError)
+        → RefusesExtensionChain version headers number bytes error
+        → RefusesExtensionChain version slices number bytes error }
 {}
 
 /// A chain is the bytes of its headers, whatever their reserved bits, and then the rest. As many bytes are before the

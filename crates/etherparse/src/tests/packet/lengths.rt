@@ -70,9 +70,16 @@ fn missing(
     })
 }
 
-/// The frame with this total length of IPv4, which is below 65536.
-fn with_total_len(len: usize) -> [u8; 50] {
-    changed(&[(16, (len / 256) as u8), (17, (len % 256) as u8)])
+/// The frame with this total length of IPv4.
+fn with_total_len(len: u16) -> [u8; 50] {
+    let bytes = len.to_be_bytes();
+    changed(&[(16, bytes[0]), (17, bytes[1])])
+}
+
+/// The frame with this length field of UDP.
+fn with_udp_len(len: u16) -> [u8; 50] {
+    let bytes = len.to_be_bytes();
+    changed(&[(38, bytes[0]), (39, bytes[1])])
 }
 
 /// Total lengths that end in the IPv4 header, and in the header of UDP.
@@ -80,11 +87,11 @@ fn with_total_len(len: usize) -> [u8; 50] {
 fn total_length_in_a_header(rt: HostRuntime) {
     let total = LenSource::Ipv4HeaderTotalLen;
     for len in 0..20 {
-        let error = missing(20, len, total, Layer::Ipv4Packet, 14);
+        let error = missing(20, usize::from(len), total, Layer::Ipv4Packet, 14);
         refused(&rt, &with_total_len(len), &error);
     }
     for len in 20..28 {
-        let error = missing(8, len - 20, total, Layer::UdpHeader, 34);
+        let error = missing(8, usize::from(len - 20), total, Layer::UdpHeader, 34);
         refused(&rt, &with_total_len(len), &error);
     }
 }
@@ -94,12 +101,13 @@ fn total_length_in_a_header(rt: HostRuntime) {
 fn total_length_behind_the_headers(rt: HostRuntime) {
     let total = LenSource::Ipv4HeaderTotalLen;
     for len in 28..36 {
-        let error = missing(16, len - 20, total, Layer::UdpPayload, 34);
+        let error = missing(16, usize::from(len - 20), total, Layer::UdpPayload, 34);
         refused_in_slices(&rt, &with_total_len(len), &error);
     }
     taken(&rt, &with_total_len(36));
-    for len in 37..65536 {
-        let error = missing(len, 36, LenSource::Slice, Layer::Ipv4Packet, 14);
+    for len in 37..=u16::MAX {
+        let needed = usize::from(len);
+        let error = missing(needed, 36, LenSource::Slice, Layer::Ipv4Packet, 14);
         refused(&rt, &with_total_len(len), &error);
     }
 }
@@ -130,19 +138,24 @@ fn first_byte_of_ipv4(rt: HostRuntime) {
 /// Each length field of UDP. Only slices are cut by it.
 #[test]
 fn length_of_udp(rt: HostRuntime) {
-    taken(&rt, &changed(&[(38, 0), (39, 0)]));
+    taken(&rt, &with_udp_len(0));
     for len in 1..8 {
-        let error = missing(8, len, LenSource::UdpHeaderLen, Layer::UdpHeader, 34);
-        refused_in_slices(&rt, &changed(&[(38, 0), (39, len as u8)]), &error);
+        let error = missing(
+            8,
+            usize::from(len),
+            LenSource::UdpHeaderLen,
+            Layer::UdpHeader,
+            34,
+        );
+        refused_in_slices(&rt, &with_udp_len(len), &error);
     }
     for len in 8..17 {
-        taken(&rt, &changed(&[(38, 0), (39, len)]));
+        taken(&rt, &with_udp_len(len));
     }
-    for len in 17..65536 {
+    for len in 17..=u16::MAX {
         let total = LenSource::Ipv4HeaderTotalLen;
-        let error = missing(len, 16, total, Layer::UdpPayload, 34);
-        let frame = changed(&[(38, (len / 256) as u8), (39, (len % 256) as u8)]);
-        refused_in_slices(&rt, &frame, &error);
+        let error = missing(usize::from(len), 16, total, Layer::UdpPayload, 34);
+        refused_in_slices(&rt, &with_udp_len(len), &error);
     }
 }
 
