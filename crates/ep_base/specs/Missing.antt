@@ -14,10 +14,15 @@ IsOfBytesAtHand limit = (limit ≡ source.Slice) ⊎ (limit ≡ source.ArpAddrLe
 abbrev pub HasExactLength : Layer → Type 0
 HasExactLength place = (place ≡ layer.Icmpv4Timestamp) ⊎ (place ≡ layer.Icmpv4TimestampReply)
 
--- the layer that begins at this place of the bytes needs more of them than there are, which the error counts
-pub record IsShort (bytes : List ℕ) (error : LenError) : Type 0 where
-  pub there : error.layer_start_offset + error.len ≡ length bytes
+-- a layer needs more bytes than there are from its start up to this end of the bytes
+pub record IsShortAt (limit : ℕ) (error : LenError) : Type 0 where
+  pub there : error.layer_start_offset + error.len ≡ limit
   pub needed : error.len < error.required_len
+
+-- where the end of the bytes at hand is what set the limit, the error counts the bytes up to there, which are too few
+abbrev pub CountsMissing : ℕ → LenError → Type 0
+CountsMissing limit error =
+    IsOfBytesAtHand error.len_source → (¬ HasExactLength error.layer) → IsShortAt limit error
 
 -- the same row of a table again, whatever the number of bytes that are there
 abbrev pub that_row : LenError → ℕ → LenError
@@ -26,8 +31,7 @@ that_row error len = record error { len = len }
 -- A refusal for want of bytes at hand counts the bytes that are there. With any bytes behind them, of which there are at
 -- least as many as are missing, they are not refused by that row again.
 pub record TellsMissing (Refuses : List ℕ → LenError → Type 0) : Type 0 where
-  pub short : (bytes : List ℕ) (error : LenError) → Refuses bytes error → IsOfBytesAtHand error.len_source
-      → (¬ HasExactLength error.layer) → IsShort bytes error
+  pub counts : (bytes : List ℕ) (error : LenError) → Refuses bytes error → CountsMissing (length bytes) error
   pub not_again : (bytes more : List ℕ) (error : LenError) (len : ℕ) → Refuses bytes error
       → IsOfBytesAtHand error.len_source → (¬ HasExactLength error.layer)
       → error.required_len ≤ error.len + length more → Refuses (bytes ++ more) (that_row error len) → ⊥

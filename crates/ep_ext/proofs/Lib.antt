@@ -5,6 +5,7 @@ pub mod FragmentHeaderLemmas
 pub mod HeaderLaws
 pub mod IpAuthLemmas
 pub mod LinkLemmas
+pub mod MissingLemmas
 pub mod PartLemmas
 pub mod RawExtensionLemmas
 pub mod ReadLemmas

@@ -1,7 +1,13 @@
 //! What holds of every list of bytes, each law the contract of a function that does nothing.
 
-ghost use Rattle.std.specs.Prelude.{◌≡◌, ◌↔◌, ℕ, List, IsTrue, option_map};
+ghost use Rattle.std.specs.Prelude.{◌≡◌, ◌↔◌, ℕ, List, IsTrue, length, option_map};
 ghost use Rattle.ep_base.specs.Bytes.{AreBytes};
+ghost use Rattle.ep_base.specs.Layer.{Reading};
+ghost use Rattle.ep_base.specs.Missing.{IsShortAt, TellsMissing};
+ghost use Rattle.ep_base.specs.declared.err.len_error.LenError.{LenError};
+ghost use Rattle.ep_base.specs.declared.err.ip_auth.HeaderSliceError.TheVariants as auth_error;
+ghost use Rattle.ep_base.specs.declared.err.ipv6_exts.HeaderSliceError.TheVariants as exts_error;
+ghost use Rattle.ep_base.specs.declared.len_source.LenSource.TheVariants as source;
 ghost use Rattle.ep_base.specs.Tables.{IsDecided};
 ghost use Rattle.ep_ext.specs.FragmentHeader.{IsFragmentHeader, RefusesFragmentHeader};
 ghost use Rattle.ep_ext.specs.IpAuth.{FitsIpAuth, IsIpAuth, RefusesIpAuth};
@@ -11,7 +17,7 @@ ghost use Rattle.ep_ext.specs.RawExtensionSlices.{raw_extension_slice_bytes};
 ghost use Rattle.ep_ext.specs.FragmentHeaderSlices.{fragment_slice_bytes};
 ghost use Rattle.ep_ext.specs.ExtensionParts.{part_number};
 ghost use Rattle.ep_ext.specs.Ipv6Slices.{bytes_left, extension_slice_bytes, extension_slice_part, ipv6_slice_bytes, ipv6_slice_number, number_left};
-ghost use Rattle.ep_ext.specs.Chains.{FitParts};
+ghost use Rattle.ep_ext.specs.Chains.{FitParts, IpVersion, RefusesExtensionChain};
 ghost use Rattle.ep_ext.specs.Ipv4Chains.{ipv4_parts};
 ghost use Rattle.ep_ext.specs.Ipv6Chains.{FitRouting, ipv6_parts};
 
@@ -41,6 +47,20 @@ pub fn raw_extension()
 /// never both.
 pub fn fragment_header()
     ensures { (bytes : List ℕ) → AreBytes bytes → IsDecided (IsFragmentHeader bytes) (RefusesFragmentHeader bytes) }
+{}
+
+/// A refusal for want of bytes at hand counts the bytes that are there, and with as many behind them as are missing, the
+/// bytes are not refused by that row again: for each header, and for chains in each version and reading. No other length
+/// refuses a chain.
+pub fn tell_missing()
+    ensures ip_auth { TellsMissing (λ bytes error. RefusesIpAuth bytes (auth_error.Len error)) }
+    ensures raw_extension { TellsMissing RefusesRawExtension }
+    ensures fragment_header { TellsMissing RefusesFragmentHeader }
+    ensures chain { (version : IpVersion) (reading : Reading) (number : ℕ)
+        → TellsMissing (λ bytes error. RefusesExtensionChain version reading number bytes (exts_error.Len error)) }
+    ensures limit { (version : IpVersion) (reading : Reading) (number : ℕ) (bytes : List ℕ) (error : LenError)
+        → RefusesExtensionChain version reading number bytes (exts_error.Len error)
+        → IsShortAt (length bytes) error × (error.len_source ≡ source.Slice) }
 {}
 
 /// The lengths of headers and of what they hold.

@@ -3,7 +3,11 @@
 ghost use Rattle.std.specs.Prelude.{◌≡◌, ◌≤◌, ◌↔◌, length, ℕ, true, false, List, [], ◌∷◌, replicate};
 ghost use Rattle.ep_base.specs.Bytes.{AreBytes};
 ghost use Rattle.ep_base.specs.Layer.{Reading};
+ghost use Rattle.ep_base.specs.Missing.{IsOfBytesAtHand, TellsMissing};
 ghost use Rattle.ep_base.specs.Tables.{IsDecided};
+ghost use Rattle.ep_base.specs.declared.err.ip.SliceError.TheVariants as ip_error;
+ghost use Rattle.ep_base.specs.declared.err.ipv4.HeaderSliceError.TheVariants as ipv4_header_error;
+ghost use Rattle.ep_base.specs.declared.err.ipv6.HeaderSliceError.TheVariants as ipv6_header_error;
 ghost use Rattle.ep_base.specs.declared.err.len_error.LenError.{LenError};
 ghost use Rattle.ep_base.specs.declared.err.ipv4.SliceError.TheVariants as ipv4_error;
 ghost use Rattle.ep_base.specs.declared.err.ipv6.SliceError.TheVariants as ipv6_error;
@@ -74,6 +78,22 @@ pub fn refusal_places()
         → RefusesIpv4 reading bytes (ipv4_error.Len error) → error.layer_start_offset ≤ length bytes }
     ensures ipv6 { (reading : Reading) (bytes : List ℕ) (error : LenError)
         → RefusesIpv6 reading bytes (ipv6_error.Len error) → error.layer_start_offset ≤ length bytes }
+{}
+
+/// A refusal for want of bytes at hand counts the bytes that are there, and with as many behind them as are missing, the
+/// bytes are not refused by that row again: for each header and packet, and for packets with their extension headers in
+/// each reading. What a length field other than a payload length of 0 cut has that field as its limit, so a payload whose
+/// limit is the bytes at hand leaves nothing.
+pub fn tell_missing()
+    ensures ipv4_header { TellsMissing (λ bytes error. RefusesIpv4Header bytes (ipv4_header_error.Len error)) }
+    ensures ipv4_packet { TellsMissing (λ bytes error. RefusesIpv4Packet bytes (ipv4_error.Len error)) }
+    ensures ipv6_header { TellsMissing (λ bytes error. RefusesIpv6Header bytes (ipv6_header_error.Len error)) }
+    ensures ipv6_packet { TellsMissing (λ bytes error. RefusesIpv6Packet bytes (ipv6_error.Len error)) }
+    ensures ipv4 { (reading : Reading) → TellsMissing (λ bytes error. RefusesIpv4 reading bytes (ipv4_error.Len error)) }
+    ensures ipv6 { (reading : Reading) → TellsMissing (λ bytes error. RefusesIpv6 reading bytes (ipv6_error.Len error)) }
+    ensures ip { (reading : Reading) → TellsMissing (λ bytes error. RefusesIp reading bytes (ip_error.Len error)) }
+    ensures payload { (reading : Reading) (bytes : List ℕ) (packet : IpPacket Ipv6Header) → IsIpv6 reading bytes packet
+        → IsOfBytesAtHand packet.payload.source → packet.left ≡ [] }
 {}
 
 /// Bytes that begin with a version are a packet where the version is open exactly where they are one of this version,

@@ -4,4 +4,5 @@ pub mod LinkExtensionLemmas
 pub mod LinuxSllLemmas
 pub mod MacsecLemmas
 pub mod MacsecReads
+pub mod MissingLemmas
 pub mod VlanLemmas

@@ -4,6 +4,9 @@ ghost use Rattle.std.specs.Prelude.{◌≡◌, ◌↔◌, ◌+◌, ◌++◌, ◌
 ghost use Rattle.std.specs.Ordering.{nat_cmp};
 ghost use Rattle.ep_base.specs.Bytes.{AreBytes};
 ghost use Rattle.ep_base.specs.Comparisons.{TellsSame, ClonesExactly};
+ghost use Rattle.ep_base.specs.Missing.{TellsMissing};
+ghost use Rattle.ep_base.specs.declared.err.linux_sll.HeaderSliceError.TheVariants as sll_error;
+ghost use Rattle.ep_base.specs.declared.err.macsec.HeaderSliceError.TheVariants as macsec_error;
 ghost use Rattle.ep_base.specs.Tables.{IsDecided};
 ghost use Rattle.ep_base.specs.declared.ether_type.EtherType.{EtherType};
 ghost use Rattle.ep_base.specs.declared.err.macsec.HeaderSliceError.{HeaderSliceError};
@@ -100,6 +103,19 @@ pub fn link_extension_len()
     ensures { (type : EtherType) (bytes : List ℕ) (part : LinkExtension × List ℕ) → IsLinkExtension type bytes part
         → length bytes
         ≡ link_ext_header_len (extension_header part.0) + length (extension_payload part.0) + length part.1 }
+{}
+
+/// A refusal for want of bytes at hand counts the bytes that are there, and with as many behind them as are missing, the
+/// bytes are not refused by that row again: for each layer, and for link extensions of any type.
+pub fn tell_missing()
+    ensures ethernet2 { TellsMissing RefusesEthernet2 }
+    ensures linux_sll { TellsMissing (λ bytes error. RefusesLinuxSll bytes (sll_error.Len error)) }
+    ensures vlan { TellsMissing RefusesVlan }
+    ensures macsec_header { TellsMissing (λ bytes error. RefusesMacsecHeader bytes (macsec_error.Len error)) }
+    ensures macsec { TellsMissing (λ bytes error. RefusesMacsec bytes (macsec_error.Len error)) }
+    ensures arp { TellsMissing RefusesArp }
+    ensures link_extension { (type : EtherType)
+        → TellsMissing (λ bytes error. RefusesLinkExtension type bytes (macsec_error.Len error)) }
 {}
 
 /// The numbers are those that IANA and Linux assign, and each length is that of its header or packet.

@@ -1,6 +1,7 @@
 pub mod IcmpLemmas
 pub mod Icmpv4Lemmas
 pub mod Icmpv6Lemmas
+pub mod MissingLemmas
 pub mod ReadingLemmas
 pub mod SumLemmas
 pub mod TcpLemmas

@@ -8,11 +8,15 @@ ghost use Rattle.ep_transport.specs.declared.tcp_option_element.TcpOptionReadErr
 ghost use Rattle.ep_base.specs.Bytes.{AreBytes};
 ghost use Rattle.ep_base.specs.Checksum.{ones_sum, checksum_of, no_zero};
 ghost use Rattle.ep_base.specs.Layer.{Reading, slices, headers};
+ghost use Rattle.ep_base.specs.Missing.{TellsMissing};
 ghost use Rattle.ep_base.specs.Tables.{IsDecided};
+ghost use Rattle.ep_base.specs.declared.len_source.LenSource.TheVariants as source;
 ghost use Rattle.ep_base.specs.declared.err.len_error.LenError.{LenError};
 ghost use Rattle.ep_base.specs.declared.err.tcp.HeaderSliceError.{HeaderSliceError};
 ghost use Rattle.ep_base.specs.declared.err.tcp.HeaderSliceError.TheVariants as header_error;
 ghost use Rattle.ep_transport.specs.Udp.{IsUdp, IsUdpHeader, RefusesUdp, RefusesUdpHeader, udp_bytes};
+ghost use Rattle.ep_transport.specs.Icmpv4.{RefusesIcmpv4};
+ghost use Rattle.ep_transport.specs.Icmpv6.{RefusesIcmpv6};
 ghost use Rattle.ep_transport.specs.Tcp.{IsTcp, RefusesTcp, tcp_bytes, default_tcp_header};
 ghost use Rattle.ep_transport.specs.TcpOptionBytes.{FitsOption, IsNextOption, RefusesOption, AreItems, as_read, in_words, options_bytes};
 ghost use Rattle.ep_transport.specs.PseudoHeaders.{pseudo_header_ipv4, pseudo_header_ipv6};
@@ -105,6 +109,22 @@ pub fn transport_of_headers()
         → RefusesTransportPart headers number fragmented bytes error ⊎ IsUdpLengthError error }
     ensures none { (reading : Reading) (number : ℕ) (fragmented : Bool) (bytes : List ℕ) (error : HeaderSliceError)
         → HasNoHeader number → ¬ RefusesTransportPart reading number fragmented bytes error }
+{}
+
+/// A refusal for want of bytes at hand counts the bytes that are there, and with as many behind them as are missing, the
+/// bytes are not refused by that row again: for each layer but timestamps of ICMP, which have exactly 20 bytes, and for the
+/// transport layer of any number in each reading. Beside the end of the bytes, the length field of UDP alone is a limit.
+pub fn tell_missing()
+    ensures udp_header { TellsMissing RefusesUdpHeader }
+    ensures udp { TellsMissing RefusesUdp }
+    ensures tcp { TellsMissing (λ bytes error. RefusesTcp bytes (header_error.Len error)) }
+    ensures icmpv4 { TellsMissing RefusesIcmpv4 }
+    ensures icmpv6 { TellsMissing RefusesIcmpv6 }
+    ensures transport { (reading : Reading) (number : ℕ) (fragmented : Bool) → TellsMissing
+        (λ bytes error. RefusesTransportPart reading number fragmented bytes (header_error.Len error)) }
+    ensures limit { (reading : Reading) (number : ℕ) (fragmented : Bool) (bytes : List ℕ) (error : LenError)
+        → RefusesTransportPart reading number fragmented bytes (header_error.Len error)
+        → (error.len_source ≡ source.Slice) ⊎ (error.len_source ≡ source.UdpHeaderLen) }
 {}
 
 /// The bytes of an IP payload are the transport header, its payload, and what its cut leaves.
