@@ -1,6 +1,7 @@
 -- When a list of fragments is complete, by the sections.
-use Rattle.std.proofs.Common.{◌≡◌, ℕ, suc, zero, ◌+◌, ◌<◌, ◌≤◌, Bool, true, false, cond, ◌||◌, ◌&&◌, eqb, List, [], ◌∷◌, length, sym, refl, ap, ◌∙◌, inl, inr, arith, ◌↔◌, is_some}
+use Rattle.std.proofs.Common.{◌≡◌, ℕ, suc, zero, ◌+◌, ◌<◌, ◌≤◌, Bool, true, false, cond, ◌||◌, ◌&&◌, eqb, List, [], ◌∷◌, length, sym, refl, ap, ◌∙◌, inl, inr, arith, ◌↔◌, Option, Some, None, is_some}
 use Rattle.std.specs.List.{AllByRecursion, list_any, count_by}
+use Rattle.std.specs.Option.{unwrap_or}
 use Rattle.std.proofs.lemmas.Bool.{cases_lt, false≢true, or_cases, and_parts, and_from, or_left, or_right, eq-eqb, eqb-true}
 use Rattle.std.proofs.lemmas.Bool.Decides.{nat_tests}
 use Rattle.std.proofs.lemmas.List.Sums.{sum_by-cons}
@@ -10,6 +11,7 @@ use Rattle.ep_defrag.specs.Fragments.{IpFragment, fragment_start, fragment_end, 
 use Rattle.ep_defrag.specs.Buffers.{is_whole}
 use Rattle.ep_defrag.proofs.Lists.{list_all-range, each_of_range, count_by-positive}
 use Rattle.ep_defrag.proofs.Sections.{IsOrdered}
+use Rattle.ep_defrag.proofs.Data.{EndIsGreatest}
 
 -- ---- what a list of fragments touches
 -- nothing behind its greatest end
@@ -137,22 +139,31 @@ some_section [] (fragment ∷ fragments) fill known =
     ∙ ap (λ t. t || is_touched fragments (fragment_start fragment)) here))
 some_section (section ∷ sections) (fragment ∷ fragments) fill known = omega arith
 
--- The fragments are complete exactly where their end is known and there is one section, which starts at 0.
+known_reach : (known : Option ℕ) (reach : ℕ) → unwrap_or known reach ≡ reach → is_some known ≡ true
+    → unwrap_or known 0 ≡ reach
+known_reach None reach greatest some = absurd (false≢true some)
+known_reach (Some end) reach greatest some = greatest
+
+-- The fragments are complete exactly where their end is known, which is the greatest, and there is one section, which
+-- starts at 0.
 pub complete_by_sections : (sections : List IpFragRange) (fragments : List IpFragment) → Fill sections fragments
+    → EndIsGreatest fragments
     → ((is_some (end_of fragments) && is_whole sections) ≡ true) ↔ IsComplete fragments
 unfolding AllCovered
-complete_by_sections sections fragments fill = (
+complete_by_sections sections fragments fill greatest = (
   λ whole.
       let parts = and_parts (is_some (end_of fragments)) (is_whole sections) whole in
       let covered = covered_from_whole sections fragments fill parts.1 in
+      let end = known_reach (end_of fragments) (reach_of fragments) greatest parts.0 in
       and_from _ _ parts.0
-      (list_all-range (is_covered fragments) 0 (reach_of fragments)
-      (λ position low high. covered position (omega arith))),
+      (list_all-range (is_covered fragments) 0 (unwrap_or (end_of fragments) 0)
+      (λ position low high. covered position (omega (arith, end, high)))),
   λ complete.
       let parts = and_parts (is_some (end_of fragments)) _ complete in
+      let end = known_reach (end_of fragments) (reach_of fragments) greatest parts.0 in
       and_from _ _ parts.0
       (whole_from_covered sections fragments fill
-      (λ position below. each_of_range (is_covered fragments) 0 (reach_of fragments) parts.1 position (omega arith)
-      (omega arith))
+      (λ position below. each_of_range (is_covered fragments) 0 (unwrap_or (end_of fragments) 0) parts.1 position
+      (omega arith) (omega (arith, end, below)))
       (some_section sections fragments fill parts.0)),
 )

@@ -1,16 +1,17 @@
 -- Fragments that a payload was cut into.
-use Rattle.std.proofs.Common.{◌≡◌, ℕ, ◌+◌, ◌-◌, ◌%◌, ◌<◌, ◌≤◌, true, false, ◌↔◌, eqb, ltb, List, [], ◌∷◌, length, get_or, Some, None, is_some, IsTrue, sym, refl, ap, ◌∙◌, ◌⊎◌, inl, inr, arith}
+use Rattle.std.proofs.Common.{◌≡◌, ℕ, ◌+◌, ◌-◌, ◌%◌, ◌<◌, ◌≤◌, true, false, ◌↔◌, eqb, Option, List, [], ◌∷◌, length, get_or, Some, None, is_some, IsTrue, sym, refl, ap, ◌∙◌, ◌⊎◌, inl, inr, arith}
 use Rattle.std.specs.List.{AllByRecursion, Any, list_any}
+use Rattle.std.specs.Option.{unwrap_or}
 use Rattle.std.proofs.lemmas.Bool.{cases_Bool, false≢true, or_cases, and_parts, and_from, le-ltb, eq-eqb, and_left, and_right, not_from_true, not_from_false, not-true, or_from}
 use Rattle.std.proofs.lemmas.Bool.Decides.{nat_tests}
 use Rattle.std.proofs.lemmas.List.Edits.{get_or-between}
 use Rattle.std.proofs.lemmas.List.Folds.{Any-from_list_any, list_any-from_Any}
 use Rattle.std.proofs.lemmas.List.FromFn.{fill_by_all}
-use Rattle.ep_base.specs.Tables.{first_row}
 use Rattle.ep_defrag.specs.Fragments.{IpFragment, is_final, fragment_start, fragment_end, covers, is_covered, IsCovered, reach_of, end_of, byte_at, assembled, IsComplete}
-use Rattle.ep_defrag.specs.Refusals.{is_unaligned, conflicts_with, end_rows, Fits}
+use Rattle.ep_defrag.specs.Refusals.{is_unaligned, conflicts_with, ends_too_early, Fits}
 use Rattle.ep_defrag.specs.Cuts.{IsCut}
 use Rattle.ep_defrag.proofs.Lists.{list_all-range, each_of_range}
+use Rattle.ep_defrag.proofs.Data.{refusal_at-fits}
 
 module _ (payload : List ℕ) where
   -- the end of cuts, where it is known, is that of the payload
@@ -21,6 +22,11 @@ module _ (payload : List ℕ) where
     | inl more ↦ rw more (end_of_cuts cuts all.1)
     | inr last ↦ rw last (inr (ap (λ (end : ℕ). Some end) (all.0.last (not_from_false cut.more last))))
   ]
+
+  known_end_of_cuts : (known : Option ℕ) → (known ≡ None) ⊎ (known ≡ Some (length payload)) → is_some known ≡ true
+      → unwrap_or known 0 ≡ length payload
+  known_end_of_cuts known (inl unknown) some = absurd (false≢true (sym (ap is_some unknown) ∙ some))
+  known_end_of_cuts known (inr is) some = ap (λ end. unwrap_or end 0) is
 
   -- it is known where a final one is among them
   known_from_final : (cuts : List IpFragment) → list_any is_final cuts ≡ true → is_some (end_of cuts) ≡ true
@@ -37,18 +43,10 @@ module _ (payload : List ℕ) where
     | inr last ↦ rw last refl
   ]
 
-  -- cuts reach no further than the payload, and a final one reaches its end
+  -- cuts reach no further than the payload
   reach_of_cuts : (cuts : List IpFragment) → AllByRecursion (IsCut payload) cuts → reach_of cuts ≤ length payload
   reach_of_cuts [] all = omega arith
   reach_of_cuts (cut ∷ cuts) all = omega (arith, all.0.within, reach_of_cuts cuts all.1)
-
-  reach_from_final : (cuts : List IpFragment) → AllByRecursion (IsCut payload) cuts → is_some (end_of cuts) ≡ true
-      → length payload ≤ reach_of cuts
-  reach_from_final [] all known = absurd (false≢true known)
-  reach_from_final (cut ∷ cuts) all known = elim (cases_Bool cut.more) [
-    | inl more ↦ omega (arith, reach_from_final cuts all.1 (rw more at known))
-    | inr last ↦ omega (arith, all.0.last (not_from_false cut.more last))
-  ]
 
   -- a cut that is final or a multiple of 8 long fits after others
   unaligned_not : (cut : IpFragment) → IsTrue (is_final cut) ⊎ (length cut.bytes % 8 ≡ 0) → is_unaligned cut ≡ false
@@ -66,18 +64,28 @@ module _ (payload : List ℕ) where
             (eq-eqb _ _ (is_cut.last (not_from_false cut.more last))))
       ])
 
+  -- a final one ends at its end, which is no place before what came
+  early_not : (reach : ℕ) (cut : IpFragment) → reach ≤ length payload → IsCut payload cut
+      → ends_too_early reach cut ≡ false
+  early_not reach cut within is_cut = elim (cases_Bool cut.more) [
+    | inl more ↦ and_left _ _ (not_from_true cut.more more)
+    | inr last ↦ and_right (is_final cut) _
+        (le-ltb (fragment_end cut) reach (omega (arith, within, is_cut.last (not_from_false cut.more last))))
+  ]
+
   pub cut_fits_after : (cuts : List IpFragment) (cut : IpFragment) → length payload ≤ 65535
       → AllByRecursion (IsCut payload) cuts → IsCut payload cut → IsTrue (is_final cut) ⊎ (length cut.bytes % 8 ≡ 0)
       → Fits cuts cut
   cut_fits_after cuts cut short all is_cut shape =
-      let within : ltb 65535 (fragment_end cut) ≡ false =
-      le-ltb 65535 (fragment_end cut) (omega (arith, is_cut.within)) in
-      let aligned = unaligned_not cut shape in
-      let agrees : first_row (end_rows (end_of cuts) cut) ≡ None = elim (end_of_cuts cuts all) [
-        | inl unknown ↦ rw unknown refl
-        | inr known ↦ rw (known, conflicts_not cut is_cut) refl
-      ] in
-      rw (within, aligned) agrees
+      refusal_at-fits (end_of cuts) (reach_of cuts) cut
+      (record {
+        short = omega (arith, is_cut.within);
+        aligned = unaligned_not cut shape;
+        agrees = elim (end_of_cuts cuts all) [
+          | inl unknown ↦ rw unknown (early_not (reach_of cuts) cut (reach_of_cuts cuts all) is_cut)
+          | inr known ↦ rw known (conflicts_not cut is_cut)
+        ];
+      })
 
   -- where a position is covered, the byte is that of the payload
   byte_of_cuts : (cuts : List IpFragment) → AllByRecursion (IsCut payload) cuts → (position : ℕ)
@@ -106,15 +114,18 @@ module _ (payload : List ℕ) where
         × ((position : ℕ) → position < length payload → IsCovered cuts position))
     complete_cuts = (
       λ complete.
-          let parts = and_parts (is_some (end_of cuts)) _ complete in (
+          let parts = and_parts (is_some (end_of cuts)) _ complete in
+          let end = known_end_of_cuts (end_of cuts) (end_of_cuts cuts all) parts.0 in (
             Any-from_list_any is_final cuts (final_from_known cuts parts.0),
-            λ position below. each_of_range (is_covered cuts) 0 (reach_of cuts) parts.1 position (omega arith)
-                (omega (arith, reach_from_final cuts all parts.0)),
+            λ position below. each_of_range (is_covered cuts) 0 (unwrap_or (end_of cuts) 0) parts.1 position
+                (omega arith) (omega (arith, end, below)),
           ),
       λ both.
-          and_from _ _ (known_from_final cuts (list_any-from_Any is_final cuts both.0))
-          (list_all-range (is_covered cuts) 0 (reach_of cuts)
-          (λ position low high. both.1 position (omega (arith, reach_of_cuts cuts all)))),
+          let known = known_from_final cuts (list_any-from_Any is_final cuts both.0) in
+          let end = known_end_of_cuts (end_of cuts) (end_of_cuts cuts all) known in
+          and_from _ _ known
+          (list_all-range (is_covered cuts) 0 (unwrap_or (end_of cuts) 0)
+          (λ position low high. both.1 position (omega (arith, end, high)))),
     )
 
     -- and then put the payload together

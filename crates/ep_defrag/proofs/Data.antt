@@ -1,15 +1,14 @@
 -- One more fragment: what a list of fragments covers, how far it reaches, where it ends, and its bytes.
 use Rattle.std.proofs.Common.{◌≡◌, ℕ, suc, zero, ◌+◌, ◌-◌, ◌<◌, ◌≤◌, max, Bool, true, false, cond, ◌||◌, ◌&&◌, ltb, leb, List, [], ◌∷◌, ◌++◌, length, get_or, take, drop, replicate, Option, Some, None, sym, refl, ap, ◌∙◌, inl, inr, arith}
 use Rattle.std.specs.Option.{option_or, unwrap_or}
-use Rattle.std.proofs.lemmas.Bool.{cases_Bool, cases_lt, false≢true, or_cases, ltb-false, lt-ltb, le-ltb, le-leb, lt-leb, cond-true, cond-false}
+use Rattle.std.proofs.lemmas.Bool.{cases_Bool, cases_lt, false≢true, or_cases, ltb-false, lt-ltb, le-ltb, le-leb, lt-leb}
 use Rattle.std.proofs.lemmas.Bool.Decides.{nat_tests}
 use Rattle.std.proofs.lemmas.List.{get_or_past, append-nil, append_assoc, get_or-replicate, length-replicate, length-append, length-take-le, length-drop, get_or_append_left, get_or-append_right, get_or-take, get_or-drop}
 use Rattle.std.proofs.lemmas.List.Folds.{list_any-append}
 use Rattle.std.proofs.lemmas.List.FromFn.{length-map-range_with_len, get_or-map-range_with_len, fill_by_all}
-use Rattle.ep_base.specs.Tables.{first_row}
 use Rattle.ep_defrag.specs.Ranges.{touches}
 use Rattle.ep_defrag.specs.Fragments.{IpFragment, fragment_start, fragment_end, range_of, covers, is_covered, is_touched, reach_of, end_of, byte_at, assembled}
-use Rattle.ep_defrag.specs.Refusals.{is_unaligned, conflicts_with, end_rows, refusal_at, Fits, FitAfter}
+use Rattle.ep_defrag.specs.Refusals.{is_unaligned, conflicts_with, ends_too_early, end_row, refusal_at, Fits, FitAfter, FitInTurn}
 use Rattle.ep_defrag.specs.Buffers.{extended, overwritten, data_after}
 
 or_false : (a : Bool) → (a || false) ≡ a
@@ -100,23 +99,32 @@ not_some : {X : Type 0} (test : Bool) (value : X) (other : Option X) → cond te
 not_some true value other none = absurd (cc)
 not_some false value other none = (refl, none)
 
-pub record FitsAt (known_end : Option ℕ) (fragment : IpFragment) : Type 0 where
+pub record FitsAt (known_end : Option ℕ) (reach : ℕ) (fragment : IpFragment) : Type 0 where
   pub short : fragment_end fragment ≤ 65535
   pub aligned : is_unaligned fragment ≡ false
-  pub agrees : first_row (end_rows known_end fragment) ≡ None
+  pub agrees : (end_row known_end reach fragment).0 ≡ false
 
-pub fits_at : (known_end : Option ℕ) (fragment : IpFragment) → refusal_at known_end fragment ≡ None
-    → FitsAt known_end fragment
-fits_at known_end fragment fits =
+pub fits_at : (known_end : Option ℕ) (reach : ℕ) (fragment : IpFragment) → refusal_at known_end reach fragment ≡ None
+    → FitsAt known_end reach fragment
+fits_at known_end reach fragment fits =
     let by_length = not_some (ltb 65535 (fragment_end fragment)) _ _ fits in
     let by_multiple = not_some (is_unaligned fragment) _ _ by_length.1 in
-    record { short = ltb-false _ _ by_length.0; aligned = by_multiple.0; agrees = by_multiple.1 }
+    let by_end = not_some (end_row known_end reach fragment).0 _ _ by_multiple.1 in
+    record { short = ltb-false _ _ by_length.0; aligned = by_multiple.0; agrees = by_end.0 }
 
-pub agrees_with : (known_end : ℕ) (fragment : IpFragment) → first_row (end_rows (Some known_end) fragment) ≡ None
+pub refusal_at-fits : (known_end : Option ℕ) (reach : ℕ) (fragment : IpFragment) → FitsAt known_end reach fragment
+    → refusal_at known_end reach fragment ≡ None
+refusal_at-fits known_end reach fragment fits =
+    rw (le-ltb 65535 (fragment_end fragment) fits.short, fits.aligned, fits.agrees) refl
+
+pub agrees_with : (known_end : ℕ) (fragment : IpFragment) → conflicts_with known_end fragment ≡ false
     → (fragment_end fragment ≤ known_end) × (fragment.more ≡ false → fragment_end fragment ≡ known_end)
-agrees_with known_end fragment agrees =
-    let no_conflict = (not_some (conflicts_with known_end fragment) _ _ agrees).0 in
+agrees_with known_end fragment no_conflict =
     (grind (arith, nat_tests, no_conflict), λ last. grind (arith, nat_tests, no_conflict, last))
+
+pub reaches : (reach : ℕ) (fragment : IpFragment) → ends_too_early reach fragment ≡ false → fragment.more ≡ false
+    → reach ≤ fragment_end fragment
+reaches reach fragment not_early last = grind (arith, nat_tests, not_early, last)
 
 pub FitAfter-push : (earlier later : List IpFragment) (fragment : IpFragment) → FitAfter earlier later
     → Fits (earlier ++ later) fragment → FitAfter earlier (later ++ fragment ∷ [])
@@ -127,11 +135,44 @@ FitAfter-push earlier (first ∷ later) fragment fit fits = (
       (rw (append_assoc earlier (first ∷ []) later) fits),
 )
 
--- ---- the bytes after a fragment
+-- ---- a known end is the greatest end
 -- how long the bytes are that a list puts together
 abbrev pub extent_of : List IpFragment → ℕ
 extent_of fragments = unwrap_or (end_of fragments) (reach_of fragments)
 
+-- so these bytes are as long as the fragments reach
+abbrev pub EndIsGreatest : List IpFragment → Type 0
+EndIsGreatest fragments = extent_of fragments ≡ reach_of fragments
+
+extent_with : (known : Option ℕ) (reach : ℕ) (fragment : IpFragment) → unwrap_or known reach ≡ reach
+    → FitsAt known reach fragment
+    → unwrap_or (option_or known (own_end fragment)) (max reach (fragment_end fragment))
+    ≡ max reach (fragment_end fragment)
+extent_with None reach fragment greatest fits = elim (cases_Bool fragment.more) [
+  | inl more ↦ rw more refl
+  | inr last ↦ rw last (omega (arith, reaches reach fragment fits.agrees last))
+]
+extent_with (Some end) reach fragment greatest fits =
+    omega (arith, greatest, (agrees_with end fragment fits.agrees).0)
+
+pub EndIsGreatest-push : (fragments : List IpFragment) (fragment : IpFragment) → EndIsGreatest fragments
+    → Fits fragments fragment → EndIsGreatest (fragments ++ fragment ∷ [])
+EndIsGreatest-push fragments fragment greatest fits =
+    rw (end_of-push fragments fragment, reach_of-push fragments fragment)
+    (extent_with (end_of fragments) (reach_of fragments) fragment greatest
+    (fits_at (end_of fragments) (reach_of fragments) fragment fits))
+
+greatest_after : (earlier later : List IpFragment) → EndIsGreatest earlier → FitAfter earlier later
+    → EndIsGreatest (earlier ++ later)
+greatest_after earlier [] greatest fit = rw (append-nil earlier) greatest
+greatest_after earlier (fragment ∷ later) greatest fit =
+    rw (append_assoc earlier (fragment ∷ []) later)
+    at (greatest_after (earlier ++ fragment ∷ []) later (EndIsGreatest-push earlier fragment greatest fit.0) fit.1)
+
+pub end_is_greatest : (fragments : List IpFragment) → FitInTurn fragments → EndIsGreatest fragments
+end_is_greatest fragments fit = greatest_after [] fragments refl fit
+
+-- ---- the bytes after a fragment
 pub length-assembled : (fragments : List IpFragment) → length (assembled fragments) ≡ extent_of fragments
 length-assembled fragments = length-map-range_with_len (byte_at fragments) 0 (extent_of fragments)
 
@@ -208,81 +249,35 @@ get_or-overwritten contents start bytes position within =
       ]
     ]
 
--- The list's bytes end where the bytes after the fragment do, and what lies behind the old ones was not covered.
-pub record Extends (fragments : List IpFragment) (fragment : IpFragment) (known : Option ℕ) : Type 0 where
-  pub more : fragment.more ≡ true
-      → unwrap_or (option_or known (own_end fragment)) (max (reach_of fragments) (fragment_end fragment))
-      ≡ max (unwrap_or known (reach_of fragments)) (fragment_end fragment)
-  pub last : fragment.more ≡ false
-      → unwrap_or (option_or known (own_end fragment)) (max (reach_of fragments) (fragment_end fragment))
-      ≡ fragment_end fragment
-  pub behind : (position : ℕ) → unwrap_or known (reach_of fragments) ≤ position
-      → position < unwrap_or (option_or known (own_end fragment)) (max (reach_of fragments) (fragment_end fragment))
-      → is_covered fragments position ≡ false
-
-pub extends : (fragments : List IpFragment) (fragment : IpFragment) (known : Option ℕ) → FitsAt known fragment
-    → Extends fragments fragment known
-extends fragments fragment None fits = record {
-  more = λ more. rw more refl;
-  last = λ last. rw last refl;
-  behind = λ position past within. uncovered_from_reach fragments position past;
-}
-extends fragments fragment (Some end) fits =
-    let agrees = agrees_with end fragment fits.agrees in
-    record {
-      more = λ more. omega (arith, agrees.0);
-      last = λ last. sym (agrees.1 last);
-      behind = λ position past within. absurd (omega arith);
-    }
-
-pub assembled-push : (fragments : List IpFragment) (fragment : IpFragment) → Fits fragments fragment
-    → data_after (assembled fragments) fragment ≡ assembled (fragments ++ fragment ∷ [])
-assembled-push fragments fragment fits =
+pub assembled-push : (fragments : List IpFragment) (fragment : IpFragment) → EndIsGreatest fragments
+    → Fits fragments fragment → data_after (assembled fragments) fragment ≡ assembled (fragments ++ fragment ∷ [])
+assembled-push fragments fragment greatest fits =
     let contents = assembled fragments in
     let start = fragment_start fragment in
     let end = fragment_end fragment in
-    let old_len = extent_of fragments in
-    let new_len = unwrap_or (option_or (end_of fragments) (own_end fragment)) (max (reach_of fragments) end) in
+    let reach = reach_of fragments in
     let longer = extended contents end in
-    let written = overwritten longer start fragment.bytes in
-    let by = extends fragments fragment (end_of fragments) (fits_at (end_of fragments) fragment fits) in
-    let longer_len : length longer ≡ max old_len end =
-    length-extended contents end ∙ ap (λ n. max n end) (length-assembled fragments) in
+    let contents_len : length contents ≡ reach = length-assembled fragments ∙ greatest in
+    let longer_len : length longer ≡ max reach end =
+    length-extended contents end ∙ ap (λ n. max n end) contents_len in
     let within : start + length fragment.bytes ≤ length longer = omega (arith, longer_len) in
-    let written_len : length written ≡ max old_len end =
-    length-overwritten longer start fragment.bytes within ∙ longer_len in
-    let before : (position : ℕ) → position < new_len → get_or longer position 0 ≡ byte_at fragments position =
-    λ position inside.
+    let before : (position : ℕ) → get_or longer position 0 ≡ byte_at fragments position = λ position.
     get_or-append_zeros contents (end - length contents) position
-    ∙ elim (cases_lt position old_len) [
-      | inl old ↦ get_or-assembled fragments position old
+    ∙ elim (cases_lt position reach) [
+      | inl old ↦ get_or-assembled fragments position (omega (arith, greatest, old))
       | inr past ↦
-          get_or_past contents position 0 (omega (arith, length-assembled fragments, past))
-          ∙ sym (byte_at-uncovered fragments position (by.behind position past inside))
+          get_or_past contents position 0 (omega (arith, contents_len, past))
+          ∙ sym (byte_at-uncovered fragments position (uncovered_from_reach fragments position past))
     ] in
-    let each : (position : ℕ) → position < new_len
-    → get_or written position 0 ≡ byte_at (fragments ++ fragment ∷ []) position = λ position inside.
-    get_or-overwritten longer start fragment.bytes position within
-    ∙ ap (λ byte. cond (covers position fragment) (own_byte fragment position) byte) (before position inside)
-    ∙ sym (byte_at-push fragments fragment position) in
-    let length_after : length (data_after contents fragment) ≡ new_len = elim (cases_Bool fragment.more) [
-      | inl more ↦ ap length (cond-true fragment.more written (take end written) more) ∙ written_len
-          ∙ sym (by.more more)
-      | inr last ↦
-          ap length (cond-false fragment.more written (take end written) last)
-          ∙ length-take-le end written (omega (arith, written_len))
-          ∙ sym (by.last last)
-    ] in
-    let each_after : (position : ℕ) → position < new_len
+    let each : (position : ℕ) → position < max reach end
     → get_or (data_after contents fragment) position 0 ≡ byte_at (fragments ++ fragment ∷ []) position =
-    λ position inside. elim (cases_Bool fragment.more) [
-      | inl more ↦ ap (λ bytes. get_or bytes position 0) (cond-true fragment.more written (take end written) more)
-          ∙ each position inside
-      | inr last ↦
-          ap (λ bytes. get_or bytes position 0) (cond-false fragment.more written (take end written) last)
-          ∙ get_or-take end written position 0 (omega (arith, by.last last, inside))
-          ∙ each position inside
-    ] in
-    rw (end_of-push fragments fragment, reach_of-push fragments fragment)
+    λ position inside.
+    get_or-overwritten longer start fragment.bytes position within
+    ∙ ap (λ byte. cond (covers position fragment) (own_byte fragment position) byte) (before position)
+    ∙ sym (byte_at-push fragments fragment position) in
+    let extent : extent_of (fragments ++ fragment ∷ []) ≡ max reach end =
+    EndIsGreatest-push fragments fragment greatest fits ∙ reach_of-push fragments fragment in
+    rw extent
     (fill_by_all (byte_at (fragments ++ fragment ∷ []))
-    (data_after contents fragment) new_len 0 length_after each_after)
+    (data_after contents fragment) (max reach end) 0
+    (length-overwritten longer start fragment.bytes within ∙ longer_len) each)

@@ -9,12 +9,12 @@ use Rattle.std.proofs.lemmas.List.Sorted.{list_any-IsPermutation}
 use Rattle.ep_defrag.specs.declared.ip_defrag_buf.IpDefragBuf.{IpDefragBuf}
 use Rattle.ep_defrag.specs.declared.ip_frag_range.IpFragRange.{IpFragRange}
 use Rattle.ep_defrag.specs.Ranges.{has_byte, touches, merges}
-use Rattle.ep_defrag.specs.Fragments.{IpFragment, fragment_end, range_of, covers, end_of, IsComplete}
+use Rattle.ep_defrag.specs.Fragments.{IpFragment, fragment_end, range_of, covers, reach_of, end_of, IsComplete}
 use Rattle.ep_defrag.specs.Refusals.{Fits, IsInPlace}
 use Rattle.ep_defrag.specs.Buffers.{HoldsFragments, data_of, sections_of, known_end_of, data_after, end_after, sections_after, is_whole}
 use Rattle.ep_defrag.proofs.Sections.{IsOrdered, merges-from_point, touches-hull, has_byte-hull, test-sections_after}
 use Rattle.ep_defrag.proofs.Apart.{from_apart, ordered_from, at_most_one}
-use Rattle.ep_defrag.proofs.Data.{FitAfter-push, FitsAt, fits_at, agrees_with, assembled-push, is_covered-push, is_touched-push, end_of-push, own_end}
+use Rattle.ep_defrag.proofs.Data.{FitAfter-push, FitsAt, fits_at, agrees_with, end_is_greatest, length-assembled, assembled-push, is_covered-push, is_touched-push, end_of-push, own_end}
 use Rattle.ep_defrag.proofs.Complete.{complete_by_sections}
 
 -- a buffer that shows the same holds the same
@@ -32,10 +32,10 @@ HoldsFragments-same a b fragments held same_data same_sections same_end = record
 }
 
 -- the known end after a fragment that fits
-end_after-fits : (known : Option ℕ) (fragment : IpFragment) → FitsAt known fragment
+end_after-fits : (known : Option ℕ) (reach : ℕ) (fragment : IpFragment) → FitsAt known reach fragment
     → end_after known fragment ≡ option_or known (own_end fragment)
-end_after-fits None fragment fits = refl
-end_after-fits (Some end) fragment fits = elim (cases_Bool fragment.more) [
+end_after-fits None reach fragment fits = refl
+end_after-fits (Some end) reach fragment fits = elim (cases_Bool fragment.more) [
   | inl more ↦ rw more refl
   | inr last ↦ rw (last, (agrees_with end fragment fits.agrees).1 last) refl
 ]
@@ -63,11 +63,12 @@ HoldsFragments-push old new fragments fragment held fits data_now sections_now e
       contents =
           data_now
           ∙ ap (λ contents. data_after contents fragment) held.contents
-          ∙ assembled-push fragments fragment fits;
+          ∙ assembled-push fragments fragment (end_is_greatest fragments held.in_turn) fits;
       end =
           end_now
           ∙ ap (λ known. end_after known fragment) held.end
-          ∙ end_after-fits (end_of fragments) fragment (fits_at (end_of fragments) fragment fits)
+          ∙ end_after-fits (end_of fragments) (reach_of fragments) fragment
+          (fits_at (end_of fragments) (reach_of fragments) fragment fits)
           ∙ sym (end_of-push fragments fragment);
       ordered = All-from_recursion IsOrdered (sections_of new) (ordered_from 0 (sections_of new) in_order);
       apart = λ position. at_most_one position 0 (sections_of new) in_order;
@@ -85,6 +86,12 @@ HoldsFragments-push old new fragments fragment held fits data_now sections_now e
           ∙ sym (is_touched-push fragments fragment position);
     }
 
+-- Its data is as long as they reach.
+pub data_len : (buffer : IpDefragBuf) (fragments : List IpFragment) → HoldsFragments buffer fragments
+    → length (data_of buffer) ≡ reach_of fragments
+data_len buffer fragments held =
+    ap length held.contents ∙ length-assembled fragments ∙ end_is_greatest fragments held.in_turn
+
 -- It shows whether they are complete.
 pub complete_when_held : (buffer : IpDefragBuf) (fragments : List IpFragment) → HoldsFragments buffer fragments
     → ((is_some (known_end_of buffer) && is_whole (sections_of buffer)) ≡ true) ↔ IsComplete fragments
@@ -96,7 +103,8 @@ complete_when_held buffer fragments held =
       apart = held.apart;
       bytes = held.bytes;
       points = held.points;
-    }))
+    })
+    (end_is_greatest fragments held.in_turn))
 
 -- a section that touches a position of the range merges with it
 merging_from_point : (range : IpFragRange) (sections : List IpFragRange) (position : ℕ) → touches position range ≡ true

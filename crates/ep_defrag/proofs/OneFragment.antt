@@ -6,7 +6,7 @@ use Rattle.ep_defrag.specs.declared.ip_defrag_error.IpDefragError.{IpDefragError
 use Rattle.ep_defrag.specs.declared.ip_defrag_error.IpDefragError.TheVariants.{AllocationFailure}
 use Rattle.ep_defrag.specs.declared.ip_frag_id.IpFragId.{IpFragId}
 use Rattle.ep_defrag.specs.declared.ip_defrag_pool.Stream.{Stream}
-use Rattle.ep_defrag.specs.Fragments.{IpFragment, fragment_end, end_of, is_complete}
+use Rattle.ep_defrag.specs.Fragments.{IpFragment, fragment_end, reach_of, end_of, is_complete}
 use Rattle.ep_defrag.specs.Refusals.{refusal_of, RefusesFragment, Fits, MayNeedMemory, is_want_of_memory}
 use Rattle.ep_defrag.specs.Buffers.{HoldsFragments, ip_number_of, data_of}
 use Rattle.ep_defrag.specs.Streams.{source_of}
@@ -33,7 +33,7 @@ module _ (accepted : List IpFragment) (fragment : IpFragment) (error : IpDefragE
   pub wanting_only : is_want_of_memory error ≡ true → RefusedOrWanting
       → MayNeedMemory accepted fragment × (error ≡ AllocationFailure (fragment_end fragment))
   wanting_only wants (inl refused) =
-      absurd (false≢true (sym (no_memory (end_of accepted) fragment error refused) ∙ wants))
+      absurd (false≢true (sym (no_memory (end_of accepted) (reach_of accepted) fragment error refused) ∙ wants))
   wanting_only wants (inr wanting) = wanting
 
 -- a first fragment is not in place

@@ -3,11 +3,10 @@ use Rattle.std.proofs.Common.{◌≡◌, ◌≢◌, ℕ, Bool, true, false, cond
 use Rattle.std.specs.List.{All}
 use Rattle.std.proofs.lemmas.Bool.{false≢true}
 use Rattle.std.proofs.lemmas.List.Elements.{All-nil, All-cons}
-use Rattle.ep_base.specs.Tables.{first_row}
 use Rattle.ep_defrag.specs.declared.ip_defrag_error.IpDefragError.{IpDefragError}
 use Rattle.ep_defrag.specs.declared.ip_defrag_error.IpDefragError.TheVariants.{AllocationFailure}
-use Rattle.ep_defrag.specs.Fragments.{IpFragment, fragment_end, end_of}
-use Rattle.ep_defrag.specs.Refusals.{is_unaligned, conflicts_with, end_rows, refusal_at, refusal_of, is_want_of_memory}
+use Rattle.ep_defrag.specs.Fragments.{IpFragment, fragment_end, reach_of, end_of}
+use Rattle.ep_defrag.specs.Refusals.{is_unaligned, end_row, refusal_at, refusal_of, is_want_of_memory}
 use Rattle.ep_defrag.specs.Runs.{accepted_with, accepted_after, ok_unless, answers_after}
 
 -- ---- a refusal is not one of memory
@@ -16,23 +15,24 @@ from_cond : (test : Bool) (value error : IpDefragError) (other : Option IpDefrag
 from_cond true value error other same = inl (cc)
 from_cond false value error other same = inr same
 
-no_memory_at : (known : Option ℕ) (fragment : IpFragment) (error : IpDefragError)
-    → first_row (end_rows known fragment) ≡ Some error → is_want_of_memory error ≡ false
-no_memory_at None fragment error refused = absurd (cc)
-no_memory_at (Some end) fragment error refused = elim (from_cond (conflicts_with end fragment) _ error None refused) [
-  | inl conflict ↦ ap is_want_of_memory conflict
-  | inr none ↦ absurd (cc)
-]
+no_memory_at : (known : Option ℕ) (reach : ℕ) (fragment : IpFragment)
+    → is_want_of_memory (end_row known reach fragment).1 ≡ false
+no_memory_at None reach fragment = refl
+no_memory_at (Some end) reach fragment = refl
 
-pub no_memory : (known : Option ℕ) (fragment : IpFragment) (error : IpDefragError)
-    → refusal_at known fragment ≡ Some error → is_want_of_memory error ≡ false
-no_memory known fragment error refused = elim (from_cond (ltb 65535 (fragment_end fragment)) _ error _ refused) [
-  | inl long ↦ ap is_want_of_memory long
-  | inr short ↦ elim (from_cond (is_unaligned fragment) _ error _ short) [
-    | inl unaligned ↦ ap is_want_of_memory unaligned
-    | inr aligned ↦ no_memory_at known fragment error aligned
-  ]
-]
+pub no_memory : (known : Option ℕ) (reach : ℕ) (fragment : IpFragment) (error : IpDefragError)
+    → refusal_at known reach fragment ≡ Some error → is_want_of_memory error ≡ false
+no_memory known reach fragment error refused =
+    elim (from_cond (ltb 65535 (fragment_end fragment)) _ error _ refused) [
+      | inl long ↦ ap is_want_of_memory long
+      | inr short ↦ elim (from_cond (is_unaligned fragment) _ error _ short) [
+        | inl unaligned ↦ ap is_want_of_memory unaligned
+        | inr aligned ↦ elim (from_cond (end_row known reach fragment).0 _ error None aligned) [
+          | inl conflict ↦ ap is_want_of_memory conflict ∙ no_memory_at known reach fragment
+          | inr none ↦ absurd (cc)
+        ]
+      ]
+    ]
 
 answer_no_memory : (refusal : Option IpDefragError)
     → ((error : IpDefragError) → refusal ≡ Some error → is_want_of_memory error ≡ false) → (len : ℕ)
@@ -47,7 +47,7 @@ pub answers_no_memory : (accepted fragments : List IpFragment)
 answers_no_memory accepted [] = All-nil (λ answer. (len : ℕ) → answer ≢ Err (AllocationFailure len))
 answers_no_memory accepted (fragment ∷ fragments) =
     All-cons (λ answer. (len : ℕ) → answer ≢ Err (AllocationFailure len)) _ _
-    (answer_no_memory (refusal_of accepted fragment) (no_memory (end_of accepted) fragment))
+    (answer_no_memory (refusal_of accepted fragment) (no_memory (end_of accepted) (reach_of accepted) fragment))
     (answers_no_memory (accepted_with accepted fragment) fragments)
 
 -- ---- one more fragment

@@ -28,21 +28,18 @@ pub record IsUnchanged (old new : IpDefragBuf) : Type 0 where
   pub sections : sections_of new ≡ sections_of old
   pub end : known_end_of new ≡ known_end_of old
 
--- Data after a fragment: extended with zeros up to its end, overwritten on its range, and cut to its end where it is
--- final.
+-- Data after a fragment: extended with zeros up to its end, and overwritten on its range.
 abbrev pub extended : List ℕ → ℕ → List ℕ
 extended contents end = contents ++ replicate (end - length contents) 0
 
 abbrev pub overwritten : List ℕ → ℕ → List ℕ → List ℕ
 overwritten contents start bytes = take start contents ++ bytes ++ drop (start + length bytes) contents
 
-abbrev pub data_with : List ℕ → IpFragRange → Bool → List ℕ → List ℕ
-data_with contents range more bytes =
-    let written = overwritten (extended contents range.end) range.start bytes in
-    if more then written else take range.end written
+abbrev pub data_with : List ℕ → IpFragRange → List ℕ → List ℕ
+data_with contents range bytes = overwritten (extended contents range.end) range.start bytes
 
 abbrev pub data_after : List ℕ → IpFragment → List ℕ
-data_after contents fragment = data_with contents (range_of fragment) fragment.more fragment.bytes
+data_after contents fragment = data_with contents (range_of fragment) fragment.bytes
 
 -- The known end after a fragment.
 abbrev pub end_after : Option ℕ → IpFragment → Option ℕ

@@ -68,10 +68,10 @@ byte_at (fragment ∷ later) position =
 abbrev pub assembled : List IpFragment → List ℕ
 assembled fragments = map (byte_at fragments) (range_with_len 0 (unwrap_or (end_of fragments) (reach_of fragments)))
 
--- whether the end is known and each position below the greatest end is covered
+-- whether the end is known and each position below it is covered
 abbrev pub is_complete : List IpFragment → Bool
 is_complete fragments =
-    is_some (end_of fragments) && list_all (is_covered fragments) (range_with_len 0 (reach_of fragments))
+    is_some (end_of fragments) && list_all (is_covered fragments) (range_with_len 0 (unwrap_or (end_of fragments) 0))
 
 abbrev pub IsComplete : List IpFragment → Type 0
 IsComplete fragments = IsTrue (is_complete fragments)

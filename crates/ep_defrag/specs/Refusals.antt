@@ -4,7 +4,7 @@ use Rattle.ep_base.specs.Tables.{first_row}
 use Rattle.ep_defrag.specs.declared.ip_defrag_error.IpDefragError.{IpDefragError}
 use Rattle.ep_defrag.specs.declared.ip_defrag_error.IpDefragError.TheVariants.{UnalignedFragmentPayloadLen, SegmentTooBig, ConflictingEnd, AllocationFailure}
 use Rattle.ep_defrag.specs.Ranges.{touches}
-use Rattle.ep_defrag.specs.Fragments.{IpFragment, is_final, fragment_end, range_of, is_touched, end_of, assembled}
+use Rattle.ep_defrag.specs.Fragments.{IpFragment, is_final, fragment_end, range_of, is_touched, reach_of, end_of, assembled}
 
 -- more fragments follow, and the length is no multiple of 8
 abbrev pub is_unaligned : IpFragment → Bool
@@ -15,27 +15,31 @@ abbrev pub conflicts_with : ℕ → IpFragment → Bool
 conflicts_with known_end fragment =
     nat_lt known_end (fragment_end fragment) || (is_final fragment && not (fragment_end fragment == known_end))
 
--- the row of the known end, where it is known
-abbrev pub end_rows : Option ℕ → IpFragment → List (Bool × IpDefragError)
-end_rows None fragment = []
-end_rows (Some known_end) fragment =
-    (conflicts_with known_end fragment, ConflictingEnd known_end (fragment_end fragment))
-    ∷ []
+-- it is final, and ends below the greatest end
+abbrev pub ends_too_early : ℕ → IpFragment → Bool
+ends_too_early reach fragment = is_final fragment && nat_lt (fragment_end fragment) reach
 
--- when a fragment is refused where the end is known or not, and with which error
-abbrev pub fragment_rows : Option ℕ → IpFragment → List (Bool × IpDefragError)
-fragment_rows known_end fragment =
+-- The row of the end. Where none is known, a final fragment has to end where the greatest end is, or behind it.
+abbrev pub end_row : Option ℕ → ℕ → IpFragment → Bool × IpDefragError
+end_row None reach fragment = (ends_too_early reach fragment, ConflictingEnd reach (fragment_end fragment))
+end_row (Some known_end) reach fragment =
+    (conflicts_with known_end fragment, ConflictingEnd known_end (fragment_end fragment))
+
+-- When a fragment is refused where the end is known or not, and what came reaches so far, and with which error.
+abbrev pub fragment_rows : Option ℕ → ℕ → IpFragment → List (Bool × IpDefragError)
+fragment_rows known_end reach fragment =
     (nat_lt 65535 (fragment_end fragment), SegmentTooBig fragment.offset (length fragment.bytes) 65535)
     ∷ (is_unaligned fragment, UnalignedFragmentPayloadLen fragment.offset (length fragment.bytes))
-    ∷ end_rows known_end fragment
+    ∷ end_row known_end reach fragment
+    ∷ []
 
 -- The refusal of a fragment: the error of the first row that holds, and none where it fits.
-abbrev pub refusal_at : Option ℕ → IpFragment → Option IpDefragError
-refusal_at known_end fragment = first_row (fragment_rows known_end fragment)
+abbrev pub refusal_at : Option ℕ → ℕ → IpFragment → Option IpDefragError
+refusal_at known_end reach fragment = first_row (fragment_rows known_end reach fragment)
 
 -- The same after a list of accepted ones.
 abbrev pub refusal_of : List IpFragment → IpFragment → Option IpDefragError
-refusal_of accepted fragment = refusal_at (end_of accepted) fragment
+refusal_of accepted fragment = refusal_at (end_of accepted) (reach_of accepted) fragment
 
 abbrev pub RefusesFragment : List IpFragment → IpFragment → IpDefragError → Type 0
 RefusesFragment accepted fragment error = refusal_of accepted fragment ≡ Some error

@@ -26,6 +26,7 @@ pub struct IpDefragBuf {
     /// Where the payload ends, once a final fragment came.
     end: Option<u16>,
     ghost in_order: { AreApart sections.items },
+    ghost short: { vec_len bytes ≤ 65535 },
 }
 
 impl IpDefragBuf {
@@ -89,7 +90,7 @@ impl IpDefragBuf {
         self.end
     }
 
-    /// Whether the payload's end is known and nothing is missing before the greatest end of a fragment.
+    /// Whether the payload's end is known and nothing is missing before it.
     pub fn is_complete(&self) -> bool
         ensures complete { (accepted : List IpFragment) → HoldsFragments self.now accepted →
             IsTrue result ↔ IsComplete accepted }
@@ -123,13 +124,15 @@ impl IpDefragBuf {
     }
 
     /// Adds a fragment: its offset, whether more fragments follow it, and its bytes. Where fragments overlap, the bytes
-    /// of the last one count. A final fragment, one that no more follow, sets the payload's end.
+    /// of the last one count. A final fragment, one that no more follow, sets the payload's end. It is never below the end
+    /// of a fragment that came, so no byte is cut away.
     ///
     /// The first of these that holds is the error, and it changes nothing:
     ///
     /// - `SegmentTooBig`: the fragment ends above 65535.
     /// - `UnalignedFragmentPayloadLen`: more follow, and its length is no multiple of 8.
-    /// - `ConflictingEnd`: it ends behind the known end, or is final and ends elsewhere.
+    /// - `ConflictingEnd`: it ends behind the known end, or is final and ends elsewhere; or no end is known, and it is
+    ///   final and ends below the greatest end of a fragment.
     /// - `AllocationFailure`: there is no memory for it.
     pub fn add(
         &mut self,
@@ -161,9 +164,9 @@ impl IpDefragBuf {
         // The same by what it shows, and what it shows afterwards.
         ensures answer { let fragment = fragment_with offset more_fragments payload.now in
             MatchResult result
-            (λ _. refusal_at (known_end_of self.old) fragment ≡ None)
-            (λ error. (refusal_at (known_end_of self.old) fragment ≡ Some error)
-            ⊎ ((refusal_at (known_end_of self.old) fragment ≡ None)
+            (λ _. refusal_at (known_end_of self.old) (length (data_of self.old)) fragment ≡ None)
+            (λ error. (refusal_at (known_end_of self.old) (length (data_of self.old)) fragment ≡ Some error)
+            ⊎ ((refusal_at (known_end_of self.old) (length (data_of self.old)) fragment ≡ None)
             × (error ≡ IpDefragError.AllocationFailure (fragment_end fragment)))) }
         ensures data { let fragment = fragment_with offset more_fragments payload.now in
             OnOk result (data_of self.new ≡ data_after (data_of self.old) fragment) }
@@ -177,13 +180,21 @@ impl IpDefragBuf {
         // Whatever is answered, the vectors keep their room.
         ensures room { KeepsRoom self.old self.new }
     {
-        let range = checked_range(self.end, offset, more_fragments, payload)?;
+        let range = checked_range(self.end, self.reach(), offset, more_fragments, payload)?;
         if self.accept(range, more_fragments, payload).is_err() {
             return Err(IpDefragError::AllocationFailure {
                 len: usize::from(range.end),
             });
         }
         Ok(())
+    }
+
+    /// How far the accepted fragments reach, in bytes: the data ends at their greatest end.
+    #[inline]
+    fn reach(&self) -> u16
+        ensures { result ≡ length (data_of self.now) }
+    {
+        self.bytes.len() as u16
     }
 
     /// Takes a fragment that fits, if there is memory for it.
@@ -194,7 +205,7 @@ impl IpDefragBuf {
         payload: &[u8],
     ) -> Result<(), AllocError>
         requires { range.end ≡ range.start + length payload.now }
-        ensures data { OnOk result (data_of self.new ≡ data_with (data_of self.old) range more_fragments payload.now) }
+        ensures data { OnOk result (data_of self.new ≡ data_with (data_of self.old) range payload.now) }
         ensures sections { OnOk result
             (IsPermutation (sections_of self.new) (sections_after range (sections_of self.old))) }
         ensures end { OnOk result
@@ -212,16 +223,16 @@ impl IpDefragBuf {
         put(&mut self.bytes, range, payload);
         join(&mut self.sections, range, near);
         if !more_fragments {
-            self.bytes.truncate(usize::from(range.end));
             self.end = Some(range.end);
         }
         Ok(())
     }
 }
 
-/// The range that a fragment fills, where it fits a payload whose end is known or not.
+/// The range that a fragment fills, where it fits a payload whose end is known or not, and of which so much came.
 fn checked_range(
     known_end: Option<u16>,
+    reach: u16,
     offset: IpFragOffset,
     more_fragments: bool,
     payload: &[u8],
@@ -229,8 +240,8 @@ fn checked_range(
     ensures ok { IfOk result (λ range. range ≡ range_of (fragment_with offset more_fragments payload.now)) }
     ensures short { IfOk result (λ range. range.end ≡ range.start + length payload.now) }
     ensures answer { MatchResult result
-        (λ _. refusal_at known_end (fragment_with offset more_fragments payload.now) ≡ None)
-        (λ error. refusal_at known_end (fragment_with offset more_fragments payload.now) ≡ Some error) }
+        (λ _. refusal_at known_end reach (fragment_with offset more_fragments payload.now) ≡ None)
+        (λ error. refusal_at known_end reach (fragment_with offset more_fragments payload.now) ≡ Some error) }
 {
     let start = offset.byte_offset();
     let payload_len = payload.len();
@@ -247,11 +258,13 @@ fn checked_range(
             payload_len,
         });
     }
-    if let Some(previous_end) = known_end
-        && (previous_end < end || (!more_fragments && end != previous_end))
-    {
+    let conflicts = match known_end {
+        Some(known_end) => known_end < end || (!more_fragments && end != known_end),
+        None => !more_fragments && end < reach,
+    };
+    if conflicts {
         return Err(IpDefragError::ConflictingEnd {
-            previous_end,
+            previous_end: known_end.unwrap_or(reach),
             conflicting_end: end,
         });
     }

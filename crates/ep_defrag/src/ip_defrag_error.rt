@@ -25,9 +25,10 @@ pub enum IpDefragError {
         /// The greatest length of a payload, in bytes.
         max: u16,
     },
-    /// The fragment ends behind the known end, or is final and ends elsewhere.
+    /// The fragment ends behind the known end, or is final and ends elsewhere; or no end is known, and it is final and
+    /// ends below the greatest end of a fragment.
     ConflictingEnd {
-        /// The known end, in bytes.
+        /// The known end, or else the greatest one, in bytes.
         previous_end: u16,
         /// The end of the refused fragment, in bytes.
         conflicting_end: u16,

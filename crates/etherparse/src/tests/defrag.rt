@@ -10,6 +10,7 @@ use std::process::Abort;
 
 mod buffers;
 mod frames;
+mod late_ends;
 pub(crate) mod lists;
 pub(crate) mod pool;
 mod sections;

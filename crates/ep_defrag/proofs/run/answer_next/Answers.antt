@@ -1,6 +1,6 @@
 use Rattle.std.proofs.Common.{◌≡◌, true, false, sym, ap, ◌∙◌, inl, inr}
 use Rattle.std.proofs.lemmas.Bool.{false≢true}
-use Rattle.ep_defrag.specs.Fragments.{fragment_with, end_of}
+use Rattle.ep_defrag.specs.Fragments.{fragment_with, reach_of, end_of}
 use Rattle.ep_defrag.specs.Refusals.{is_want_of_memory}
 use Rattle.ep_defrag.specs.Runs.{ok_unless}
 use Rattle.ep_defrag.proofs.Runs.{no_memory}
@@ -14,7 +14,7 @@ returns-then-is_want_of_memory-clause-memory c accepted held =
     let fragment = fragment_with inside.offset inside.more_fragments inside.payload.now in
     rw (← c.fragment.view_is)
     (elim (c.in-Err.ensures.refused accepted held) [
-      | inl refused ↦ absurd (false≢true (sym (no_memory (end_of accepted) fragment c.in-Err.error refused) ∙ wanted))
+      | inl refused ↦ absurd (false≢true (sym (no_memory (end_of accepted) (reach_of accepted) fragment c.in-Err.error refused) ∙ wanted))
       | inr wanting ↦ wanting.0
     ])
 

@@ -5,16 +5,16 @@ use super::*;
 
 /// A fragment at an offset in units of 8 bytes, whether more follow, its bytes, and whether the buffer is complete after
 /// it.
-type Step = (u16, bool, Bytes, bool);
+pub(super) type Step = (u16, bool, Bytes, bool);
 
-type Answers = Vec<Result<(), IpDefragError>>;
+pub(super) type Answers = Vec<Result<(), IpDefragError>>;
 
 fn new_buffer(alloc: Global) -> IpDefragBuf {
     IpDefragBuf::new(IpNumber::UDP, Vec::new(alloc), Vec::new(alloc))
 }
 
 /// A buffer to which fragments were added, one by one and in one call, and the answers.
-fn adds(rt: &impl Abort, alloc: Global, steps: &[Step]) -> (IpDefragBuf, Answers) {
+pub(super) fn adds(rt: &impl Abort, alloc: Global, steps: &[Step]) -> (IpDefragBuf, Answers) {
     let mut payloads = Vec::new(alloc);
     for (_, _, bytes, _) in steps {
         let payload = bytes_of(alloc, &[*bytes]).expect(rt, "no memory");
@@ -40,12 +40,12 @@ fn adds(rt: &impl Abort, alloc: Global, steps: &[Step]) -> (IpDefragBuf, Answers
     at_once.expect(rt, "no memory")
 }
 
-fn section(start: u16, end: u16) -> IpFragRange {
+pub(super) fn section(start: u16, end: u16) -> IpFragRange {
     IpFragRange { start, end }
 }
 
 /// What a buffer shows, its sections in order.
-fn shows_parts(
+pub(super) fn shows_parts(
     rt: &impl Abort,
     alloc: Global,
     buffer: IpDefragBuf,
@@ -123,32 +123,6 @@ fn last_one_twice(rt: HostRuntime) {
 }
 
 #[test]
-fn end_below_what_came(rt: HostRuntime) {
-    accepts(
-        &rt,
-        rt.alloc(),
-        &[
-            (0, true, Rising(0, 64), false),
-            (4, false, Rising(32, 16), true),
-        ],
-        &[Rising(0, 48)],
-        &[section(0, 64)],
-        Some(48),
-    );
-    accepts(
-        &rt,
-        rt.alloc(),
-        &[
-            (8, true, Rising(64, 64), false),
-            (0, false, Rising(0, 32), false),
-        ],
-        &[Rising(0, 32)],
-        &[section(0, 32), section(64, 128)],
-        Some(32),
-    );
-}
-
-#[test]
 fn without_bytes(rt: HostRuntime) {
     accepts(&rt, rt.alloc(), &[], &[], &[], None);
     accepts(
@@ -158,14 +132,6 @@ fn without_bytes(rt: HostRuntime) {
         &[],
         &[section(0, 0)],
         Some(0),
-    );
-    accepts(
-        &rt,
-        rt.alloc(),
-        &[(2, true, Zeros(0), false), (0, false, Rising(0, 8), false)],
-        &[Rising(0, 8)],
-        &[section(0, 8), section(16, 16)],
-        Some(8),
     );
 }
 

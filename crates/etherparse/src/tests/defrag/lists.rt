@@ -81,8 +81,17 @@ struct Kept {
     time: u64,
 }
 
-/// Why a fragment is refused behind others, of which the final one ends there.
-fn refusal(end: Option<u32>, fragment: Step) -> Option<IpDefragError> {
+/// How far fragments reach: the greatest of their ends.
+fn reach_of(fragments: &[Step]) -> u32 {
+    let mut reach = 0;
+    for fragment in fragments {
+        reach = reach.max(fragment.end());
+    }
+    reach
+}
+
+/// Why a fragment is refused behind others.
+fn refusal(stream: &Kept, fragment: Step) -> Option<IpDefragError> {
     let offset = IpFragOffset::try_new(fragment.units).unwrap_or(IpFragOffset::ZERO);
     let payload_len = usize::from(fragment.len);
     let Ok(conflicting_end) = u16::try_from(fragment.end()) else {
@@ -98,35 +107,27 @@ fn refusal(end: Option<u32>, fragment: Step) -> Option<IpDefragError> {
             payload_len,
         });
     }
-    let previous_end = u16::try_from(end?).unwrap_or(0);
-    if conflicting_end > previous_end
-        || (!fragment.more_fragments && conflicting_end != previous_end)
-    {
+    let previous_end = stream.end.unwrap_or(reach_of(&stream.accepted));
+    let goes_past = stream.end.is_some() && previous_end < fragment.end();
+    let ends_too_early = !fragment.more_fragments && fragment.end() < previous_end;
+    if goes_past || ends_too_early {
         return Some(IpDefragError::ConflictingEnd {
-            previous_end,
+            previous_end: u16::try_from(previous_end).unwrap_or(0),
             conflicting_end,
         });
     }
     None
 }
 
-/// The bytes up to the end, of each that of the last fragment there, if no byte is missing before any fragment's end.
+/// The bytes up to the end, of each that of the last fragment there, if no byte is missing before the end.
 fn whole(rt: &impl Abort, alloc: Global, stream: &Kept) -> Option<Vec<u8>> {
-    let end = stream.end?;
-    let mut reach = 0;
-    for fragment in &stream.accepted {
-        reach = reach.max(fragment.end());
-    }
     let mut payload = Vec::new(alloc);
-    for position in 0..reach {
+    for position in 0..stream.end? {
         let mut byte = None;
         for fragment in &stream.accepted {
             byte = fragment.byte_at(position).or(byte);
         }
-        let byte = byte?;
-        if position < end {
-            payload.push(byte).expect(rt, "no memory");
-        }
+        payload.push(byte?).expect(rt, "no memory");
     }
     Some(payload)
 }
@@ -141,7 +142,7 @@ fn answer_frame(
     if fragment.units == 0 && !fragment.more_fragments {
         return Ok(None);
     }
-    if let Some(error) = refusal(stream.end, fragment) {
+    if let Some(error) = refusal(stream, fragment) {
         return Err(error);
     }
     stream.accepted.push(fragment).expect(rt, "no memory");

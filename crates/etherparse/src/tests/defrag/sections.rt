@@ -31,9 +31,11 @@ impl Plain {
     }
 
     fn refusal(&self, range: IpFragRange, more_fragments: bool) -> Option<IpDefragError> {
-        let previous_end = self.end?;
-        let conflicts = previous_end < range.end || (!more_fragments && previous_end != range.end);
-        conflicts.then_some(IpDefragError::ConflictingEnd {
+        let reach = u16::try_from(self.bytes.len()).unwrap_or(u16::MAX);
+        let previous_end = self.end.unwrap_or(reach);
+        let goes_past = self.end.is_some() && previous_end < range.end;
+        let ends_too_early = !more_fragments && range.end < previous_end;
+        (goes_past || ends_too_early).then_some(IpDefragError::ConflictingEnd {
             previous_end,
             conflicting_end: range.end,
         })
@@ -89,7 +91,6 @@ impl Plain {
         self.fill(alloc, usize::from(range.start), payload)?;
         self.join(alloc, range)?;
         if !more_fragments {
-            self.bytes.truncate(usize::from(range.end));
             self.end = Some(range.end);
         }
         Ok(Ok(()))

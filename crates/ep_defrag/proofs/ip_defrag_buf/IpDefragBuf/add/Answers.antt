@@ -1,18 +1,31 @@
-use Rattle.std.proofs.Common.{◌≡◌, ◌≤◌, length, ◌∙◌, ℕ, true, not, IsOk, sym, ap, inr, rules}
+use Rattle.std.proofs.Common.{◌≡◌, ◌≤◌, length, List, ◌∙◌, ℕ, true, not, IsOk, sym, ap, inr, rules}
 use Rattle.std.specs.List.{list_any}
 use Rattle.std.proofs.lemmas.Bool.{false≢true}
 use Rattle.ep_defrag.specs.declared.ip_defrag_error.IpDefragError.TheVariants.{AllocationFailure}
 use Rattle.ep_defrag.specs.Ranges.{merges}
-use Rattle.ep_defrag.specs.Fragments.{fragment_with}
-use Rattle.ep_defrag.specs.Buffers.{IsUnchanged, data_of, sections_of}
-use Rattle.ep_defrag.proofs.Held.{HoldsFragments-push, HoldsFragments-same, in_place_when_held}
+use Rattle.ep_defrag.specs.Fragments.{IpFragment, fragment_with}
+use Rattle.ep_defrag.specs.Refusals.{RefusesFragment}
+use Rattle.ep_defrag.specs.Buffers.{HoldsFragments, IsUnchanged, data_of, sections_of}
+use Rattle.ep_defrag.proofs.Held.{data_len, HoldsFragments-push, HoldsFragments-same, in_place_when_held}
 use Rattle.ep_defrag.proofs.ip_defrag_buf.IpDefragBuf.add.Goals as goal
+
+pub returns-clause-fits : goal.returns-clause-fits
+returns-clause-fits c accepted held =
+    rw (← held.end, ← data_len c.args.self.now accepted held, ← c.reach.ensures) c.in_ok-range.ensures.answer
+
+pub returns-in_err-range-clause-refused : goal.returns-in_err-range-clause-refused
+returns-in_err-range-clause-refused c =
+    let fragment = fragment_with c.args.offset c.args.more_fragments c.args.payload.now in
+    let refuses : (accepted : List IpFragment) → HoldsFragments c.args.self.now accepted
+    → RefusesFragment accepted fragment c.in_err-range.field-0.0 = λ accepted held.
+    rw (← held.end, ← data_len c.args.self.now accepted held, ← c.reach.ensures) c.in_err-range.ensures.answer in
+    search (rules, refuses)
 
 pub returns-clause-holds : goal.returns-clause-holds
 returns-clause-holds c accepted held =
     HoldsFragments-push c.args.self.now c.accept.new.self accepted
     (fragment_with c.args.offset c.args.more_fragments c.args.payload.now) held
-    (rw (← held.end) c.in_ok-range.ensures.answer)
+    (rw (← held.end, ← data_len c.args.self.now accepted held, ← c.reach.ensures) c.in_ok-range.ensures.answer)
     (search rules)
     (search rules)
     (search rules)
@@ -26,7 +39,7 @@ returns-then-is_err-clause-refused c accepted held =
     λ ok. false≢true (sym (c.is_err.ensures.negation ∙ ap not c.if-is_err.true) ∙ ok) in
     inr (
       (
-        rw (← held.end) c.in_ok-range.ensures.answer,
+        rw (← held.end, ← data_len self accepted held, ← c.reach.ensures) c.in_ok-range.ensures.answer,
         λ placed.
             let found = in_place_when_held self accepted fragment held placed in
             let within : range.end ≤ length (data_of self) = rw c.in_ok-range.ensures.ok found.0 in

@@ -1,0 +1,73 @@
+//! Final fragments that end below what came: rows from outside.
+
+use super::Bytes::{Rising, Zeros};
+use super::buffers::{Step, adds, section, shows_parts};
+use super::*;
+
+/// Fragments, of which the one of this number is refused because it ends there and what came before it reaches further.
+/// The last one completes the payload, of the bytes that rise from 0.
+fn refuses_end(
+    rt: &impl Abort,
+    alloc: Global,
+    steps: &[Step],
+    (refused, reach, end): (usize, u16, u16),
+    len: u16,
+) {
+    let (buffer, answers) = adds(rt, alloc, steps);
+    for (number, answer) in answers.iter().enumerate() {
+        let expected = if number == refused {
+            Err(IpDefragError::ConflictingEnd {
+                previous_end: reach,
+                conflicting_end: end,
+            })
+        } else {
+            Ok(())
+        };
+        same(rt, answer, &expected);
+    }
+    let shown = [Rising(0, usize::from(len))];
+    shows_parts(rt, alloc, buffer, &shown, &[section(0, len)], Some(len));
+}
+
+#[test]
+fn within_what_came(rt: HostRuntime) {
+    let steps = [
+        (0, true, Rising(0, 64), false),
+        (4, false, Rising(32, 16), false),
+        (8, false, Zeros(0), true),
+    ];
+    refuses_end(&rt, rt.alloc(), &steps, (1, 64, 48), 64);
+}
+
+/// The refused fragment leaves no end and no bytes behind.
+#[test]
+fn without_an_end_afterwards(rt: HostRuntime) {
+    let steps = [
+        (0, true, Rising(0, 64), false),
+        (4, false, Rising(32, 16), false),
+    ];
+    let (buffer, _answers) = adds(&rt, rt.alloc(), &steps);
+    let (shown, sections) = ([Rising(0, 64)], [section(0, 64)]);
+    shows_parts(&rt, rt.alloc(), buffer, &shown, &sections, None);
+}
+
+#[test]
+fn before_what_came(rt: HostRuntime) {
+    let steps = [
+        (8, true, Rising(64, 64), false),
+        (0, false, Rising(0, 32), false),
+        (0, true, Rising(0, 64), false),
+        (16, false, Zeros(0), true),
+    ];
+    refuses_end(&rt, rt.alloc(), &steps, (1, 128, 32), 128);
+}
+
+#[test]
+fn before_an_empty_fragment(rt: HostRuntime) {
+    let steps = [
+        (2, true, Zeros(0), false),
+        (0, false, Rising(0, 8), false),
+        (0, false, Rising(0, 16), true),
+    ];
+    refuses_end(&rt, rt.alloc(), &steps, (1, 16, 8), 16);
+}
