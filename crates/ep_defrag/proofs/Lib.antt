@@ -6,6 +6,7 @@ mod Data
 mod Writing
 mod Complete
 mod Held
+mod Completing
 mod Equal
 mod Cuts
 mod Runs

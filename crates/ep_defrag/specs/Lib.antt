@@ -13,6 +13,7 @@ pub mod Pools
 pub mod Isolation
 pub mod BuiltCuts
 pub mod FrameCalls
+pub mod Completing
 -- what the contracts name of the crates below
 pub use Rattle.ep_base.specs.Tables
 pub use Rattle.ep_ext.specs.FragmentHeaderSlices

@@ -1,13 +1,14 @@
 //! Laws of the definitions that the contracts of this crate cite. Each is the contract of a function that does nothing.
 
-ghost use Rattle.std.specs.Prelude.{◌≡◌, ◌↔◌, ◌⊎◌, ℕ, ◌%◌, ◌<◌, ◌≤◌, ◌||◌, Bool, List, [], length, map, IsTrue, IsSome, IfSome};
+ghost use Rattle.std.specs.Prelude.{◌≡◌, ◌↔◌, ◌⊎◌, ℕ, ◌%◌, ◌<◌, ◌≤◌, ◌||◌, Bool, false, Some, List, [], ◌∷◌, ◌++◌, length, map, IsTrue, IsSome, IfSome};
 ghost use Rattle.std.specs.List.{All, Any};
 ghost use Rattle.ep_defrag.specs.declared.TheConstants as constant;
 ghost use Rattle.ep_defrag.specs.Ranges.{touches, merge_of, SharePoint};
-ghost use Rattle.ep_defrag.specs.Fragments.{IpFragment, is_final, IsCovered, assembled, IsComplete, FillAlike, TouchAlike};
-ghost use Rattle.ep_defrag.specs.Refusals.{Fits};
+ghost use Rattle.ep_defrag.specs.Fragments.{IpFragment, fragment_with, is_final, IsCovered, reach_of, end_of, assembled, IsComplete, FillAlike, TouchAlike};
+ghost use Rattle.ep_defrag.specs.Refusals.{Fits, FitInTurn};
+ghost use Rattle.ep_defrag.specs.Completing.{FillBoth, front_fragment, back_fragment, CompleteInTurn};
 ghost use Rattle.ep_defrag.specs.Cuts.{IsCut};
-ghost use Rattle.ep_defrag.specs.Buffers.{IsUnchanged, ip_number_of, HoldsFragments};
+ghost use Rattle.ep_defrag.specs.Buffers.{IsUnchanged, ip_number_of, data_of, HoldsFragments};
 ghost use Rattle.ep_defrag.specs.Comparisons.{range_cmp, buffer_cmp, error_cmp};
 ghost use Rattle.ep_defrag.specs.Streams.{same_stream};
 ghost use Rattle.ep_defrag.specs.Calls.{Call, calls_of, answers_to};
@@ -54,6 +55,30 @@ pub fn complete_cuts_are_the_payload()
         × ((position : ℕ) → position < length payload → IsCovered cuts position)) }
     ensures payload { (payload : List ℕ) (cuts : List IpFragment) → All (IsCut payload) cuts →
         IsComplete cuts → assembled cuts ≡ payload }
+{}
+
+/// Where each fragment fits after those before it, as in every list that a buffer holds, a known end is the greatest end
+/// of a fragment. So the bytes put together are as long as the fragments reach, and no accepted byte is cut away.
+pub fn known_end_is_greatest()
+    ensures end { (accepted : List IpFragment) (end : ℕ) → FitInTurn accepted → end_of accepted ≡ Some end →
+        end ≡ reach_of accepted }
+    ensures data { (accepted : List IpFragment) → FitInTurn accepted → length (assembled accepted) ≡ reach_of accepted }
+    ensures held { (buffer : IpDefragBuf) (accepted : List IpFragment) → HoldsFragments buffer accepted →
+        length (data_of buffer) ≡ reach_of accepted }
+{}
+
+/// Whatever a buffer holds can be completed by one fragment: the final one from 0 to the greatest end, of whatever bytes.
+pub fn one_fragment_completes()
+    ensures { (accepted : List IpFragment) (bytes : List ℕ) → FitInTurn accepted → length bytes ≡ reach_of accepted →
+        let fragment = fragment_with 0 false bytes in
+        Fits accepted fragment × IsComplete (accepted ++ fragment ∷ []) }
+{}
+
+/// And by at most two that frames can carry as fragments, of at most 32768 bytes each, of whatever bytes.
+pub fn two_fragments_complete()
+    ensures { (accepted : List IpFragment) (front back : List ℕ) → FitInTurn accepted →
+        FillBoth accepted front back →
+        CompleteInTurn accepted (front_fragment front) (back_fragment accepted back) }
 {}
 
 /// Each stream is answered as if it were alone: two lists of calls on a new pool that agree on the calls of a stream

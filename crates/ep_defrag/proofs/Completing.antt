@@ -1,0 +1,205 @@
+-- Fragments that complete what came.
+use Rattle.std.proofs.Common.{◌≡◌, ℕ, ◌+◌, ◌*◌, ◌-◌, ◌/◌, ◌%◌, ◌<◌, ◌≤◌, min, max, Bool, true, false, ◌||◌, ◌&&◌, eqb, ltb, List, [], ◌∷◌, ◌++◌, append_assoc, length, Option, Some, None, is_some, sym, refl, ap, ◌∙◌, ◌⊎◌, inl, inr, arith}
+use Rattle.std.specs.Option.{option_or, unwrap_or}
+use Rattle.std.proofs.lemmas.Bool.{cases_Bool, cases_lt, or_cases, or_left, or_right, and_from, and_left, and_right, or_from, le-ltb, lt-ltb, eq-eqb, not_from_true, not_from_false}
+use Rattle.std.proofs.lemmas.Bool.Decides.{nat_tests}
+use Rattle.std.proofs.lemmas.List.{append-nil}
+use Rattle.ep_defrag.specs.Fragments.{IpFragment, fragment_with, fragment_end, covers, is_covered, reach_of, end_of, is_complete, IsComplete}
+use Rattle.ep_defrag.specs.Refusals.{end_row, Fits, FitAfter, FitInTurn, is_unaligned}
+use Rattle.ep_defrag.specs.Completing.{whole_end, meeting_at, FillBoth, front_fragment, back_fragment, is_part, CompleteInTurn}
+use Rattle.ep_defrag.proofs.Lists.{list_all-range}
+use Rattle.ep_defrag.proofs.Data.{reach_of-push, end_of-push, is_covered-push, own_end, FitsAt, fits_at, refusal_at-fits, extent_of, EndIsGreatest, end_is_greatest}
+
+-- ---- how far a list reaches
+reach_after : (earlier later : List IpFragment) → reach_of earlier ≤ 65535 → FitAfter earlier later
+    → reach_of (earlier ++ later) ≤ 65535
+reach_after earlier [] short fit = rw (append-nil earlier) short
+reach_after earlier (fragment ∷ later) short fit =
+    let fits = fits_at (end_of earlier) (reach_of earlier) fragment fit.0 in
+    rw (append_assoc earlier (fragment ∷ []) later)
+    at (reach_after (earlier ++ fragment ∷ []) later (omega (arith, reach_of-push earlier fragment, short, fits.short))
+    fit.1)
+
+pub reach_short : (fragments : List IpFragment) → FitInTurn fragments → reach_of fragments ≤ 65535
+reach_short fragments fit = reach_after [] fragments (omega arith) fit
+
+-- ---- when ends agree
+-- a final fragment that ends at the known end, or else at no place before the greatest one
+final_agrees : (known : Option ℕ) (reach whole : ℕ) (fragment : IpFragment) → reach ≤ whole
+    → fragment_end fragment ≡ unwrap_or known whole → fragment.more ≡ false
+    → (end_row known reach fragment).0 ≡ false
+final_agrees None reach whole fragment within end last = grind (arith, nat_tests, within, end)
+final_agrees (Some known) reach whole fragment within end last = grind (arith, nat_tests, end)
+
+-- one that more follow, at no place behind the known end
+more_agrees : (known : Option ℕ) (reach whole : ℕ) (fragment : IpFragment)
+    → fragment_end fragment ≤ unwrap_or known whole → fragment.more ≡ true → (end_row known reach fragment).0 ≡ false
+more_agrees None reach whole fragment within more = rw more refl
+more_agrees (Some known) reach whole fragment within more = rw more (grind (arith, nat_tests, within))
+
+-- the end that a final fragment makes known, or that was known
+known_with : (known : Option ℕ) (whole end : ℕ) → end ≡ unwrap_or known whole
+    → option_or known (Some end) ≡ Some (unwrap_or known whole)
+known_with None whole end same = ap (λ (n : ℕ). Some n) same
+known_with (Some known) whole end same = refl
+
+complete_to : (fragments : List IpFragment) (end : ℕ) → end_of fragments ≡ Some end
+    → ((position : ℕ) → position < end → is_covered fragments position ≡ true) → is_complete fragments ≡ true
+complete_to fragments end known covered =
+    rw known (list_all-range (is_covered fragments) 0 end (λ position low high. covered position (omega (arith, high))))
+
+none_more : (known : Option ℕ) → option_or known None ≡ known
+none_more None = refl
+none_more (Some end) = refl
+
+-- what ends within the known end, or else within the greatest end and 8, reaches no further
+no_further : (known : Option ℕ) (reach end : ℕ) → unwrap_or known reach ≡ reach → end ≤ unwrap_or known (max reach 8)
+    → max reach end ≤ max reach 8
+no_further None reach end same within = omega (arith, within)
+no_further (Some known) reach end same within = omega (arith, same, within)
+
+-- an end below 8 is known, and then all before it is covered
+small_known : (known : Option ℕ) (reach : ℕ) → unwrap_or known (max reach 8) < 8
+    → known ≡ Some (unwrap_or known (max reach 8))
+small_known None reach small = absurd (omega (arith, small))
+small_known (Some end) reach small = refl
+
+small_final : (fragments : List IpFragment) (end position : ℕ) → end_of fragments ≡ Some end → end < 8
+    → position < end → is_covered fragments position ≡ true
+small_final [] end position known small below = absurd (cc)
+small_final (fragment ∷ fragments) end position known small below = elim (cases_Bool fragment.more) [
+  | inl more ↦ or_right (covers position fragment) (is_covered fragments position)
+      (small_final fragments end position (rw more at known) small below)
+  | inr last ↦
+      let known_here : Some (fragment_end fragment) ≡ Some end = rw last at known in
+      let same : fragment_end fragment ≡ end = cc in
+      or_left (covers position fragment) (is_covered fragments position) (grind (arith, nat_tests, same, small, below))
+]
+
+-- ---- one fragment
+module _ (accepted : List IpFragment) (fit : FitInTurn accepted) where
+  greatest : unwrap_or (end_of accepted) (reach_of accepted) ≡ reach_of accepted
+  greatest = end_is_greatest accepted fit
+
+  module _ (bytes : List ℕ) (len : length bytes ≡ reach_of accepted) where
+    abbrev last : IpFragment
+    last = fragment_with 0 false bytes
+
+    last_end : fragment_end last ≡ unwrap_or (end_of accepted) (reach_of accepted)
+    last_end = omega (arith, len, greatest)
+
+    pub one_fits : Fits accepted last
+    one_fits =
+        refusal_at-fits (end_of accepted) (reach_of accepted) last
+        (record {
+          short = omega (arith, len, reach_short accepted fit);
+          aligned = refl;
+          agrees = final_agrees (end_of accepted) (reach_of accepted) (reach_of accepted) last (omega arith) last_end
+              refl;
+        })
+
+    pub one_completes : IsComplete (accepted ++ last ∷ [])
+    one_completes =
+        complete_to (accepted ++ last ∷ []) (unwrap_or (end_of accepted) (reach_of accepted))
+        (end_of-push accepted last ∙ known_with (end_of accepted) (reach_of accepted) (fragment_end last) last_end)
+        (λ position below.
+        is_covered-push accepted last position
+        ∙ or_right (is_covered accepted position) (covers position last)
+        (grind (arith, nat_tests, len, greatest, below)))
+
+  -- ---- two fragments
+  abbrev whole : ℕ
+  whole = whole_end accepted
+
+  whole_short : (known : Option ℕ) → unwrap_or known (reach_of accepted) ≡ reach_of accepted
+      → unwrap_or known (max (reach_of accepted) 8) ≤ 65535
+  whole_short None same = omega (arith, reach_short accepted fit)
+  whole_short (Some end) same = omega (arith, same, reach_short accepted fit)
+
+  module _ (front back : List ℕ) (fill : FillBoth accepted front back) where
+    abbrev first : IpFragment
+    first = front_fragment front
+
+    abbrev second : IpFragment
+    second = back_fragment accepted back
+
+    abbrev with_first : List IpFragment
+    with_first = accepted ++ first ∷ []
+
+    front_end : fragment_end first ≤ whole
+    front_end = omega (arith, fill.both_len)
+
+    short : whole ≤ 65535
+    short = whole_short (end_of accepted) greatest
+
+    aligned : is_unaligned first ≡ false
+    aligned = grind (arith, nat_tests, fill.front_len)
+
+    first_fits : Fits accepted first
+    first_fits =
+        refusal_at-fits (end_of accepted) (reach_of accepted) first
+        (record {
+          short = omega (arith, front_end, short);
+          aligned = aligned;
+          agrees = more_agrees (end_of accepted) (reach_of accepted) (max (reach_of accepted) 8) first
+              front_end refl;
+        })
+
+    -- the first fragment makes no end known
+    same_end : end_of with_first ≡ end_of accepted
+    same_end = end_of-push accepted first ∙ none_more (end_of accepted)
+
+    second_end : fragment_end second ≡ whole
+    second_end = omega (arith, fill.front_len, fill.both_len)
+
+    second_fits : Fits with_first second
+    second_fits =
+        refusal_at-fits (end_of with_first) (reach_of with_first) second
+        (record {
+          short = omega (arith, second_end, short);
+          aligned = refl;
+          agrees =
+              rw (same_end, reach_of-push accepted first)
+              (final_agrees (end_of accepted) (max (reach_of accepted) (fragment_end first)) (max (reach_of accepted) 8)
+              second (no_further (end_of accepted) (reach_of accepted) (fragment_end first) greatest front_end) second_end
+              refl);
+        })
+
+    covered : (position : ℕ) → position < whole → is_covered (with_first ++ second ∷ []) position ≡ true
+    covered position below =
+        is_covered-push with_first second position ∙ elim (cases_lt position (length front)) [
+          | inl within ↦ or_left _ _
+              (is_covered-push accepted first position
+              ∙ or_right (is_covered accepted position) (covers position first) (grind (arith, nat_tests, within)))
+          | inr behind ↦ or_right (is_covered with_first position) (covers position second)
+              (grind (arith, nat_tests, behind, below, fill.front_len, fill.both_len))
+        ]
+
+    complete : IsComplete (accepted ++ first ∷ second ∷ [])
+    complete =
+        rw (append_assoc accepted (first ∷ []) (second ∷ []))
+        at (complete_to (with_first ++ second ∷ []) whole
+        (end_of-push with_first second ∙ ap (λ known. option_or known (Some (fragment_end second))) same_end
+        ∙ known_with (end_of accepted) (max (reach_of accepted) 8) (fragment_end second) second_end)
+        covered)
+
+    -- where the second would begin the payload, the end is known and below 8, and all is there
+    all_there : whole < 8 → is_complete with_first ≡ true
+    all_there small =
+        let known : end_of accepted ≡ Some whole = small_known (end_of accepted) (reach_of accepted) small in
+        complete_to with_first whole (same_end ∙ known)
+        (λ position below.
+        is_covered-push accepted first position
+        ∙ or_left _ _ (small_final accepted whole position known small below))
+
+    pub two_complete : CompleteInTurn accepted first second
+    two_complete = record {
+      first_fits = first_fits;
+      second_fits = second_fits;
+      complete = complete;
+      first_part = refl;
+      second_part = elim (cases_lt 0 (meeting_at whole)) [
+        | inl some ↦ inr (lt-ltb 0 (meeting_at whole) some)
+        | inr none ↦ inl (all_there (omega (arith, none)))
+      ];
+    }
