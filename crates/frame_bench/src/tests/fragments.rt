@@ -4,7 +4,7 @@ use super::{assert_answers, assert_rows};
 use std::test::Fail;
 
 /// Texts and their answers.
-pub(super) const RUNS: [(&str, &str); 9] = [
+pub(super) const RUNS: [(&str, &str); 10] = [
     // Two streams by their VLAN identifiers, each of which is complete in turn, and one that begins anew.
     (
         "frag eth 1 0 0708090a0b0c0102030405068100000108004500001c000120001411037dc0a80101c0a801020001020304050607\n\
@@ -126,6 +126,15 @@ pub(super) const RUNS: [(&str, &str); 9] = [
         err len 16 0 Slice LinuxSllHeader 0\n\
         none\n\
         payload 17 000102030405060708090a0b0c0d0e0f\n",
+    ),
+    // A final fragment that ends below what came is refused. The payload comes with one that ends behind it.
+    (
+        "frag ip 1 0 450000240007200040fdd682c0a80101c0a80102000102030405060708090a0b0c0d0e0f\n\
+        frag ip 2 0 4500001b0007000140fd0000c0a80101c0a8010208090a0b0c0d0e\n\
+        frag ip 3 0 4500001c0007000240fdf688c0a80101c0a801021011121314151617\n",
+        "none\n\
+        err conflict 16 15\n\
+        payload 253 000102030405060708090a0b0c0d0e0f1011121314151617\n",
     ),
 ];
 
