@@ -12,6 +12,7 @@ mod Cuts
 mod Runs
 mod Lookups
 mod Streams
+mod Entries
 mod OneFragment
 mod Tables
 mod Taking

@@ -5,13 +5,12 @@ use Rattle.std.proofs.lemmas.List.{length_push}
 use Rattle.ep_defrag.specs.declared.ip_defrag_error.IpDefragError.{IpDefragError}
 use Rattle.ep_defrag.specs.declared.ip_defrag_error.IpDefragError.TheVariants.{AllocationFailure}
 use Rattle.ep_defrag.specs.declared.ip_frag_id.IpFragId.{IpFragId}
-use Rattle.ep_defrag.specs.declared.ip_defrag_pool.Stream.{Stream}
 use Rattle.ep_defrag.specs.Fragments.{IpFragment, fragment_end, reach_of, end_of, is_complete}
 use Rattle.ep_defrag.specs.Refusals.{refusal_of, RefusesFragment, Fits, MayNeedMemory, is_want_of_memory}
 use Rattle.ep_defrag.specs.Buffers.{HoldsFragments, ip_number_of, data_of}
 use Rattle.ep_defrag.specs.Streams.{source_of}
 use Rattle.ep_defrag.specs.Calls.{Kept, accepted_in, kept_with, answer_with, Payload, payload_of, fragment_refused, payload_handed_out, nothing_handed_out}
-use Rattle.ep_defrag.specs.Pools.{HoldsEntry}
+use Rattle.ep_defrag.specs.Pools.{Stream, HoldsEntry, BufferTakes, IsWhole}
 use Rattle.ep_defrag.proofs.Runs.{no_memory}
 
 -- what a test that is exact answers
@@ -72,13 +71,6 @@ module _ {T C : Type 0} (name : IpFragId C) (kept : Option (Kept T)) (fragment :
 
 -- ---- a stream that goes on
 module _ {T C : Type 0} (stream next : Stream T C) where
-  -- the buffer takes the fragment
-  pub record Takes (fragment : IpFragment) : Type 0 where
-    pub fits : (accepted : List IpFragment) → HoldsFragments stream.buffer accepted → Fits accepted fragment
-    pub holds : (accepted : List IpFragment) → HoldsFragments stream.buffer accepted
-        → HoldsFragments next.buffer (accepted ++ fragment ∷ [])
-    pub ip_number : ip_number_of next.buffer ≡ ip_number_of stream.buffer
-
   pub holds_in : (kept : Option (Kept T)) → HoldsEntry (Some stream) kept
       → HoldsFragments stream.buffer (accepted_in kept)
   holds_in None entry = absurd entry
@@ -99,8 +91,9 @@ module _ {T C : Type 0} (stream next : Stream T C) where
 
   module _ (fragment : IpFragment) (timestamp : T) where
     -- it has one more fragment
-    pub entry_more : (kept : Option (Kept T)) → HoldsEntry (Some stream) kept → Takes fragment
-        → ((accepted : List IpFragment) → HoldsFragments next.buffer accepted → is_complete accepted ≡ false)
+    pub entry_more : (kept : Option (Kept T)) → HoldsEntry (Some stream) kept
+        → BufferTakes stream.buffer next.buffer fragment
+        → IsWhole next.buffer false
         → next.id ≡ stream.id → next.timestamp ≡ timestamp → HoldsEntry (Some next) (kept_with kept fragment timestamp)
     entry_more None entry takes partly id time = absurd entry
     entry_more (Some kept) entry takes partly id time =
@@ -114,8 +107,9 @@ module _ {T C : Type 0} (stream next : Stream T C) where
         })
 
     -- it is complete
-    pub entry_whole : (kept : Option (Kept T)) → HoldsEntry (Some stream) kept → Takes fragment
-        → ((accepted : List IpFragment) → HoldsFragments next.buffer accepted → is_complete accepted ≡ true)
+    pub entry_whole : (kept : Option (Kept T)) → HoldsEntry (Some stream) kept
+        → BufferTakes stream.buffer next.buffer fragment
+        → IsWhole next.buffer true
         → kept_with kept fragment timestamp ≡ None
     entry_whole None entry takes whole = absurd entry
     entry_whole (Some kept) entry takes whole =
@@ -136,8 +130,9 @@ module _ {T C : Type 0} (stream next : Stream T C) where
 
   -- the answers
   module _ (name : IpFragId C) (fragment : IpFragment) where
-    pub answered_nothing : (kept : Option (Kept T)) → HoldsEntry (Some stream) kept → Takes fragment
-        → ((accepted : List IpFragment) → HoldsFragments next.buffer accepted → is_complete accepted ≡ false)
+    pub answered_nothing : (kept : Option (Kept T)) → HoldsEntry (Some stream) kept
+        → BufferTakes stream.buffer next.buffer fragment
+        → IsWhole next.buffer false
         → nothing_handed_out ≡ answer_with name kept fragment
     answered_nothing None entry takes partly = absurd entry
     answered_nothing (Some kept) entry takes partly =
@@ -147,8 +142,9 @@ module _ {T C : Type 0} (stream next : Stream T C) where
     abbrev handed : List ℕ → Payload
     handed bytes = record { ip_number = name.payload_ip_number; len_source = source_of name.ip; bytes = bytes }
 
-    pub answered_payload : (kept : Option (Kept T)) → HoldsEntry (Some stream) kept → Takes fragment
-        → ((accepted : List IpFragment) → HoldsFragments next.buffer accepted → is_complete accepted ≡ true)
+    pub answered_payload : (kept : Option (Kept T)) → HoldsEntry (Some stream) kept
+        → BufferTakes stream.buffer next.buffer fragment
+        → IsWhole next.buffer true
         → payload_handed_out (handed (data_of next.buffer)) ≡ answer_with name kept fragment
     answered_payload None entry takes whole = absurd entry
     answered_payload (Some kept) entry takes whole =

@@ -1,18 +1,19 @@
 -- What a pool holds, after one stream changed, went or began, and after a drop.
-use Rattle.std.proofs.Common.{◌≡◌, ℕ, ◌≤◌, Bool, true, false, List, [], ◌∷◌, ◌++◌, get_or, set, length, Bor, Option, Some, None, is_some, cond, sym, refl, ap, ◌∙◌, subst, arith, inl, inr}
-use Rattle.std.specs.List.{filter, find, count_by, items_where_true, remove, position}
-use Rattle.std.specs.List.Retain.{ReturnsInTurn, IsFiltered}
+use Rattle.std.proofs.Common.{◌≡◌, ℕ, ◌≤◌, Bool, true, false, List, [], ◌∷◌, Bor, Option, Some, None, is_some, cond, sym, refl, ap, ◌∙◌, subst, arith, of_calls, inl, inr}
+use Rattle.std.specs.List.{filter, find, count_by, items_where_true}
 use Rattle.std.specs.Cmp.{IsEquivalence}
 use Rattle.std.specs.Fn.{Shared, FnReturnsAt}
+use Rattle.std.specs.Map.Calls.{RetainsPairs}
 use Rattle.std.proofs.lemmas.Bool.{cases_Bool}
 use Rattle.std.proofs.lemmas.List.Sums.{sum_by-cons}
 use Rattle.ep_defrag.specs.declared.ip_frag_id.IpFragId.{IpFragId}
-use Rattle.ep_defrag.specs.declared.ip_defrag_pool.Stream.{Stream}
+use Rattle.ep_defrag.specs.declared.ip_defrag_pool.OpenStream.{OpenStream}
 use Rattle.ep_defrag.specs.declared.ip_defrag_pool.IpDefragPool.{IpDefragPool}
 use Rattle.ep_defrag.specs.Streams.{same_stream}
 use Rattle.ep_defrag.specs.Calls.{Kept, kept_by}
-use Rattle.ep_defrag.specs.Pools.{streams_of, stream_named, HoldsEntry, HoldsTable, AnswersEach, LeavesAnswered, HoldsAnswered}
-use Rattle.ep_defrag.proofs.Lookups.{counted, find_none, find_here, find_set_here, find_set_there, count_set, find_removed_here, find_removed_there, count_removed, find_nowhere, find_pushed_here, find_pushed_there, count_pushed, count_filter, stays_if, find_filter}
+use Rattle.ep_defrag.specs.Pools.{Stream, stream_at, streams_of, stream_named, HoldsEntry, HoldsTable, ChangesStream, AnswersEach, LeavesAnswered, HoldsAnswered, IsAnsweredBy}
+use Rattle.ep_defrag.proofs.Lookups.{counted, find_none, count_filter, stays_if, find_filter}
+use Rattle.ep_defrag.proofs.Entries.{same_name}
 use Rattle.ep_defrag.proofs.Streams.{same_stream_laws}
 
 abbrev Table : Type 0 → Type 0 → Type 0
@@ -35,97 +36,31 @@ pub same_itself : {C : Type 0} (eq : C → C → Bool) → IsEquivalence eq → 
 same_itself eq laws name = (same_stream_laws eq laws).refl name
 
 module _ {T C : Type 0} (eq : C → C → Bool) (laws : IsEquivalence eq) where
-  module _ (old new : IpDefragPool T C) (table next : Table T C) (held : HoldsTable eq old table) (id : IpFragId C)
-      (there : (name : IpFragId C) → same_stream eq id name ≡ false → next name ≡ table name) where
-    -- one stream changes
-    pub HoldsTable-set : (index : ℕ) (stream : Stream T C)
-        → position (λ s. same_stream eq s.id id) (streams_of old) ≡ Some index
-        → streams_of new ≡ set (streams_of old) index stream → stream.id ≡ (get_or (streams_of old) index stream).id
-        → ((name : IpFragId C) → same_stream eq id name ≡ true → HoldsEntry (Some stream) (next name))
-        → HoldsTable eq new next
-    HoldsTable-set index stream found now kept here =
-        let xs = streams_of old in
-        let same = same_stream eq in
-        let names = same_stream_laws eq laws in
-        record {
-          apart = λ name. rw (now, count_set same names (λ s. s.id) xs id index found stream kept name)
-              (held.apart name);
-          each = λ name. rw now (elim (cases_Bool (same_stream eq id name)) [
-            | inl alike ↦ rw (find_set_here same names (λ s. s.id) xs id index found stream kept name alike)
-                (here name alike)
-            | inr other ↦ rw (
-              find_set_there same names (λ s. s.id) xs id index found stream kept name other,
-              there name other,
-            ) (held.each name)
-          ]);
-        }
-
-    -- one stream goes
-    pub HoldsTable-removed : (index : ℕ) (d : Stream T C)
-        → position (λ s. same_stream eq s.id id) (streams_of old) ≡ Some index
-        → streams_of new ≡ remove (streams_of old) index
-        → ((name : IpFragId C) → same_stream eq id name ≡ true → next name ≡ None) → HoldsTable eq new next
-    HoldsTable-removed index d found now here =
-        let xs = streams_of old in
-        let same = same_stream eq in
-        let names = same_stream_laws eq laws in
-        record {
-          apart = λ name. rw now
-              (omega (arith, count_removed same names (λ s. s.id) xs id index found d name, held.apart name));
-          each = λ name. rw now (elim (cases_Bool (same_stream eq id name)) [
-            | inl alike ↦ rw (
-              find_removed_here same names (λ s. s.id) xs id index found d name alike (held.apart name),
-              here name alike,
-            ) tt
-            | inr other ↦ rw (
-              find_removed_there same names (λ s. s.id) xs id index found d name other,
-              there name other,
-            ) (held.each name)
-          ]);
-        }
-
-    -- one stream begins
-    pub HoldsTable-push : (stream : Stream T C) → stream.id ≡ id
-        → position (λ s. same_stream eq s.id id) (streams_of old) ≡ None
-        → streams_of new ≡ streams_of old ++ stream ∷ []
-        → ((name : IpFragId C) → same_stream eq id name ≡ true → HoldsEntry (Some stream) (next name))
-        → HoldsTable eq new next
-    HoldsTable-push stream named absent now here =
-        let xs = streams_of old in
-        let same = same_stream eq in
-        let names = same_stream_laws eq laws in
-        record {
-          apart = λ name. rw now (count_pushed same names (λ s. s.id) xs id absent stream named name (held.apart name));
-          each = λ name. rw now (elim (cases_Bool (same_stream eq id name)) [
-            | inl alike ↦ rw (find_pushed_here same names (λ s. s.id) xs id absent stream named name alike)
-                (here name alike)
-            | inr other ↦ rw (
-              find_pushed_there same names (λ s. s.id) xs id absent stream named name other,
-              there name other,
-            ) (held.each name)
-          ]);
-        }
+  -- One stream has changed, begun or gone: the pool holds each table in which what is kept of its name is what it has
+  -- now, and all else as it was.
+  pub HoldsTable-changed : (old new : IpDefragPool T C) (table next : Table T C) (id : IpFragId C)
+      (stream : Option (Stream T C)) → ChangesStream eq old new id stream → HoldsTable eq old table
+      → ((name : IpFragId C) → same_stream eq id name ≡ false → next name ≡ table name)
+      → ((name : IpFragId C) → same_stream eq id name ≡ true → HoldsEntry stream (next name)) → HoldsTable eq new next
+  HoldsTable-changed old new table next id stream changed held there here = record {
+    apart = changed.apart;
+    each = λ name. elim (cases_Bool (same_stream eq id name)) [
+      | inl alike ↦ rw (same_name eq laws new id name alike, changed.here) (here name alike)
+      | inr other ↦ rw (changed.others name other, there name other) (held.each name)
+    ];
+  }
 
   module _ (pool : IpDefragPool T C) (table : Table T C) (held : HoldsTable eq pool table) (id : IpFragId C) where
     -- what is kept of a stream that isn't there
-    pub none_kept : position (λ s. same_stream eq s.id id) (streams_of pool) ≡ None
+    pub none_kept : stream_named eq id pool ≡ None
         → (name : IpFragId C) → same_stream eq id name ≡ true → table name ≡ None
     none_kept absent name alike =
-        let same = same_stream eq in
-        let names = same_stream_laws eq laws in
-        no_entry C (table name)
-        (rw (find_nowhere same names (λ s. s.id) (streams_of pool) id absent name alike) at (held.each name))
+        no_entry C (table name) (rw (same_name eq laws pool id name alike, absent) at (held.each name))
 
-    -- the stream at the place of a name has what is kept of each name that is the same
-    pub entry_at : (index : ℕ) (d : Stream T C)
-        → position (λ s. same_stream eq s.id id) (streams_of pool) ≡ Some index
-        → (name : IpFragId C) → same_stream eq id name ≡ true
-        → HoldsEntry (Some (get_or (streams_of pool) index d)) (table name)
-    entry_at index d found name alike =
-        let same = same_stream eq in
-        let names = same_stream_laws eq laws in
-        rw (find_here same names (λ s. s.id) (streams_of pool) id index found d name alike) at
-        (held.each name)
+    -- the stream of a name has what is kept of each name that is the same
+    pub entry_at : (stream : Stream T C) → stream_named eq id pool ≡ Some stream
+        → (name : IpFragId C) → same_stream eq id name ≡ true → HoldsEntry (Some stream) (table name)
+    entry_at stream found name alike = rw (same_name eq laws pool id name alike, found) at (held.each name)
 
 -- ---- a drop
 entry_by : {T C : Type 0} (answers : T → Bool) (stream : Option (Stream T C)) (kept : Option (Kept T))
@@ -140,7 +75,7 @@ entry_by answers (Some stream) (Some kept) entry = elim (cases_Bool (answers str
   | inr goes ↦ rw (goes, ap answers (sym entry.timestamp) ∙ goes) tt
 ]
 
-pub HoldsTable-filter : {T C : Type 0} (eq : C → C → Bool) (old new : IpDefragPool T C) (table : Table T C)
+HoldsTable-filter : {T C : Type 0} (eq : C → C → Bool) (old new : IpDefragPool T C) (table : Table T C)
     (answers : T → Bool) → HoldsTable eq old table
     → streams_of new ≡ filter (λ s. answers s.timestamp) (streams_of old)
     → HoldsTable eq new (λ name. kept_by answers (table name))
@@ -159,30 +94,68 @@ HoldsTable-filter eq old new table answers held now =
           (entry_by answers (stream_named eq name old) (table name) (held.each name));
     }
 
--- what a drop's answers are, where what the list asks of each stream is what keep answers of its timestamp
+-- what a drop's answers are, where what the map asks of each entry is what keep answers of its timestamp
 module _ {F T C : Type 0} (calls : Shared F (Bor T × Unit {0}) Bool) (keep : F) {P : Type 0}
-    (R : P → Stream T C → Bool → P → Type 0) (test : P)
-    (asks : (stream : Stream T C) (answer : Bool) (next : P) → R test stream answer next
-    → FnReturnsAt calls keep stream.timestamp answer × (next ≡ test)) where
-  answers_each : (streams : List (Stream T C)) (answers : List Bool) (last : P) → length answers ≡ length streams
-      → ReturnsInTurn R test answers streams last → AnswersEach calls keep streams answers
-  answers_each [] [] last same turns = tt
-  answers_each [] (answer ∷ answers) last same turns = absurd (omega arith)
-  answers_each (stream ∷ streams) [] last same turns = absurd (omega arith)
-  answers_each (stream ∷ streams) (answer ∷ answers) last same turns =
-      let asked = asks stream answer turns.0 turns.1 in (
-        asked.0,
-        answers_each streams answers last (omega arith)
-            (subst (λ p. ReturnsInTurn R p answers streams last) asked.1 turns.2),
-      )
+    (step : P → IpFragId C → OpenStream T → Bool → OpenStream T → P → Type 0) (Keeps : P → Type 0)
+    (asks : (test : P) (key : IpFragId C) (value : OpenStream T) (answer : Bool) (left : OpenStream T) (next : P)
+    → Keeps test → step test key value answer left next
+    → FnReturnsAt calls keep value.timestamp answer × (answer ≡ true → left ≡ value) × Keeps next) where
+  stays_or_goes : (entry : IpFragId C × OpenStream T) (answer : Bool) (left : OpenStream T)
+      → (answer ≡ true → left ≡ entry.1) → (rest : IpDefragPool T C) (answers : List Bool) (old : IpDefragPool T C)
+      → streams_of rest ≡ items_where_true answers (streams_of old)
+      → streams_of (cond answer ((entry.0, left) ∷ rest) rest)
+      ≡ items_where_true (answer ∷ answers) (streams_of (entry ∷ old))
+  stays_or_goes entry true left same rest answers old later = λ i. stream_at (entry.0, same refl i) ∷ later i
+  stays_or_goes entry false left same rest answers old later = later
 
-  pub leaves_answered : (old new : IpDefragPool T C) → IsFiltered R test (streams_of old) (streams_of new)
+  pub leaves_answered : (test : P) (old new : IpDefragPool T C) → Keeps test → RetainsPairs step test old new
       → LeavesAnswered calls keep old new
-  leaves_answered old new left = record {
-    answers = left.0;
-    each = answers_each (streams_of old) left.0 left.1 left.2 left.3;
-    left = left.4;
+  leaves_answered test [] new keeps retained = record {
+    answers = [];
+    each = tt;
+    left = ap streams_of retained;
   }
+  leaves_answered test (entry ∷ old) new keeps retained =
+      let asked = asks test entry.0 entry.1 retained.0 retained.1 retained.2 keeps retained.4 in
+      let later = leaves_answered retained.2 old retained.3 asked.2 retained.5 in
+      record {
+        answers = retained.0 ∷ later.answers;
+        each = (asked.0, later.each);
+        left =
+            ap streams_of retained.6
+            ∙ stays_or_goes entry retained.0 retained.1 asked.1 retained.3 later.answers old later.left;
+      }
+
+where_true : {X : Type 0} (answer : Bool) (x : X) (answers : List Bool) (xs : List X)
+    → items_where_true (answer ∷ answers) (x ∷ xs)
+    ≡ cond answer (x ∷ items_where_true answers xs) (items_where_true answers xs)
+where_true true x answers xs = refl
+where_true false x answers xs = refl
+
+told_at : {F T : Type 0} (calls : Shared F (Bor T × Unit {0}) Bool) (keep : F) (answers : T → Bool)
+    → IsAnsweredBy calls keep answers → (timestamp : T) (answer : Bool) → FnReturnsAt calls keep timestamp answer
+    → answer ≡ answers timestamp
+told_at calls keep answers told timestamp answer returned = search (of_calls, told)
+
+-- where a drop answers by a function of the timestamp, it is a filter
+module _ {F T C : Type 0} (calls : Shared F (Bor T × Unit {0}) Bool) (keep : F) (answers : T → Bool)
+    (told : IsAnsweredBy calls keep answers) where
+  answered_filter : (streams : List (Stream T C)) (given : List Bool) → AnswersEach calls keep streams given
+      → items_where_true given streams ≡ filter (λ s. answers s.timestamp) streams
+  answered_filter [] [] each = refl
+  answered_filter [] (answer ∷ given) each = absurd each
+  answered_filter (stream ∷ streams) [] each = absurd each
+  answered_filter (stream ∷ streams) (answer ∷ given) each =
+      where_true answer stream given streams
+      ∙ (λ i. cond (told_at calls keep answers told stream.timestamp answer each.0 i)
+      (stream ∷ answered_filter streams given each.1 i) (answered_filter streams given each.1 i))
+
+  pub HoldsTable-answered : (eq : C → C → Bool) (old new : IpDefragPool T C) (table : Table T C)
+      → HoldsTable eq old table → LeavesAnswered calls keep old new
+      → HoldsTable eq new (λ name. kept_by answers (table name))
+  HoldsTable-answered eq old new table held left =
+      HoldsTable-filter eq old new table answers held
+      (left.left ∙ answered_filter (streams_of old) left.answers left.each)
 
 -- ---- a drop that decides by the timestamp or not
 -- what becomes of a stream that was found: an answer of keep decides

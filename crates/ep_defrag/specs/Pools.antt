@@ -1,5 +1,5 @@
 -- What a pool holds of each stream, and what its calls bring and are answered, as plain data.
-use Rattle.std.specs.Prelude.{◌≡◌, ℕ, ◌≤◌, ◌<◌, Bool, false, IsTrue, IsFalse, if◌then◌else◌, Option, Some, None, Result, Ok, Err, List, [], ◌∷◌, length}
+use Rattle.std.specs.Prelude.{◌≡◌, ◌⊎◌, ℕ, ◌≤◌, ◌<◌, Bool, false, IsTrue, IsFalse, if◌then◌else◌, Option, Some, None, Result, Ok, Err, List, [], ◌∷◌, ◌++◌, length, map}
 use Rattle.std.specs.Option.{option_map}
 use Rattle.std.specs.List.{find, count_by, items_where_true}
 use Rattle.std.specs.List.Sorted.{IsPermutation}
@@ -13,24 +13,35 @@ use Rattle.ep_defrag.specs.declared.ip_defrag_error.IpDefragError.TheVariants.{A
 use Rattle.ep_defrag.specs.declared.ip_frag_range.IpFragRange.{IpFragRange}
 use Rattle.ep_defrag.specs.declared.ip_frag_id.IpFragId.{IpFragId}
 use Rattle.ep_defrag.specs.declared.ip_defrag_payload_vec.IpDefragPayloadVec.{IpDefragPayloadVec}
-use Rattle.ep_defrag.specs.declared.ip_defrag_pool.Stream.{Stream}
+use Rattle.ep_defrag.specs.declared.ip_defrag_buf.IpDefragBuf.{IpDefragBuf}
+use Rattle.ep_defrag.specs.declared.ip_defrag_pool.OpenStream.{OpenStream}
 use Rattle.ep_defrag.specs.declared.ip_defrag_pool.IpDefragPool.{IpDefragPool}
 use Rattle.ep_defrag.specs.declared.carried_fragment.CarriedFragment.{CarriedFragment}
 use Rattle.ep_defrag.specs.declared.pool_run.PoolCall.{PoolCall}
 use Rattle.ep_defrag.specs.declared.pool_run.PoolCall.TheVariants as call
 use Rattle.ep_defrag.specs.declared.pool_run.PoolAnswer.{PoolAnswer}
 use Rattle.ep_defrag.specs.declared.pool_run.PoolAnswer.TheVariants as answer
-use Rattle.ep_defrag.specs.Fragments.{IpFragment, fragment_end, range_of}
-use Rattle.ep_defrag.specs.Refusals.{MayNeedMemory, is_want_of_memory}
+use Rattle.ep_defrag.specs.Fragments.{IpFragment, fragment_end, range_of, is_complete}
+use Rattle.ep_defrag.specs.Refusals.{Fits, RefusesFragment, MayNeedMemory, is_want_of_memory}
 use Rattle.ep_defrag.specs.Buffers.{HoldsFragments, IsUnchanged, ip_number_of, data_of, sections_of, known_end_of, data_after, sections_after, end_after}
-use Rattle.ep_defrag.specs.Streams.{PacketFragment, packet_fragment, name_of, same_stream}
+use Rattle.ep_defrag.specs.Streams.{PacketFragment, packet_fragment, name_of, same_stream, source_of}
 use Rattle.ep_defrag.specs.Calls.{Kept, accepted_in, answer_with, table_with_fragment, Call, gives_frame, drops_streams, returns_buffer, Payload, Answer, fragment_refused, payload_handed_out, nothing_handed_out, streams_dropped, buffer_returned}
 
 -- ---- what a pool holds
 
+-- a stream: its name, the buffer that holds what was accepted of it, and the timestamp of the last of that
+pub record Stream (T C : Type 0) : Type 0 where
+  pub id : IpFragId C
+  pub buffer : IpDefragBuf
+  pub timestamp : T
+
+-- a pool is seen as its names with what each one has
+abbrev pub stream_at : {T C : Type 0} → IpFragId C × OpenStream T → Stream T C
+stream_at entry = record { id = entry.0; buffer = entry.1.buffer; timestamp = entry.1.timestamp }
+
 -- the streams of a pool, in no promised order
 abbrev pub streams_of : {T C : Type 0} → IpDefragPool T C → List (Stream T C)
-streams_of pool = pool.streams.items
+streams_of pool = map stream_at pool
 
 -- the stream of a name
 abbrev pub stream_named : {T C : Type 0} → (C → C → Bool) → IpFragId C → IpDefragPool T C → Option (Stream T C)
@@ -220,3 +231,43 @@ abbrev pub TakesFrame : {T C : Type 0} → (C → C → Bool) → IpDefragPool T
 TakesFrame eq old new None timestamp channel result = (result ≡ Ok None) × (new ≡ old)
 TakesFrame eq old new (Some carried) timestamp channel result =
     TakesFragment eq old new (name_of carried channel) carried.fragment timestamp result
+
+-- ---- the steps of it
+
+-- A buffer takes a fragment.
+pub record BufferTakes (old new : IpDefragBuf) (fragment : IpFragment) : Type 0 where
+  pub fits : (accepted : List IpFragment) → HoldsFragments old accepted → Fits accepted fragment
+  pub holds : (accepted : List IpFragment) → HoldsFragments old accepted
+      → HoldsFragments new (accepted ++ fragment ∷ [])
+  pub contents : data_of new ≡ data_after (data_of old) fragment
+  pub sections : IsPermutation (sections_of new) (sections_after (range_of fragment) (sections_of old))
+  pub end : known_end_of new ≡ end_after (known_end_of old) fragment
+  pub ip_number : ip_number_of new ≡ ip_number_of old
+
+-- A buffer refuses a fragment, or lacks memory for it.
+pub record BufferRefuses (old new : IpDefragBuf) (fragment : IpFragment) (error : IpDefragError) : Type 0 where
+  pub why : (accepted : List IpFragment) → HoldsFragments old accepted
+      → RefusesFragment accepted fragment error
+      ⊎ (MayNeedMemory accepted fragment × (error ≡ AllocationFailure (fragment_end fragment)))
+  pub keeps : (accepted : List IpFragment) → HoldsFragments old accepted → HoldsFragments new accepted
+  pub same : IsUnchanged old new
+
+-- whether what the buffer holds is complete is this
+abbrev pub IsWhole : IpDefragBuf → Bool → Type 0
+IsWhole buffer whole = (accepted : List IpFragment) → HoldsFragments buffer accepted → is_complete accepted ≡ whole
+
+-- The stream of a name is this, or there is none, and no other stream has changed.
+pub record ChangesStream {T C : Type 0} (eq : C → C → Bool) (old new : IpDefragPool T C) (name : IpFragId C)
+    (stream : Option (Stream T C)) : Type 0 where
+  pub here : stream_named eq name new ≡ stream
+  pub others : (other : IpFragId C) → IsFalse (same_stream eq name other)
+      → stream_named eq other new ≡ stream_named eq other old
+  pub apart : NamesDiffer eq new
+
+-- the payload that a stream holds
+abbrev pub payload_in : {T C : Type 0} → IpFragId C → Stream T C → Payload
+payload_in name stream = record {
+  ip_number = name.payload_ip_number;
+  len_source = source_of name.ip;
+  bytes = data_of stream.buffer;
+}

@@ -1,49 +1,60 @@
 //! The pool that puts many payloads together at a time.
 
-ghost use Rattle.std.specs.Prelude.{◌≡◌, [], Bool, Option, None, Some};
-ghost use Rattle.std.specs.List.{position};
+ghost use Rattle.std.specs.Prelude.{◌≡◌, [], Bool, Option, None, IsTrue, IfOk, IfErr, OnOk};
 ghost use Rattle.std.specs.Fn.{FnReturnsAt};
-ghost use Rattle.ep_defrag.specs.Buffers.{data_of};
-ghost use Rattle.ep_defrag.specs.Streams.{same_stream, source_of};
+ghost use Rattle.std.specs.Option.{option_map};
+ghost use Rattle.ep_defrag.specs.Streams.{source_of};
 ghost use Rattle.ep_defrag.specs.Calls.{Kept, kept_by};
-ghost use Rattle.ep_defrag.specs.Pools.{streams_of, HoldsTable, LeavesAnswered, HoldsAnswered, IsAnsweredBy, TakesFragment, TakesFrame, fragment_in, plain_payload};
+ghost use Rattle.ep_defrag.specs.Pools.{streams_of, stream_named, HoldsTable, LeavesAnswered, HoldsAnswered, IsAnsweredBy, TakesFragment, TakesFrame, fragment_in, plain_payload, payload_in, BufferTakes, BufferRefuses, IsWhole, ChangesStream};
 
 use crate::carried_fragment::carried_fragment;
 use crate::fragment::Fragment;
 use crate::ip_defrag_buf::IpDefragBuf;
 use crate::ip_defrag_error::IpDefragError;
 use crate::ip_defrag_payload_vec::IpDefragPayloadVec;
-use crate::ip_frag_id::{IpFragId, IpFragVersionSpecId};
-use ep_base::IpNumber;
+use crate::ip_frag_id::IpFragId;
+use crate::laws::names;
+use crate::spare_buffers::SpareBuffers;
 use ep_packet::SlicedPacket;
 use std::alloc::Global;
+use std::collections::HashMap;
 use std::hash::Hash;
+use std::marker::Model;
+use std::mem::replace;
 
 /// A stream whose payload isn't complete yet.
 #[derive(Drop)]
-struct Stream<Timestamp, CustomChannelId> {
-    id: IpFragId<CustomChannelId>,
+struct OpenStream<Timestamp> {
     buffer: IpDefragBuf,
     /// That of the last fragment that was accepted.
     timestamp: Timestamp,
-}
-
-impl<Timestamp: Drop, CustomChannelId: Eq + Hash + Drop> Stream<Timestamp, CustomChannelId> {
-    fn is_of(&self, id: &IpFragId<CustomChannelId>) -> bool
-        ensures { result ≡ same_stream CustomChannelId.eq self.now.id id.now }
-    {
-        self.id == *id
-    }
 }
 
 /// Puts the fragmented payloads of many streams together, each as if it were alone.
 ///
 /// A stream is named by an [`IpFragId`]. It begins with the first fragment that is accepted, and ends when its payload
 /// is handed out or when [`retain`](IpDefragPool::retain) drops it.
+///
+/// Streams are found by their names in a hash map. Its hash has a fixed seed, so whoever chooses the names can choose
+/// ones that hash alike, and a look-up takes time in proportion to their number. What a stream took is used again by
+/// those that begin after its end: of each kind at most as many vectors lie there as streams were active at once, up to
+/// the doubling of `Vec`. Only dropping the pool frees them.
 #[derive(Drop)]
-pub struct IpDefragPool<Timestamp, CustomChannelId> {
+pub struct IpDefragPool<Timestamp, CustomChannelId: Eq + Hash> {
     alloc: Global,
-    streams: Vec<Stream<Timestamp, CustomChannelId>>,
+    streams: HashMap<IpFragId<CustomChannelId>, OpenStream<Timestamp>>,
+    /// What the streams that ended leave to those that begin.
+    spare: SpareBuffers,
+}
+
+impl<Timestamp, CustomChannelId: Eq + Hash> Model for IpDefragPool<Timestamp, CustomChannelId> {
+    ghost use Rattle.std.specs.Prelude.{List};
+    ghost use Rattle.ep_defrag.specs.declared.ip_frag_id.IpFragId.{IpFragId};
+    ghost use Rattle.ep_defrag.specs.declared.ip_defrag_pool.OpenStream.{OpenStream};
+
+    ghost Value = { List (IpFragId CustomChannelId × OpenStream Timestamp) };
+
+    ghost view = { λ pool. pool.streams.entries };
 }
 
 impl<Timestamp: Drop, CustomChannelId: Eq + Hash + Drop> IpDefragPool<Timestamp, CustomChannelId> {
@@ -54,7 +65,8 @@ impl<Timestamp: Drop, CustomChannelId: Eq + Hash + Drop> IpDefragPool<Timestamp,
     {
         IpDefragPool {
             alloc,
-            streams: Vec::new(alloc),
+            streams: HashMap::new(alloc),
+            spare: SpareBuffers::new(alloc),
         }
     }
 
@@ -93,44 +105,20 @@ impl<Timestamp: Drop, CustomChannelId: Eq + Hash + Drop> IpDefragPool<Timestamp,
     ) -> Result<Option<IpDefragPayloadVec>, IpDefragError>
         ensures { TakesFragment CustomChannelId.eq self.old self.new id fragment.now timestamp result }
     {
-        match self.find(&id) {
-            Some(index) => self.go_on(index, id, fragment, timestamp),
-            None => self.begin(id, fragment, timestamp),
-        }
-    }
-
-    /// The place of a stream.
-    fn find(&self, id: &IpFragId<CustomChannelId>) -> Option<usize>
-        ensures { result ≡ position (λ stream. same_stream CustomChannelId.eq stream.id id.now) (streams_of self.now) }
-    {
-        self.streams.iter().position(|stream| stream.is_of(id))
-    }
-
-    /// A fragment of a stream that has begun.
-    fn go_on(
-        &mut self,
-        index: usize,
-        id: IpFragId<CustomChannelId>,
-        fragment: &Fragment,
-        timestamp: Timestamp,
-    ) -> Result<Option<IpDefragPayloadVec>, IpDefragError>
-        requires { position (λ stream. same_stream CustomChannelId.eq stream.id id) (streams_of self.old) ≡ Some index }
-        ensures { TakesFragment CustomChannelId.eq self.old self.new id fragment.now timestamp result }
-    {
-        let stream = &mut self.streams[index];
-        if let Err(error) = stream
-            .buffer
-            .add(fragment.offset, fragment.more_fragments, fragment.payload)
-        {
-            return Err(error);
-        }
+        // Keys are equal where they name one stream.
+        names::<CustomChannelId>();
+        let Some(stream) = self.streams.get_mut(&id) else {
+            return self.begin(id, fragment, timestamp);
+        };
+        let is_whole = match add(&mut stream.buffer, fragment) {
+            Ok(is_whole) => is_whole,
+            Err(error) => return Err(error),
+        };
         stream.timestamp = timestamp;
-        if !stream.buffer.is_complete() {
+        if !is_whole {
             return Ok(None);
         }
-        let buffer = self.streams.remove(index).buffer;
-        let payload = payload_of(id.payload_ip_number, &id.ip, buffer);
-        Ok(Some(payload))
+        Ok(self.hand_out(&id))
     }
 
     /// A fragment of a stream that has not begun.
@@ -140,30 +128,49 @@ impl<Timestamp: Drop, CustomChannelId: Eq + Hash + Drop> IpDefragPool<Timestamp,
         fragment: &Fragment,
         timestamp: Timestamp,
     ) -> Result<Option<IpDefragPayloadVec>, IpDefragError>
-        requires { position (λ stream. same_stream CustomChannelId.eq stream.id id) (streams_of self.old) ≡ None }
+        requires { stream_named CustomChannelId.eq id self.old ≡ None }
         ensures { TakesFragment CustomChannelId.eq self.old self.new id fragment.now timestamp result }
     {
-        let mut buffer = IpDefragBuf::new(
-            id.payload_ip_number,
-            Vec::new(self.alloc),
-            Vec::new(self.alloc),
-        );
-        if let Err(error) = buffer.add(fragment.offset, fragment.more_fragments, fragment.payload) {
-            return Err(error);
-        }
-        if buffer.is_complete() {
-            return Ok(Some(payload_of(id.payload_ip_number, &id.ip, buffer)));
-        }
-        let len = usize::from(fragment.offset.byte_offset()) + fragment.payload.len();
-        let stream = Stream {
-            id,
-            buffer,
-            timestamp,
+        // Keys are equal where they name one stream.
+        names::<CustomChannelId>();
+        let mut buffer = self.spare.take(id.payload_ip_number);
+        let is_whole = match add(&mut buffer, fragment) {
+            Ok(is_whole) => is_whole,
+            Err(error) => {
+                self.spare.keep(buffer);
+                return Err(error);
+            }
         };
-        if self.streams.push(stream).is_err() {
+        let len = usize::from(fragment.offset.byte_offset()) + fragment.payload.len();
+        if self.spare.reserve(self.streams.len() + 1).is_err() {
+            self.spare.keep(buffer);
+            return Err(IpDefragError::AllocationFailure { len });
+        }
+        if is_whole {
+            let (payload, sections) = buffer.take_bufs();
+            self.spare.keep_sections(sections);
+            return Ok(Some(payload_of(&id, payload)));
+        }
+        if let Err(refused) = self.streams.insert(id, OpenStream { buffer, timestamp }) {
+            let (_, stream) = refused.value;
+            self.spare.keep(stream.buffer);
             return Err(IpDefragError::AllocationFailure { len });
         }
         Ok(None)
+    }
+
+    /// What a stream put together. The stream ends.
+    fn hand_out(&mut self, id: &IpFragId<CustomChannelId>) -> Option<IpDefragPayloadVec>
+        ensures payload { option_map plain_payload result
+            ≡ option_map (payload_in id.now) (stream_named CustomChannelId.eq id.now self.old) }
+        ensures ends { ChangesStream CustomChannelId.eq self.old self.new id.now None }
+    {
+        // Keys are equal where they name one stream.
+        names::<CustomChannelId>();
+        let stream = self.streams.remove(id)?;
+        let (payload, sections) = stream.buffer.take_bufs();
+        self.spare.keep_sections(sections);
+        Some(payload_of(id, payload))
     }
 
     /// Keeps the streams of which `keep` answers the timestamp true. It is asked once for each stream.
@@ -179,36 +186,64 @@ impl<Timestamp: Drop, CustomChannelId: Eq + Hash + Drop> IpDefragPool<Timestamp,
             HoldsAnswered CustomChannelId.eq F.Fn keep table self.new }
         ensures answered { LeavesAnswered F.Fn keep self.old self.new }
     {
+        let alloc = self.alloc;
+        let spare = &mut self.spare;
         self.streams.retain(
-            |stream: &Stream<Timestamp, CustomChannelId>| -> bool
+            |_id: &IpFragId<CustomChannelId>, stream: &mut OpenStream<Timestamp>| -> bool
                 requires { F.IsAlwaysCallable keep }
-                ensures { FnReturnsAt F.Fn keep stream.now.timestamp result }
-            { keep(&stream.timestamp) },
+                ensures asked { FnReturnsAt F.Fn keep stream.old.timestamp result }
+                ensures stays { IsTrue result → stream.new ≡ stream.old }
+            {
+                if keep(&stream.timestamp) {
+                    return true;
+                }
+                let emptied = IpDefragBuf::new(
+                    stream.buffer.ip_number(),
+                    Vec::new(alloc),
+                    Vec::new(alloc),
+                );
+                spare.keep(replace(&mut stream.buffer, emptied));
+                false
+            },
         );
     }
 
-    /// Takes a payload's memory back. The streams stay as they are.
+    /// Takes a payload's memory back, for a stream that begins later. The streams stay as they are.
     pub fn return_buf(&mut self, buf: IpDefragPayloadVec)
         ensures holds { (table : IpFragId CustomChannelId → Option (Kept Timestamp)) →
             HoldsTable CustomChannelId.eq self.old table → HoldsTable CustomChannelId.eq self.new table }
         ensures streams { streams_of self.new ≡ streams_of self.old }
     {
-        let _ = buf;
+        self.spare.keep_bytes(buf.payload);
     }
 }
 
-/// What a buffer put together, as it is handed out.
-fn payload_of(
-    ip_number: IpNumber,
-    ip: &IpFragVersionSpecId,
-    buffer: IpDefragBuf,
+/// Adds a fragment to a buffer, and answers whether the payload is complete with it.
+fn add(buffer: &mut IpDefragBuf, fragment: &Fragment) -> Result<bool, IpDefragError>
+    ensures takes { OnOk result (BufferTakes buffer.old buffer.new fragment.now) }
+    ensures whole { IfOk result (IsWhole buffer.new) }
+    ensures refuses { IfErr result (BufferRefuses buffer.old buffer.new fragment.now) }
+{
+    if let Err(error) = buffer.add(fragment.offset, fragment.more_fragments, fragment.payload) {
+        return Err(error);
+    }
+    Ok(buffer.is_complete())
+}
+
+/// A payload, as it is handed out.
+fn payload_of<CustomChannelId>(
+    id: &IpFragId<CustomChannelId>,
+    payload: Vec<u8>,
 ) -> IpDefragPayloadVec
-    ensures { plain_payload result
-        ≡ record { ip_number = ip_number; len_source = source_of ip.now; bytes = data_of buffer } }
+    ensures { plain_payload result ≡ record {
+      ip_number = id.now.payload_ip_number;
+      len_source = source_of id.now.ip;
+      bytes = payload.items;
+    } }
 {
     IpDefragPayloadVec {
-        ip_number,
-        len_source: ip.len_source(),
-        payload: buffer.take_bufs().0,
+        ip_number: id.payload_ip_number,
+        len_source: id.ip.len_source(),
+        payload,
     }
 }

@@ -15,6 +15,7 @@ mod ip_frag_range;
 pub mod laws;
 mod pool_run;
 mod run;
+mod spare_buffers;
 
 pub use arrayvec::ArrayVec;
 pub use ep_base::err::{

@@ -289,7 +289,7 @@ fn call<'a>(
         Kind::Return => PoolCall::Return(IpDefragPayloadVec {
             ip_number: IpNumber::UDP,
             len_source: LenSource::Slice,
-            payload: Vec::new(alloc),
+            payload: bytes_of(alloc, &[Rising(1, 40)]).expect(rt, "no memory"),
         }),
     }
 }

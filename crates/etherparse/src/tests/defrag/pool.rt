@@ -279,6 +279,38 @@ fn named_fragments(rt: HostRuntime) {
     completes(&rt, &mut pool, (0, true), b"abcdefgh", b"abcdefghijk");
 }
 
+/// A fragment of the stream of this name completes its payload, which is these bytes. The buffer goes back.
+fn completes_and_returns(
+    rt: &impl Abort,
+    pool: &mut IpDefragPool<u64, u8>,
+    units: u16,
+    payload: &[u8],
+    handed_out: &[u8],
+) {
+    let fragment = Fragment {
+        offset: offset(rt, units),
+        more_fragments: false,
+        payload,
+    };
+    let answer = pool.process_fragment(name(), &fragment, 1);
+    let is_wanted = is_payload(&answer, LenSource::Ipv4HeaderTotalLen, handed_out);
+    same(rt, &is_wanted, &true);
+    if let Ok(Some(payload)) = answer {
+        pool.return_buf(payload);
+    }
+}
+
+/// A stream of 64 bytes leaves its memory to one of 16 bytes, and none of its bytes.
+#[test]
+fn used_again(rt: HostRuntime) {
+    let mut pool = IpDefragPool::new(rt.alloc());
+    let long = b"abcdefghijklmnopqrstuvwxyzabcdefghijklmnopqrstuvwxyzabcdefghijkl";
+    completes(&rt, &mut pool, (0, true), &long[..56], b"");
+    completes_and_returns(&rt, &mut pool, 7, &long[56..], long);
+    completes(&rt, &mut pool, (1, false), b"89ABCDEF", b"");
+    completes(&rt, &mut pool, (0, true), b"01234567", b"0123456789ABCDEF");
+}
+
 /// A packet whose fragment ends there is answered by this payload, or by nothing where it is empty: the second time,
 /// where there was no memory at first.
 fn is_answered(

@@ -1,0 +1,208 @@
+-- The streams that a map's entries are, by name: what a name finds, and what it finds after a change of the map.
+use Rattle.std.proofs.Common.{◌≡◌, ℕ, Bool, true, false, cond, List, [], ◌∷◌, map, Option, Some, None, refl, ap, sym, ◌∙◌, subst, arith, inl, inr}
+use Rattle.std.specs.Cmp.{IsEquivalence}
+use Rattle.std.specs.Option.{MatchOption}
+use Rattle.std.specs.List.{find, count_by, AllByRecursion, IsDistinct}
+use Rattle.std.specs.List.Sorted.{IsPermutation}
+use Rattle.std.specs.Map.{keys_of, lookup, set_value, remove_entry}
+use Rattle.std.proofs.lemmas.Bool.{cases_Bool}
+use Rattle.std.proofs.lemmas.List.Sums.{sum_by-cons}
+use Rattle.std.proofs.lemmas.List.Sorted.{IsPermutation-map}
+use Rattle.std.proofs.lemmas.Map.Keys.{IsDistinct-head, IsDistinct-tail}
+use Rattle.ep_defrag.specs.declared.ip_frag_id.IpFragId.{IpFragId}
+use Rattle.ep_defrag.specs.declared.ip_defrag_pool.OpenStream.{OpenStream}
+use Rattle.ep_defrag.specs.declared.ip_defrag_pool.IpDefragPool.{IpDefragPool}
+use Rattle.ep_defrag.specs.Streams.{same_stream}
+use Rattle.ep_defrag.specs.Pools.{Stream, stream_at, streams_of, stream_named, NamesDiffer, ChangesStream}
+use Rattle.ep_defrag.proofs.Lookups.{counted, find_permuted}
+use Rattle.ep_defrag.proofs.Streams.{same_stream_laws}
+
+module _ {C : Type 0} (eq : C → C → Bool) (laws : IsEquivalence eq) where
+  -- a name tests an entry as the entry's name tests it
+  test_flips : (id key : IpFragId C) (b : Bool) → same_stream eq id key ≡ b → same_stream eq key id ≡ b
+  test_flips id key b is = (same_stream_laws eq laws).symm key id ∙ is
+
+  -- an entry of a name is tested as the name is
+  test_of : (id key name : IpFragId C) → same_stream eq id key ≡ true
+      → same_stream eq key name ≡ same_stream eq id name
+  test_of id key name alike = (same_stream_laws eq laws).congr key id name (test_flips id key true alike)
+
+abbrev Entries : Type 0 → Type 0 → Type 0
+Entries T C = List (IpFragId C × OpenStream T)
+
+module _ {T C : Type 0} (eq : C → C → Bool) (laws : IsEquivalence eq) where
+  -- the test of a name
+  abbrev is_of : IpFragId C → Stream T C → Bool
+  is_of name stream = same_stream eq stream.id name
+
+  -- ---- names that are the same
+  tests_same : (a b : IpFragId C) → same_stream eq a b ≡ true → is_of b ≡ is_of a
+  tests_same a b alike = λ i stream.
+      ((same_stream_laws eq laws).symm stream.id b ∙ sym ((same_stream_laws eq laws).congr a b stream.id alike)
+      ∙ (same_stream_laws eq laws).symm a stream.id) i
+
+  pub same_name : (pool : IpDefragPool T C) (a b : IpFragId C) → same_stream eq a b ≡ true
+      → stream_named eq b pool ≡ stream_named eq a pool
+  same_name pool a b alike = ap (λ test. find test (streams_of pool)) (tests_same a b alike)
+
+  -- ---- names of a map differ
+  count_others : (key name : IpFragId C) (es : Entries T C) → same_stream eq key name ≡ true
+      → AllByRecursion (λ other. same_stream eq key other ≡ false) (keys_of es)
+      → count_by (is_of name) (map stream_at es) ≡ 0
+  count_others key name [] alike others = omega arith
+  count_others key name (e ∷ es) alike others =
+      let differs : same_stream eq e.0 name ≡ false =
+      (same_stream_laws eq laws).symm e.0 name ∙ sym ((same_stream_laws eq laws).congr key name e.0 alike) ∙ others.0 in
+      omega (
+        arith,
+        sum_by-cons (counted (is_of name)) (stream_at e) (map stream_at es),
+        ap {B = ℕ} (λ b. cond b 1 0) differs,
+        count_others key name es alike others.1,
+      )
+
+  names_differ : (pool : IpDefragPool T C) → IsDistinct (same_stream eq) (keys_of pool) → NamesDiffer eq pool
+  names_differ [] distinct name = omega arith
+  names_differ (e ∷ es) distinct name =
+      let more = sum_by-cons (counted (is_of name)) (stream_at e) (map stream_at es) in
+      elim (cases_Bool (same_stream eq e.0 name)) [
+        | inl alike ↦ omega (
+          arith,
+          more,
+          ap {B = ℕ} (λ b. cond b 1 0) alike,
+          count_others e.0 name es alike (IsDistinct-head (same_stream eq) e.0 (keys_of es) distinct),
+        )
+        | inr other ↦ omega (
+          arith,
+          more,
+          ap {B = ℕ} (λ b. cond b 1 0) other,
+          names_differ es (IsDistinct-tail (same_stream eq) e.0 (keys_of es) distinct) name,
+        )
+      ]
+
+  -- ---- what a name finds
+  named_none : (pool : IpDefragPool T C) (id : IpFragId C) → lookup (same_stream eq id) pool ≡ None
+      → stream_named eq id pool ≡ None
+  named_none [] id absent = refl
+  named_none (e ∷ es) id absent = elim (cases_Bool (same_stream eq id e.0)) [
+    | inl alike ↦ absurd (let some : Some e.1 ≡ None = rw alike at absent in cc)
+    | inr other ↦
+        let rest : lookup (same_stream eq id) es ≡ None = rw other at absent in
+        rw (test_flips eq laws id e.0 false other) (named_none es id rest)
+  ]
+
+  -- the stream of a name, where the map has this at the name, and what is written there
+  pub record IsStreamOf (pool : IpDefragPool T C) (id : IpFragId C) (value : OpenStream T) : Type 0 where
+    pub key : IpFragId C
+    pub named : stream_named eq id pool ≡ Some (stream_at (key, value))
+    pub written : (next : OpenStream T)
+        → stream_named eq id (set_value (same_stream eq id) pool next) ≡ Some (stream_at (key, next))
+
+  stream_of : (pool : IpDefragPool T C) (id : IpFragId C) (value : OpenStream T)
+      → lookup (same_stream eq id) pool ≡ Some value → IsStreamOf pool id value
+  stream_of [] id value found = absurd (cc)
+  stream_of (e ∷ es) id value found = elim (cases_Bool (same_stream eq id e.0)) [
+    | inl alike ↦
+        let some : Some e.1 ≡ Some value = rw alike at found in
+        let is : e.1 ≡ value = cc in
+        record {
+          key = e.0;
+          named = rw (test_flips eq laws id e.0 true alike) (ap (λ v. Some (stream_at (e.0, v))) is);
+          written = λ next. rw (alike, test_flips eq laws id e.0 true alike) refl;
+        }
+    | inr other ↦
+        let rest : lookup (same_stream eq id) es ≡ Some value = rw other at found in
+        let later = stream_of es id value rest in
+        record {
+          key = later.key;
+          named = rw (test_flips eq laws id e.0 false other) later.named;
+          written = λ next. rw (other, test_flips eq laws id e.0 false other) (later.written next);
+        }
+  ]
+
+  -- ---- the other names
+  others_written : (es : Entries T C) (id name : IpFragId C) (next : OpenStream T) → same_stream eq id name ≡ false
+      → find (is_of name) (map stream_at (set_value (same_stream eq id) es next)) ≡ find (is_of name) (map stream_at es)
+  others_written [] id name next other = refl
+  others_written (e ∷ es) id name next other = elim (cases_Bool (same_stream eq id e.0)) [
+    | inl alike ↦ rw (alike, test_of eq laws id e.0 name alike ∙ other) refl
+    | inr apart ↦ rw apart
+        (ap (cond (same_stream eq e.0 name) (Some (stream_at e))) (others_written es id name next other))
+  ]
+
+  others_removed : (es : Entries T C) (id name : IpFragId C) → same_stream eq id name ≡ false
+      → find (is_of name) (map stream_at (remove_entry (same_stream eq id) es)) ≡ find (is_of name) (map stream_at es)
+  others_removed [] id name other = refl
+  others_removed (e ∷ es) id name other = elim (cases_Bool (same_stream eq id e.0)) [
+    | inl alike ↦ rw (alike, test_of eq laws id e.0 name alike ∙ other) refl
+    | inr apart ↦ rw apart (ap (cond (same_stream eq e.0 name) (Some (stream_at e))) (others_removed es id name other))
+  ]
+
+  -- ---- one change after another
+  pub changed_again : (old mid new : IpDefragPool T C) (id : IpFragId C) (stream next : Option (Stream T C))
+      → ChangesStream eq old mid id stream → ChangesStream eq mid new id next → ChangesStream eq old new id next
+  changed_again old mid new id stream next first second = record {
+    here = second.here;
+    others = λ other apart. second.others other apart ∙ first.others other apart;
+    apart = second.apart;
+  }
+
+  -- ---- changes of a map, whose keys are compared as names are
+  module _ (key_eq : IpFragId C → IpFragId C → Bool) (is : key_eq ≡ same_stream eq) where
+    pub absent_stream : (pool : IpDefragPool T C) (id : IpFragId C) → lookup (key_eq id) pool ≡ None
+        → stream_named eq id pool ≡ None
+    absent_stream pool id absent = named_none pool id (subst (λ test. lookup (test id) pool ≡ None) is absent)
+
+    pub present_stream : (pool : IpDefragPool T C) (id : IpFragId C) (value : OpenStream T)
+        → lookup (key_eq id) pool ≡ Some value → IsStreamOf pool id value
+    present_stream pool id value found =
+        stream_of pool id value (subst (λ test. lookup (test id) pool ≡ Some value) is found)
+
+    module _ (old new : IpDefragPool T C) (id : IpFragId C) (distinct : IsDistinct key_eq (keys_of new)) where
+      differ : NamesDiffer eq new
+      differ = names_differ new (subst (λ test. IsDistinct test (keys_of new)) is distinct)
+
+      -- in another order each name finds the same
+      moved : (es : Entries T C) → IsPermutation es new → (name : IpFragId C)
+          → stream_named eq name new ≡ find (is_of name) (map stream_at es)
+      moved es reordered name =
+          find_permuted (is_of name) (map stream_at es) (map stream_at new)
+          (IsPermutation-map stream_at es new reordered) (differ name)
+
+      pub written_stream : (value next : OpenStream T) (of : IsStreamOf old id value)
+          → new ≡ set_value (key_eq id) old next → ChangesStream eq old new id (Some (stream_at (of.key, next)))
+      written_stream value next of now =
+          let written : new ≡ set_value (same_stream eq id) old next =
+          subst (λ test. new ≡ set_value (test id) old next) is now in
+          record {
+            here = ap (stream_named eq id) written ∙ of.written next;
+            others = λ other apart.
+                ap (stream_named eq other) written ∙ others_written old id other next apart;
+            apart = differ;
+          }
+
+      -- where the name had none, what the map says of the entries is that the pair has come
+      pub put_stream : (value : OpenStream T) (had : Option (OpenStream T)) (Kept : OpenStream T → Type 0)
+          → had ≡ lookup (key_eq id) old → stream_named eq id old ≡ None
+          → MatchOption had (IsPermutation ((id, value) ∷ old) new) Kept
+          → ChangesStream eq old new id (Some (stream_at (id, value)))
+      put_stream value (Some was) Kept found absent puts =
+          let some : None ≡ Some (stream_at ((present_stream old id was (sym found)).key, was)) =
+          sym absent ∙ (present_stream old id was (sym found)).named in
+          absurd (cc)
+      put_stream value None Kept found absent reordered = record {
+        here = moved ((id, value) ∷ old) reordered id ∙ rw ((same_stream_laws eq laws).refl id) refl;
+        others = λ other apart. moved ((id, value) ∷ old) reordered other ∙ rw apart refl;
+        apart = differ;
+      }
+
+      pub removed_stream : lookup (key_eq id) new ≡ None → IsPermutation (remove_entry (key_eq id) old) new
+          → ChangesStream eq old new id None
+      removed_stream gone reordered =
+          let left : IsPermutation (remove_entry (same_stream eq id) old) new =
+          subst (λ test. IsPermutation (remove_entry (test id) old) new) is reordered in
+          record {
+            here = absent_stream new id gone;
+            others = λ other apart.
+                moved (remove_entry (same_stream eq id) old) left other ∙ others_removed old id other apart;
+            apart = differ;
+          }

@@ -1,0 +1,70 @@
+//! Memory of streams that ended, for those that begin.
+
+ghost use Rattle.std.specs.Prelude.{◌≡◌, [], None};
+ghost use Rattle.ep_defrag.specs.Buffers.{HoldsFragments, ip_number_of, data_of, sections_of, known_end_of};
+
+use crate::ip_defrag_buf::IpDefragBuf;
+use crate::ip_frag_range::IpFragRange;
+use ep_base::IpNumber;
+use std::alloc::{AllocError, Global};
+
+/// Vectors whose memory is used again. What they hold has no meaning.
+///
+/// Only [`reserve`](SpareBuffers::reserve) takes memory. A vector that finds no place is freed.
+#[derive(Drop)]
+pub(crate) struct SpareBuffers {
+    alloc: Global,
+    /// For the bytes of a payload.
+    bytes: Vec<Vec<u8>>,
+    /// For the sections of a payload.
+    sections: Vec<Vec<IpFragRange>>,
+}
+
+impl SpareBuffers {
+    pub(crate) fn new(alloc: Global) -> SpareBuffers {
+        SpareBuffers {
+            alloc,
+            bytes: Vec::new(alloc),
+            sections: Vec::new(alloc),
+        }
+    }
+
+    /// Room in both lists for so many vectors, with those that lie there.
+    pub(crate) fn reserve(&mut self, count: usize) -> Result<(), AllocError> {
+        self.bytes.reserve(count.saturating_sub(self.bytes.len()))?;
+        self.sections
+            .reserve(count.saturating_sub(self.sections.len()))
+    }
+
+    /// An empty buffer, which uses memory that lies here, if any.
+    pub(crate) fn take(&mut self, ip_number: IpNumber) -> IpDefragBuf
+        ensures holds { HoldsFragments result [] }
+        ensures ip_number { ip_number_of result ≡ ip_number }
+        ensures data { data_of result ≡ [] }
+        ensures sections { sections_of result ≡ [] }
+        ensures end { known_end_of result ≡ None }
+    {
+        let bytes = self.bytes.pop().unwrap_or(Vec::new(self.alloc));
+        let sections = self.sections.pop().unwrap_or(Vec::new(self.alloc));
+        IpDefragBuf::new(ip_number, bytes, sections)
+    }
+
+    /// Keeps both vectors of a buffer.
+    pub(crate) fn keep(&mut self, buffer: IpDefragBuf) {
+        let (bytes, sections) = buffer.take_bufs();
+        self.keep_bytes(bytes);
+        self.keep_sections(sections);
+    }
+
+    pub(crate) fn keep_bytes(&mut self, bytes: Vec<u8>) {
+        if self.bytes.len() < self.bytes.capacity() {
+            let _ = self.bytes.push(bytes);
+        }
+    }
+
+    pub(crate) fn keep_sections(&mut self, sections: Vec<IpFragRange>) {
+        if self.sections.len() < self.sections.capacity() {
+            let _ = self.sections.push(sections);
+        }
+    }
+}
