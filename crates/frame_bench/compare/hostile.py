@@ -14,6 +14,7 @@ import struct
 import subprocess
 import sys
 
+sys.dont_write_bytecode = True  # leaves the folder as it is
 import answers
 
 VLAN_TYPES = [0x8100, 0x88A8, 0x9100]
