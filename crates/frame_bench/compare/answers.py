@@ -357,7 +357,7 @@ class Stream:
         if self.end is None:
             return False
         covered = 0
-        for start, end, _ in sorted(part[:2] + (None,) for part in self.accepted):
+        for start, end in sorted((start, end) for start, end, _ in self.accepted):
             if start > covered:
                 break
             covered = max(covered, end)

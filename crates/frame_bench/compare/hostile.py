@@ -48,8 +48,9 @@ class Frames:
 
     def udp(self):
         payload = self.some_bytes()
-        length = self.chance.choice([0, self.chance.randrange(1, 12), 8 + len(payload) // 2]) if self.seldom(0.2) \
-            else self.length_near(8 + len(payload), 0xFFFF)
+        length = self.length_near(8 + len(payload), 0xFFFF)
+        if self.seldom(0.2):
+            length = self.chance.choice([0, self.chance.randrange(1, 12), 8 + len(payload) // 2])
         return 17, self.chance.randbytes(4) + struct.pack(">H", length) + self.chance.randbytes(2) + payload
 
     def tcp(self):
