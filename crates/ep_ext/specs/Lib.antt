@@ -15,6 +15,7 @@ pub mod Walks
 pub use Rattle.ep_base.specs.Bytes
 pub use Rattle.ep_base.specs.IpNumbers
 pub use Rattle.ep_base.specs.Layer
+pub use Rattle.ep_base.specs.Missing
 pub use Rattle.ep_base.specs.Padding
 pub use Rattle.ep_base.specs.Tables
 pub use Rattle.ep_base.specs.declared.err.ipv4_exts.ExtsWalkError as Ipv4ExtsWalkErrorType

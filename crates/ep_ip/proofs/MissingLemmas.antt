@@ -50,8 +50,7 @@ Ipv4Counts limit (ipv4_error.Exts error) = ⊤
 
 pub ipv4_header_tells : TellsMissing (λ bytes error. RefusesIpv4Header bytes (ipv4_header_error.Len error))
 ipv4_header_tells = tells_missing (λ bytes error. RefusesIpv4Header bytes (ipv4_header_error.Len error))
-    (λ bytes error refused. refusal_where (Ipv4HeaderCounts (length bytes)) (ipv4_header_rows bytes)
-    (
+    (λ bytes error refused. refusal_where (Ipv4HeaderCounts (length bytes)) (ipv4_header_rows bytes) (
       counted bytes 20 source.Slice layer.Ipv4Header,
       (λ holds. tt, (λ holds. tt, (counted bytes (4 * ihl_of bytes) source.Slice layer.Ipv4Header, tt))),
     )
@@ -59,24 +58,23 @@ ipv4_header_tells = tells_missing (λ bytes error. RefusesIpv4Header bytes (ipv4
 
 ipv4_packet_counts : (bytes : List ℕ) (error : Ipv4SliceError) → RefusesIpv4Packet bytes error
     → Ipv4Counts (length bytes) error
-ipv4_packet_counts bytes error refused = refusal_where (Ipv4Counts (length bytes)) (ipv4_packet_rows bytes)
+ipv4_packet_counts bytes error refused = refusal_where (Ipv4Counts (length bytes)) (ipv4_packet_rows bytes) (
+  counted bytes 20 source.Slice layer.Ipv4Header,
+  (
+    λ holds. tt,
     (
-      counted bytes 20 source.Slice layer.Ipv4Header,
+      λ holds. tt,
       (
-        λ holds. tt,
+        counted bytes (4 * ihl_of bytes) source.Slice layer.Ipv4Header,
         (
-          λ holds. tt,
-          (
-            counted bytes (4 * ihl_of bytes) source.Slice layer.Ipv4Header,
-            (
-              λ holds. not_counted (length bytes) (4 * ihl_of bytes) (word_at bytes 2) source.Ipv4HeaderTotalLen
-                  layer.Ipv4Packet not_total,
-              (counted bytes (word_at bytes 2) source.Slice layer.Ipv4Packet, tt),
-            ),
-          ),
+          λ holds. not_counted (length bytes) (4 * ihl_of bytes) (word_at bytes 2) source.Ipv4HeaderTotalLen
+              layer.Ipv4Packet not_total,
+          (counted bytes (word_at bytes 2) source.Slice layer.Ipv4Packet, tt),
         ),
       ),
-    )
+    ),
+  ),
+)
     error refused
 
 pub ipv4_packet_tells : TellsMissing (λ bytes error. RefusesIpv4Packet bytes (ipv4_error.Len error))
@@ -122,11 +120,10 @@ ipv6_header_tells = tells_missing (λ bytes error. RefusesIpv6Header bytes (ipv6
 
 ipv6_packet_counts : (bytes : List ℕ) (error : Ipv6SliceError) → RefusesIpv6Packet bytes error
     → Ipv6Counts (length bytes) error
-ipv6_packet_counts bytes error refused = refusal_where (Ipv6Counts (length bytes)) (ipv6_packet_rows bytes)
-    (
-      counted bytes 40 source.Slice layer.Ipv6Header,
-      (λ holds. tt, (counted bytes (40 + word_at bytes 4) source.Slice layer.Ipv6Packet, tt)),
-    )
+ipv6_packet_counts bytes error refused = refusal_where (Ipv6Counts (length bytes)) (ipv6_packet_rows bytes) (
+  counted bytes 40 source.Slice layer.Ipv6Header,
+  (λ holds. tt, (counted bytes (40 + word_at bytes 4) source.Slice layer.Ipv6Packet, tt)),
+)
     error refused
 
 pub ipv6_packet_tells : TellsMissing (λ bytes error. RefusesIpv6Packet bytes (ipv6_error.Len error))

@@ -11,6 +11,7 @@ pub use Rattle.ep_base.specs.Bytes
 pub use Rattle.ep_base.specs.Comparisons
 pub use Rattle.ep_base.specs.IpPayload
 pub use Rattle.ep_base.specs.Layer
+pub use Rattle.ep_base.specs.Missing
 pub use Rattle.ep_base.specs.Padding
 pub use Rattle.ep_base.specs.Tables
 pub use Rattle.ep_ext.specs.Ipv4Chains

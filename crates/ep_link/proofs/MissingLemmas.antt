@@ -52,8 +52,7 @@ vlan_tells = tells_missing RefusesVlan
 
 pub macsec_header_tells : TellsMissing (λ bytes error. RefusesMacsecHeader bytes (macsec_error.Len error))
 macsec_header_tells = tells_missing (λ bytes error. RefusesMacsecHeader bytes (macsec_error.Len error))
-    (λ bytes error refused. refusal_where (ExtensionCounts (length bytes)) (macsec_header_rows bytes)
-    (
+    (λ bytes error refused. refusal_where (ExtensionCounts (length bytes)) (macsec_header_rows bytes) (
       counted bytes 6 source.Slice layer.MacsecHeader,
       (λ holds. tt, (λ holds. tt, (counted bytes (tag_len_of bytes) source.Slice layer.MacsecHeader, tt))),
     )
@@ -61,20 +60,19 @@ macsec_header_tells = tells_missing (λ bytes error. RefusesMacsecHeader bytes (
 
 macsec_counts : (bytes : List ℕ) (error : LenError) → RefusesMacsec bytes (macsec_error.Len error)
     → CountsMissing (length bytes) error
-macsec_counts bytes error refused = refusal_where (ExtensionCounts (length bytes)) (macsec_rows bytes)
+macsec_counts bytes error refused = refusal_where (ExtensionCounts (length bytes)) (macsec_rows bytes) (
+  counted bytes 6 source.Slice layer.MacsecHeader,
+  (
+    λ holds. tt,
     (
-      counted bytes 6 source.Slice layer.MacsecHeader,
+      λ holds. tt,
       (
-        λ holds. tt,
-        (
-          λ holds. tt,
-          (
-            counted bytes (tag_len_of bytes) source.Slice layer.MacsecHeader,
-            (counted bytes (macsec_len_of bytes) source.Slice layer.MacsecPacket, tt),
-          ),
-        ),
+        counted bytes (tag_len_of bytes) source.Slice layer.MacsecHeader,
+        (counted bytes (macsec_len_of bytes) source.Slice layer.MacsecPacket, tt),
       ),
-    )
+    ),
+  ),
+)
     (macsec_error.Len error) refused
 
 pub macsec_tells : TellsMissing (λ bytes error. RefusesMacsec bytes (macsec_error.Len error))

@@ -15,6 +15,7 @@ pub mod LinkExtensions
 pub use Rattle.ep_base.specs.Bytes
 pub use Rattle.ep_base.specs.Comparisons
 pub use Rattle.ep_base.specs.Layer
+pub use Rattle.ep_base.specs.Missing
 pub use Rattle.ep_base.specs.Padding
 pub use Rattle.ep_base.specs.Tables
 pub use Rattle.ep_base.specs.declared.err.layer.Layer as LayerType

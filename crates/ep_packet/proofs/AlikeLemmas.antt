@@ -73,9 +73,9 @@ ipv4_in_slices laws bytes packet is = record {
   cut = is.cut;
   chain = elim (laws.chain version_4 packet.header.protocol.0 is.content
       (chain_of packet.extensions packet.payload.number packet.payload.bytes) is.chain) [
-    | inl chain ↦ chain
-    | inr second ↦ absurd (let one = second.0 in cc)
-  ];
+        | inl chain ↦ chain
+        | inr second ↦ absurd (let one = second.0 in cc)
+      ];
   fragmented = is.fragmented;
   source = is.source;
 }
@@ -194,10 +194,13 @@ no_header number extension = (
   where
     is_udp : (number : ℕ) → is_ipv6_extension number ≡ true → number ≡ 17 → ⊥
     is_udp number extension same = grind (arith, common_steps)
+
     is_tcp : (number : ℕ) → is_ipv6_extension number ≡ true → number ≡ 6 → ⊥
     is_tcp number extension same = grind (arith, common_steps)
+
     is_icmpv4 : (number : ℕ) → is_ipv6_extension number ≡ true → number ≡ 1 → ⊥
     is_icmpv4 number extension same = grind (arith, common_steps)
+
     is_icmpv6 : (number : ℕ) → is_ipv6_extension number ≡ true → number ≡ 58 → ⊥
     is_icmpv6 number extension same = grind (arith, common_steps)
 
@@ -281,18 +284,18 @@ net_alone laws deciders offset (Some kind) bytes fits error refused net transpor
         | inl none ↦ absurd ((layer_decided deciders slices kind offset bytes fits).not_both is.0 error also none)
         | inr behind ↦ elim (behind_alone laws (offset + net_header_len behind.0) (net_payload behind.0) error
             behind.2) [
-          | inl both ↦
-              let same = (layer_decided deciders slices kind offset bytes fits).one_value behind.0 is.0 behind.1
-              also in
-              absurd ((net_decided deciders headers offset (Some kind) bytes fits).not_both (net, transport) error is
-              (inr (
-                is.0,
-                is.1,
-                subst (λ (layer : NetLayer). RefusesTransportBehind headers (offset + net_header_len layer)
-                    (net_payload layer) error) same both,
-              )))
-          | inr alone ↦ inl alone
-        ]
+              | inl both ↦
+                  let same = (layer_decided deciders slices kind offset bytes fits).one_value behind.0 is.0 behind.1
+                  also in
+                  absurd ((net_decided deciders headers offset (Some kind) bytes fits).not_both (net, transport) error is
+                  (inr (
+                    is.0,
+                    is.1,
+                    subst (λ (layer : NetLayer). RefusesTransportBehind headers (offset + net_header_len layer)
+                        (net_payload layer) error) same both,
+                  )))
+              | inr alone ↦ inl alone
+            ]
       ]
       | inr stops ↦ inr (subst StopsAtSecondKind (sym is.2) (stops_at_second is.0 stops))
     ]

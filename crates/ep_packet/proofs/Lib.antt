@@ -6,6 +6,7 @@ pub mod FrameLemmas
 pub mod InsideLemmas
 pub mod LayerLaws
 pub mod NetLemmas
+pub mod MissingLemmas
 pub mod NetBytesLemmas
 pub mod PayloadLemmas
 pub mod TagLemmas

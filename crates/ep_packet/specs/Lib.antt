@@ -5,6 +5,7 @@ pub mod Refusals
 pub mod NetSlices
 pub mod FrameBytes
 pub mod Payloads
+pub mod UncutTags
 pub mod VlanTags
 pub mod ShownBytes
 pub mod Walk
@@ -19,6 +20,7 @@ pub mod Comparisons
 pub use Rattle.ep_base.specs.Bytes
 pub use Rattle.ep_base.specs.IpPayload
 pub use Rattle.ep_base.specs.Layer
+pub use Rattle.ep_base.specs.Missing
 pub use Rattle.ep_base.specs.Tables
 pub use Rattle.ep_link.specs.EtherPayloads
 pub use Rattle.ep_link.specs.LinkSlices

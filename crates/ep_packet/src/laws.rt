@@ -1,13 +1,17 @@
 //! What holds of every list of bytes, and how values compare: each law the contract of a function that does nothing.
 
-ghost use Rattle.std.specs.Prelude.{◌≡◌, ◌↔◌, ℕ, List, IsTrue};
+ghost use Rattle.std.specs.Prelude.{◌≡◌, ◌↔◌, ◌+◌, ◌≤◌, ◌++◌, ℕ, List, IsTrue, length};
 ghost use Rattle.ep_base.specs.Bytes.{AreBytes};
 ghost use Rattle.ep_base.specs.Layer.{Reading};
+ghost use Rattle.ep_base.specs.Missing.{CountsMissing, HasExactLength, IsOfBytesAtHand, that_row};
 ghost use Rattle.ep_base.specs.Tables.{IsDecided};
+ghost use Rattle.ep_base.specs.declared.err.len_error.LenError.{LenError};
 ghost use Rattle.ep_packet.specs.Layers.{Layers};
 ghost use Rattle.ep_packet.specs.Frame.{IsFrame, IsFrameIn, most_link_exts};
 ghost use Rattle.ep_packet.specs.FrameBytes.{AreInOrder};
 ghost use Rattle.ep_packet.specs.Refusals.{RefusesFrame, RefusesFrameIn};
+ghost use Rattle.ep_packet.specs.UncutTags.{HasNoShortLength};
+ghost use Rattle.ep_packet.specs.declared.err.slice_error.SliceError.TheVariants as slice_error;
 ghost use Rattle.ep_packet.specs.PayloadParts.{payload_part_of};
 ghost use Rattle.ep_packet.specs.Comparisons.{payload_cmp, same_ip_headers, same_net_headers, same_net_slices};
 ghost use Rattle.ep_packet.specs.Comparisons.{same_packet_headers, same_sliced_packets};
@@ -61,6 +65,21 @@ pub fn frame_bytes()
     ep_transport::laws::transport();
     ep_transport::laws::transport_bytes();
 }
+
+/// A cut says how much is missing. Where bytes are refused for a length whose limit is the bytes at hand, of a layer that is
+/// no timestamp of ICMP, in a frame without a MACsec short length above 0 before that layer, the offset plus `len` is the
+/// number of bytes, and `required_len` is more than `len` (`counts`). With any bytes behind them, of which there are at
+/// least `required_len` less `len`, they are not refused by that row again (`not_again`).
+pub fn tell_missing()
+    ensures counts { (reading : Reading) (entry : Entry) (bytes : List ℕ) (error : LenError)
+        → RefusesFrameIn reading entry bytes (slice_error.Len error) → HasNoShortLength entry bytes
+        → CountsMissing (length bytes) error }
+    ensures not_again { (reading : Reading) (entry : Entry) (bytes more : List ℕ) → AreBytes (bytes ++ more)
+        → (error : LenError) (len : ℕ) → RefusesFrameIn reading entry bytes (slice_error.Len error)
+        → HasNoShortLength entry bytes → IsOfBytesAtHand error.len_source → (¬ HasExactLength error.layer)
+        → error.required_len ≤ error.len + length more
+        → ¬ RefusesFrameIn reading entry (bytes ++ more) (slice_error.Len (that_row error len)) }
+{}
 
 /// The cap that is told is the number of link extensions that a frame takes at most.
 pub fn constants()

@@ -17,6 +17,7 @@ pub mod UdpSlices
 pub use Rattle.ep_base.specs.Bytes
 pub use Rattle.ep_base.specs.Checksum
 pub use Rattle.ep_base.specs.Layer
+pub use Rattle.ep_base.specs.Missing
 pub use Rattle.ep_base.specs.Padding
 pub use Rattle.ep_base.specs.Tables
 pub use Rattle.ep_base.specs.declared.err.len_error.LenError as LenErrorType
