@@ -1,5 +1,5 @@
 -- Fragments that complete what came.
-use Rattle.std.proofs.Common.{◌≡◌, ℕ, ◌+◌, ◌*◌, ◌-◌, ◌/◌, ◌%◌, ◌<◌, ◌≤◌, min, max, Bool, true, false, ◌||◌, ◌&&◌, eqb, ltb, List, [], ◌∷◌, ◌++◌, append_assoc, length, Option, Some, None, is_some, sym, refl, ap, ◌∙◌, ◌⊎◌, inl, inr, arith}
+use Rattle.std.proofs.Common.{◌≡◌, ℕ, ◌+◌, ◌*◌, ◌-◌, ◌/◌, ◌%◌, ◌^◌, ◌<◌, ◌≤◌, min, max, Bool, true, false, ◌||◌, ◌&&◌, eqb, ltb, List, [], ◌∷◌, ◌++◌, append_assoc, length, Option, Some, None, is_some, sym, refl, ap, ◌∙◌, ◌⊎◌, inl, inr, arith}
 use Rattle.std.specs.Option.{option_or, unwrap_or}
 use Rattle.std.proofs.lemmas.Bool.{cases_Bool, cases_lt, or_cases, or_left, or_right, and_from, and_left, and_right, or_from, le-ltb, lt-ltb, eq-eqb, not_from_true, not_from_false}
 use Rattle.std.proofs.lemmas.Bool.Decides.{nat_tests}
@@ -164,6 +164,10 @@ module _ (accepted : List IpFragment) (fit : FitInTurn accepted) where
               second (no_further (end_of accepted) (reach_of accepted) (fragment_end first) greatest front_end) second_end
               refl);
         })
+
+    -- a frame has room for either
+    pub parts_short : (length front ≤ 32768) × (length back ≤ 32768) × (meeting_at whole < 2 ^ 13)
+    parts_short = (omega (arith, fill.front_len), omega (arith, fill.front_len, fill.both_len, short), omega arith)
 
     covered : (position : ℕ) → position < whole → is_covered (with_first ++ second ∷ []) position ≡ true
     covered position below =

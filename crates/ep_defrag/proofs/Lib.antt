@@ -7,6 +7,7 @@ mod Writing
 mod Complete
 mod Held
 mod Completing
+mod Carrying
 mod Equal
 mod Cuts
 mod Runs
@@ -20,3 +21,4 @@ mod Calls
 mod Alone
 mod BuiltCuts
 mod Frames
+mod FramesComplete

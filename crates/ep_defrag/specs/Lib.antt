@@ -15,6 +15,7 @@ pub mod BuiltCuts
 pub mod FrameCalls
 pub mod Completing
 -- what the contracts name of the crates below
+pub use Rattle.ep_base.specs.Bytes
 pub use Rattle.ep_base.specs.Tables
 pub use Rattle.ep_ext.specs.FragmentHeaderSlices
 pub use Rattle.ep_ext.specs.Ipv6Slices as Ipv6ExtensionSlices

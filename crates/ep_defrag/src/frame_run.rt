@@ -54,7 +54,8 @@ pub enum FrameAnswer {
 /// that is refused is answered the error of the slice, and the pool is not asked. A drop keeps the streams whose
 /// timestamp `keep` answers true of the drop's value and the timestamp. `RunStop` comes only for want of memory.
 ///
-/// Each stream is answered as if it were alone.
+/// Each stream is answered as if it were alone. None of the streams gets stuck
+/// ([`two_frames_complete`](crate::laws::two_frames_complete)).
 pub fn run_frames<
     Timestamp: Drop,
     CustomChannelId: Eq + Hash + Drop,

@@ -72,6 +72,8 @@ impl<Timestamp: Drop, CustomChannelId: Eq + Hash + Drop> IpDefragPool<Timestamp,
 
     /// Takes a packet, which may carry a fragment, and answers the payload that is complete with it, if any. A packet
     /// without a fragment changes nothing.
+    ///
+    /// None of the streams gets stuck ([`two_frames_complete`](crate::laws::two_frames_complete)).
     pub fn process_sliced_packet(
         &mut self,
         packet: &SlicedPacket<'_>,

@@ -1,19 +1,20 @@
 //! Laws of the definitions that the contracts of this crate cite. Each is the contract of a function that does nothing.
 
-ghost use Rattle.std.specs.Prelude.{◌≡◌, ◌↔◌, ◌⊎◌, ℕ, ◌%◌, ◌<◌, ◌≤◌, ◌||◌, Bool, false, Some, List, [], ◌∷◌, ◌++◌, length, map, IsTrue, IsSome, IfSome};
+ghost use Rattle.std.specs.Prelude.{◌≡◌, ◌↔◌, ◌⊎◌, ℕ, ◌%◌, ◌^◌, ◌<◌, ◌≤◌, ◌||◌, Bool, false, Option, Some, List, [], ◌∷◌, ◌++◌, length, map, IsTrue, IsSome, IfSome};
 ghost use Rattle.std.specs.List.{All, Any};
 ghost use Rattle.ep_defrag.specs.declared.TheConstants as constant;
 ghost use Rattle.ep_defrag.specs.Ranges.{touches, merge_of, SharePoint};
 ghost use Rattle.ep_defrag.specs.Fragments.{IpFragment, fragment_with, is_final, IsCovered, reach_of, end_of, assembled, IsComplete, FillAlike, TouchAlike};
 ghost use Rattle.ep_defrag.specs.Refusals.{Fits, FitInTurn};
-ghost use Rattle.ep_defrag.specs.Completing.{FillBoth, front_fragment, back_fragment, CompleteInTurn};
+ghost use Rattle.ep_base.specs.Bytes.{AreBytes};
+ghost use Rattle.ep_defrag.specs.Completing.{FillBoth, front_fragment, back_fragment, is_part, CompleteInTurn, FragmentFrame, name_in, CarriesOf, FramesComplete};
 ghost use Rattle.ep_defrag.specs.Cuts.{IsCut};
 ghost use Rattle.ep_defrag.specs.Buffers.{IsUnchanged, ip_number_of, data_of, HoldsFragments};
 ghost use Rattle.ep_defrag.specs.Comparisons.{range_cmp, buffer_cmp, error_cmp};
 ghost use Rattle.ep_defrag.specs.Streams.{same_stream};
-ghost use Rattle.ep_defrag.specs.Calls.{Call, calls_of, answers_to};
+ghost use Rattle.ep_defrag.specs.Calls.{Call, Kept, accepted_in, calls_of, answers_to};
 ghost use Rattle.ep_defrag.specs.Isolation.{answers_of, fragments_of, GivesCut, HandsOut, HandsOutAtMost};
-ghost use Rattle.ep_defrag.specs.Pools.{plain_payload, plain_answer};
+ghost use Rattle.ep_defrag.specs.Pools.{HoldsTable, plain_payload, plain_answer};
 ghost use Rattle.ep_defrag.specs.BuiltCuts.{BuiltCut, IsBuiltCut, IsUnder, KeepsAll, answers_to_frames, cut_answers};
 ghost use Rattle.ep_defrag.specs.BuiltCuts.{cut_call, cut_fragment, frames_to, whole_of};
 ghost use Rattle.ep_defrag.specs.FrameCalls.{ReadCall, HasBytes, IsOnlyRead, pool_calls, frame_answers_to, pool_answers_in, read_answer};
@@ -22,10 +23,12 @@ use crate::frame_run::{FrameAnswer, FrameCall};
 use crate::ip_defrag_buf::IpDefragBuf;
 use crate::ip_defrag_error::IpDefragError;
 use crate::ip_defrag_payload_vec::IpDefragPayloadVec;
+use crate::ip_defrag_pool::IpDefragPool;
 use crate::ip_frag_id::{IpFragId, IpFragVersionSpecId};
 use crate::ip_frag_range::IpFragRange;
 use crate::pool_run::PoolAnswer;
 use crate::run::RunStop;
+use std::hash::Hash;
 
 /// Which of two ranges is asked to merge with the other makes no difference.
 pub fn merge_is_symmetric()
@@ -40,7 +43,8 @@ pub fn merge_is_union()
         touches position range ≡ (touches position a || touches position b)) }
 {}
 
-/// A cut of a payload of at most 65535 bytes fits after other cuts of it, if it is final or a multiple of 8 bytes long.
+/// A cut of a payload of at most 65535 bytes fits after other cuts of it, if it is final or a multiple of 8 bytes long. A
+/// final cut ends where the payload does, and so not below what came.
 pub fn cut_fits()
     ensures { (payload : List ℕ) (cuts : List IpFragment) (cut : IpFragment) → length payload ≤ 65535
         → All (IsCut payload) cuts → IsCut payload cut
@@ -79,6 +83,25 @@ pub fn two_fragments_complete()
     ensures { (accepted : List IpFragment) (front back : List ℕ) → FitInTurn accepted →
         FillBoth accepted front back →
         CompleteInTurn accepted (front_fragment front) (back_fragment accepted back) }
+{}
+
+/// No stream gets stuck: of each stream of a pool of which some frame carries a fragment there are frames, at most two,
+/// the last of which hands the payload out: what was accepted, with the bytes of these frames on top, whatever they are.
+/// So it is of the pool that `run_calls` and `run_frames` answer, and of each call of `process_sliced_packet`, since
+/// their contracts name the table that the pool holds.
+pub fn two_frames_complete<Timestamp, CustomChannelId: Eq + Hash>()
+    // Of a stream of which some frame carries a fragment, frames carry every fragment of at most 32768 bytes that more
+    // fragments follow or that does not begin the payload.
+    ensures some { (seen : FragmentFrame) (fragment : IpFragment) → fragment.offset < 2 ^ 13 →
+        length fragment.bytes ≤ 32768 → AreBytes fragment.bytes → IsTrue (is_part fragment) →
+        (frame : FragmentFrame) × CarriesOf seen fragment frame }
+    ensures complete { (pool : IpDefragPool Timestamp CustomChannelId)
+        (table : IpFragId CustomChannelId → Option (Kept Timestamp)) (seen : FragmentFrame)
+        (channel : CustomChannelId) (front back : List ℕ) (timestamp : Timestamp) →
+        HoldsTable CustomChannelId.eq pool table → AreBytes front → AreBytes back →
+        let accepted = accepted_in (table (name_in seen channel)) in
+        FillBoth accepted front back → FramesComplete CustomChannelId.eq table seen channel timestamp accepted
+        (front_fragment front) (back_fragment accepted back) }
 {}
 
 /// Each stream is answered as if it were alone: two lists of calls on a new pool that agree on the calls of a stream

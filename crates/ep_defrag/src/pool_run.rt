@@ -47,7 +47,8 @@ pub enum PoolAnswer {
 /// Makes calls in turn on a new pool, and answers it with the answer to each call. A drop keeps the streams whose
 /// timestamp `keep` answers true of the drop's value and the timestamp. `RunStop` comes only for want of memory.
 ///
-/// Each stream is answered as if it were alone.
+/// Each stream is answered as if it were alone. None of the streams gets stuck
+/// ([`two_frames_complete`](crate::laws::two_frames_complete)).
 pub fn run_calls<
     Timestamp: Drop,
     CustomChannelId: Eq + Hash + Drop,

@@ -1,0 +1,18 @@
+use Rattle.std.proofs.Common.{refl}
+use Rattle.ep_defrag.specs.Calls.{accepted_in}
+use Rattle.ep_defrag.specs.Completing.{name_in}
+use Rattle.ep_defrag.specs.Pools.{stream_named}
+use Rattle.ep_defrag.proofs.Carrying.{carrying}
+use Rattle.ep_defrag.proofs.FramesComplete.{entry_in_turn, frames_complete}
+use Rattle.ep_defrag.proofs.laws.two_frames_complete.Goals as goal
+
+pub returns-clause-some : goal.returns-clause-some
+returns-clause-some g c seen fragment offset short bytes part = carrying seen fragment offset short bytes part
+
+pub returns-clause-complete : goal.returns-clause-complete
+returns-clause-complete g c pool table seen channel front back timestamp held front_bytes back_bytes fill =
+    let eq = g.CustomChannelId.PartialEq.eq in
+    let name = name_in seen channel in
+    frames_complete eq g.met.CustomChannelId.Eq.laws seen channel table (table name) refl
+    (entry_in_turn (stream_named eq name pool) (table name) (held.each name)) front back fill front_bytes back_bytes
+    timestamp
