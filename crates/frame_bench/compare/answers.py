@@ -6,9 +6,6 @@ It is written apart from the program, so that the two can be compared (hostile.p
 import re
 import sys
 
-# Whether a final fragment that ends below what already came is refused. The one place that says it is marked below.
-LATE_ENDS_ARE_REFUSED = False
-
 MOST_LINK_EXTENSIONS = 3
 GREATEST_END = 65535
 
@@ -339,8 +336,7 @@ class Stream:
             return f"err unaligned {offset} {len(data)}"
         if self.end is not None and (end > self.end or (not more and end != self.end)):
             return f"err conflict {self.end} {end}"
-        # The rule of late ends.
-        if LATE_ENDS_ARE_REFUSED and self.end is None and not more and end < self.reach:
+        if self.end is None and not more and end < self.reach:
             return f"err conflict {self.reach} {end}"
         return None
 
@@ -353,7 +349,7 @@ class Stream:
             self.end = start + len(data)
 
     def is_complete(self):
-        """Whether the end is known and no position below the greatest end is missing."""
+        """Whether the end is known and no position below it is missing."""
         if self.end is None:
             return False
         covered = 0
@@ -361,14 +357,14 @@ class Stream:
             if start > covered:
                 break
             covered = max(covered, end)
-        return covered >= self.reach
+        return covered >= self.end
 
     def payload(self):
         """Each byte of the last fragment there, up to the known end."""
-        data = bytearray(self.reach)
+        data = bytearray(self.end)
         for start, end, part in self.accepted:
             data[start:end] = part
-        return bytes(data[: self.end])
+        return bytes(data)
 
 
 class Pool:
