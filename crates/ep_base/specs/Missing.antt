@@ -1,5 +1,6 @@
 -- What a refusal by a length says of the bytes that are missing.
 use Rattle.std.specs.Prelude.{◌≡◌, ◌<◌, ◌≤◌, ◌⊎◌, ⊤, ℕ, ◌+◌, List, ◌++◌, length}
+use Rattle.ep_base.specs.Bytes.{AreBytes}
 use Rattle.ep_base.specs.declared.err.len_error.LenError.{LenError}
 use Rattle.ep_base.specs.declared.err.layer.Layer.{Layer}
 use Rattle.ep_base.specs.declared.err.layer.Layer.TheVariants as layer
@@ -35,3 +36,30 @@ pub record TellsMissing (Refuses : List ℕ → LenError → Type 0) : Type 0 wh
   pub not_again : (bytes more : List ℕ) (error : LenError) (len : ℕ) → Refuses bytes error
       → IsOfBytesAtHand error.len_source → (¬ HasExactLength error.layer)
       → error.required_len ≤ error.len + length more → Refuses (bytes ++ more) (that_row error len) → ⊥
+
+-- The refusal of bytes of which only so many were left by a cut, of the whole: a layer needs more bytes than there are from
+-- its start up to the cut, and no more than there were before it.
+pub record IsCutShort (cut whole : ℕ) (error : LenError) : Type 0 where
+  pub there : error.layer_start_offset + error.len ≡ cut
+  pub needed : error.len < error.required_len
+  pub within : error.layer_start_offset + error.required_len ≤ whole
+
+-- such a refusal, under the name that it has there, and what sets its limit
+pub record IsCutRefusal {E : Type 0} (named : LenError → E) (limit : LenError → LenSource) (cut whole : ℕ) (error : E)
+    : Type 0 where
+  pub missing : LenError
+  pub is : error ≡ named missing
+  pub short : IsCutShort cut whole missing
+  pub source : missing.len_source ≡ limit missing
+
+-- the end of the bytes at hand is the limit
+abbrev pub slice_end : LenError → LenSource
+slice_end error = source.Slice
+
+-- Where the front of bytes that are such a value is refused, it is for want of the bytes that the cut took.
+abbrev pub TellsCut : {V E : Type 0} → (List ℕ → V → Type 0) → (List ℕ → E → Type 0) → (LenError → E)
+    → (V → LenError → LenSource) → Type 0
+TellsCut {V = V} {E = E} Is Refuses named limit =
+    (front back : List ℕ) → AreBytes (front ++ back) → (value : V) → Is (front ++ back) value
+    → (error : E) → Refuses front error
+    → IsCutRefusal named (limit value) (length front) (length (front ++ back)) error

@@ -1,4 +1,5 @@
 pub mod ChainBytes
+pub mod CutRefusalLemmas
 pub mod ChainLemmas
 pub mod Comparisons
 pub mod FragmentHeaderLemmas

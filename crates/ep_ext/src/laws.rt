@@ -3,7 +3,7 @@
 ghost use Rattle.std.specs.Prelude.{◌≡◌, ◌↔◌, ℕ, List, IsTrue, length, option_map};
 ghost use Rattle.ep_base.specs.Bytes.{AreBytes};
 ghost use Rattle.ep_base.specs.Layer.{Reading};
-ghost use Rattle.ep_base.specs.Missing.{IsShortAt, TellsMissing};
+ghost use Rattle.ep_base.specs.Missing.{IsShortAt, TellsCut, TellsMissing, slice_end};
 ghost use Rattle.ep_base.specs.declared.err.len_error.LenError.{LenError};
 ghost use Rattle.ep_base.specs.declared.err.ip_auth.HeaderSliceError.TheVariants as auth_error;
 ghost use Rattle.ep_base.specs.declared.err.ipv6_exts.HeaderSliceError.TheVariants as exts_error;
@@ -17,7 +17,7 @@ ghost use Rattle.ep_ext.specs.RawExtensionSlices.{raw_extension_slice_bytes};
 ghost use Rattle.ep_ext.specs.FragmentHeaderSlices.{fragment_slice_bytes};
 ghost use Rattle.ep_ext.specs.ExtensionParts.{part_number};
 ghost use Rattle.ep_ext.specs.Ipv6Slices.{bytes_left, extension_slice_bytes, extension_slice_part, ipv6_slice_bytes, ipv6_slice_number, number_left};
-ghost use Rattle.ep_ext.specs.Chains.{FitParts, IpVersion, RefusesExtensionChain};
+ghost use Rattle.ep_ext.specs.Chains.{FitParts, IpVersion, IsExtensionChain, RefusesExtensionChain};
 ghost use Rattle.ep_ext.specs.Ipv4Chains.{ipv4_parts};
 ghost use Rattle.ep_ext.specs.Ipv6Chains.{FitRouting, ipv6_parts};
 
@@ -61,6 +61,15 @@ pub fn tell_missing()
     ensures limit { (version : IpVersion) (reading : Reading) (number : ℕ) (bytes : List ℕ) (error : LenError)
         → RefusesExtensionChain version reading number bytes (exts_error.Len error)
         → IsShortAt (length bytes) error × (error.len_source ≡ source.Slice) }
+{}
+
+/// Where the front of bytes that are a chain is refused, it is for want of the bytes that the cut took: the offset plus `len`
+/// is the number of bytes up to the cut, `required_len` is more than `len`, and the offset plus `required_len` at most the
+/// number of all bytes. The limit is the end of the bytes at hand.
+pub fn tell_cut()
+    ensures { (version : IpVersion) (reading : Reading) (number : ℕ)
+        → TellsCut (IsExtensionChain version reading number) (RefusesExtensionChain version reading number)
+        exts_error.Len (λ chain. slice_end) }
 {}
 
 /// The lengths of headers and of what they hold.

@@ -1,4 +1,5 @@
 pub mod ArpLemmas
+pub mod CutRefusalLemmas
 pub mod Ethernet2Lemmas
 pub mod LinkExtensionLemmas
 pub mod LinuxSllLemmas

@@ -25,7 +25,7 @@ use Rattle.ep_link.proofs.VlanLemmas.{vlan_is_read}
 -- ---- types
 
 -- no type is VLAN's and MACsec's
-vlan_not_macsec : (type : EtherType) → IsVlanType type → IsMacsecType type → ⊥
+pub vlan_not_macsec : (type : EtherType) → IsVlanType type → IsMacsecType type → ⊥
 vlan_not_macsec type is_vlan is_macsec = omega arith
 
 -- a type begins an extension or begins none

@@ -1,5 +1,5 @@
 -- ARP (RFC 826).
-use Rattle.std.specs.Prelude.{◌≡◌, ℕ, ◌+◌, ◌*◌, ◌^◌, ◌<◌, ◌≤◌, ◌==◌, Bool, not, nat_lt}
+use Rattle.std.specs.Prelude.{◌≡◌, ℕ, ◌+◌, ◌*◌, ◌^◌, ◌<◌, ◌≤◌, ◌==◌, ◌&&◌, if◌then◌else◌, Bool, not, nat_le, nat_lt}
 use Rattle.std.specs.Prelude.{List, [], ◌∷◌, ◌++◌, length, slice_index, slice_range}
 use Rattle.std.specs.Int.{w16, to_be_bytes}
 use Rattle.ep_base.specs.Bytes.{AreBytes, word_at}
@@ -8,6 +8,7 @@ use Rattle.ep_base.specs.Tables.{Refuses}
 use Rattle.ep_base.specs.declared.ether_type.EtherType.{EtherType}
 use Rattle.ep_base.specs.declared.err.len_error.LenError.{LenError}
 use Rattle.ep_base.specs.declared.err.layer.Layer.TheVariants as layer
+use Rattle.ep_base.specs.declared.len_source.LenSource.{LenSource}
 use Rattle.ep_base.specs.declared.len_source.LenSource.TheVariants as source
 use Rattle.ep_link.specs.declared.arp.arp_hardware_id.ArpHardwareId.{ArpHardwareId}
 use Rattle.ep_link.specs.declared.arp.arp_operation.ArpOperation.{ArpOperation}
@@ -71,6 +72,11 @@ arp_rows bytes =
 
 abbrev pub RefusesArp : List ℕ → LenError → Type 0
 RefusesArp bytes = Refuses (arp_rows bytes)
+
+-- what sets the limit where a cut left too few bytes of the packet that starts here: the address lengths, once they are there
+abbrev pub arp_cut_limit : ℕ → LenError → LenSource
+arp_cut_limit start error =
+    if (error.layer_start_offset == start) && nat_le 8 error.len then source.ArpAddrLengths else source.Slice
 
 -- the packet that stands at the front of bytes
 abbrev pub arp_packet_of : List ℕ → Arp

@@ -4,13 +4,14 @@ ghost use Rattle.std.specs.Prelude.{◌≡◌, ◌↔◌, ◌+◌, ◌++◌, ◌
 ghost use Rattle.std.specs.Ordering.{nat_cmp};
 ghost use Rattle.ep_base.specs.Bytes.{AreBytes};
 ghost use Rattle.ep_base.specs.Comparisons.{TellsSame, ClonesExactly};
-ghost use Rattle.ep_base.specs.Missing.{TellsMissing};
+ghost use Rattle.ep_base.specs.Missing.{TellsCut, TellsMissing, slice_end};
+ghost use Rattle.ep_base.specs.declared.err.len_error.LenError.{LenError};
 ghost use Rattle.ep_base.specs.declared.err.linux_sll.HeaderSliceError.TheVariants as sll_error;
 ghost use Rattle.ep_base.specs.declared.err.macsec.HeaderSliceError.TheVariants as macsec_error;
 ghost use Rattle.ep_base.specs.Tables.{IsDecided};
 ghost use Rattle.ep_base.specs.declared.ether_type.EtherType.{EtherType};
 ghost use Rattle.ep_base.specs.declared.err.macsec.HeaderSliceError.{HeaderSliceError};
-ghost use Rattle.ep_link.specs.Arp.{IsArp, RefusesArp};
+ghost use Rattle.ep_link.specs.Arp.{IsArp, RefusesArp, arp_cut_limit};
 ghost use Rattle.ep_link.specs.Ethernet2.{IsEthernet2, RefusesEthernet2};
 ghost use Rattle.ep_link.specs.LinuxSll.{IsLinuxSll, RefusesLinuxSll};
 ghost use Rattle.ep_link.specs.LinkExtensions.{BeginsLinkExtension, EncodesTag, IsLinkExtension, LinkExtension};
@@ -116,6 +117,19 @@ pub fn tell_missing()
     ensures arp { TellsMissing RefusesArp }
     ensures link_extension { (type : EtherType)
         → TellsMissing (λ bytes error. RefusesLinkExtension type bytes (macsec_error.Len error)) }
+{}
+
+/// Where the front of bytes that are a layer is refused, it is for want of the bytes that the cut took: the offset plus `len`
+/// is the number of bytes up to the cut, `required_len` is more than `len`, and the offset plus `required_len` at most the
+/// number of all bytes. The limit is the end of the bytes at hand, but the address lengths of ARP, once they are there.
+pub fn tell_cut()
+    ensures ethernet2 { TellsCut IsEthernet2 RefusesEthernet2 (λ (error : LenError). error) (λ frame. slice_end) }
+    ensures linux_sll { TellsCut IsLinuxSll RefusesLinuxSll sll_error.Len (λ packet. slice_end) }
+    ensures vlan { TellsCut IsVlan RefusesVlan (λ (error : LenError). error) (λ tagged. slice_end) }
+    ensures macsec { TellsCut IsMacsec RefusesMacsec macsec_error.Len (λ packet. slice_end) }
+    ensures arp { TellsCut IsArp RefusesArp (λ (error : LenError). error) (λ read. arp_cut_limit 0) }
+    ensures link_extension { (type : EtherType)
+        → TellsCut (IsLinkExtension type) (RefusesLinkExtension type) macsec_error.Len (λ part. slice_end) }
 {}
 
 /// The numbers are those that IANA and Linux assign, and each length is that of its header or packet.

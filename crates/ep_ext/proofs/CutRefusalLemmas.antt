@@ -1,0 +1,197 @@
+-- That the front of an extension header, or of a chain, is refused for want of what the cut took, and that what stands on the
+-- front also stands on the whole.
+use Rattle.std.proofs.Common.{◌≡◌, ℕ, ◌+◌, ◌*◌, ◌==◌, if◌then◌else◌, Bool, true, false, List, [], ◌∷◌, ◌++◌, length, Some, None, refl, sym, ap, subst, ◌∙◌, inl, inr, arith, length-append}
+use Rattle.ep_base.specs.Bytes.{AreBytes}
+use Rattle.ep_base.specs.IpNumbers.{authentication_number, fragment_number}
+use Rattle.ep_base.specs.Layer.{Reading}
+use Rattle.ep_base.specs.Missing.{IsCutRefusal, TellsCut, slice_end}
+use Rattle.ep_base.specs.Tables.{rows_as}
+use Rattle.ep_base.proofs.CutRefusalLemmas.{BesideRows, byte_beside, cut_row, either_beside, enough, further_short, longer_rest, refused_beside, same_row, stands_unrefused}
+use Rattle.ep_base.specs.declared.err.len_error.LenError.{LenError}
+use Rattle.ep_base.specs.declared.err.layer.Layer.TheVariants as layer
+use Rattle.ep_base.specs.declared.len_source.LenSource.TheVariants as source
+use Rattle.ep_base.specs.declared.err.ipv6_exts.HeaderSliceError.{HeaderSliceError}
+use Rattle.ep_base.specs.declared.err.ipv6_exts.HeaderSliceError.TheVariants as header_error
+use Rattle.ep_ext.specs.Chains.{ExtensionChain, IpVersion, IsChainBehind, IsExtensionChain, RefusesChainBehind, RefusesExtensionChain, demand_of, ends, further_in, misplaced, takes}
+use Rattle.ep_ext.specs.ExtensionParts.{ExtensionPart, IsExtensionPart, RefusesExtensionPart, authentication, auth_refusal, destination_options, extension_part_rows, fragment, hop_by_hop, part_len, part_next, routing}
+use Rattle.ep_ext.specs.FragmentHeader.{fragment_header_rows}
+use Rattle.ep_ext.specs.IpAuth.{ip_auth_len_of, ip_auth_rows}
+use Rattle.ep_ext.specs.RawExtension.{IsRawExtension, raw_extension_bytes, raw_extension_len_of, raw_extension_rows}
+use Rattle.ep_ext.specs.declared.ipv6_raw_ext_header.Ipv6RawExtHeader.{Ipv6RawExtHeader}
+use Rattle.ep_ext.proofs.ChainLemmas.{taken_is_kind}
+use Rattle.ep_ext.proofs.HeaderLaws.{header_laws}
+use Rattle.ep_ext.proofs.PartLemmas.{IsReadPart, ReadPart, part_behind_fits, part_decided, part_lens}
+
+-- a refusal for want of what the cut took, of which the end of the bytes at hand is the limit
+abbrev pub IsCut : ℕ → ℕ → HeaderSliceError → Type 0
+IsCut = IsCutRefusal header_error.Len slice_end
+
+-- ---- single headers
+
+abbrev Beside : List ℕ → List ℕ → HeaderSliceError → Type 0
+Beside front back = IsCut (length front) (length (front ++ back))
+
+auth_beside : (front back : List ℕ) → BesideRows (Beside front back) (rows_as auth_refusal (ip_auth_rows front))
+    (rows_as auth_refusal (ip_auth_rows (front ++ back)))
+auth_beside front back long = (
+  cut_row header_error.Len slice_end front back 12 12 source.Slice layer.IpAuthHeader refl refl long,
+  λ short.
+  let there = enough (length front) 12 short in
+  let field = byte_beside front back 1 (omega (arith, there)) in
+  λ some. (
+    same_row (Beside front back) _ _ _ (ap (λ (b : ℕ). b == 0) field) some,
+    λ also.
+    λ whole. (
+      cut_row header_error.Len slice_end front back (ip_auth_len_of front) (ip_auth_len_of (front ++ back)) source.Slice
+          layer.IpAuthHeader refl (ap (λ (b : ℕ). 4 * (b + 2)) field) whole,
+      λ last. tt,
+    ),
+  ),
+)
+
+fragment_beside : (front back : List ℕ) → BesideRows (Beside front back)
+    (rows_as header_error.Len (fragment_header_rows front)) (rows_as header_error.Len (fragment_header_rows (front ++ back)))
+fragment_beside front back long = (
+  cut_row header_error.Len slice_end front back 8 8 source.Slice layer.Ipv6FragHeader refl refl long,
+  λ short. tt,
+)
+
+raw_beside : (front back : List ℕ) → BesideRows (Beside front back)
+    (rows_as header_error.Len (raw_extension_rows front)) (rows_as header_error.Len (raw_extension_rows (front ++ back)))
+raw_beside front back long = (
+  cut_row header_error.Len slice_end front back 8 8 source.Slice layer.Ipv6ExtHeader refl refl long,
+  λ short.
+  let there = enough (length front) 8 short in
+  let field = byte_beside front back 1 (omega (arith, there)) in
+  λ whole. (
+    cut_row header_error.Len slice_end front back (raw_extension_len_of front) (raw_extension_len_of (front ++ back))
+        source.Slice layer.Ipv6ExtHeader refl (ap (λ (b : ℕ). 8 * (b + 1)) field) whole,
+    λ last. tt,
+  ),
+)
+
+part_beside : (number : ℕ) (front back : List ℕ) → BesideRows (Beside front back) (extension_part_rows number front)
+    (extension_part_rows number (front ++ back))
+part_beside number front back =
+    either_beside (Beside front back) (number == authentication_number) _ _ _ _ (auth_beside front back)
+    (either_beside (Beside front back) (number == fragment_number) _ _ _ _ (fragment_beside front back)
+    (raw_beside front back))
+
+-- a header stands with any bytes behind it
+longer_raw : (bytes more : List ℕ) (header : Ipv6RawExtHeader) (behind : List ℕ) → IsRawExtension bytes (header, behind)
+    → IsRawExtension (bytes ++ more) (header, behind ++ more)
+longer_raw bytes more header behind is = record {
+  fits = is.fits;
+  parts = longer_rest bytes (raw_extension_bytes header) behind more is.parts;
+}
+
+pub longer_part : (number : ℕ) (bytes more : List ℕ) (part : ExtensionPart) (behind : List ℕ)
+    → IsExtensionPart number bytes part behind → IsExtensionPart number (bytes ++ more) part (behind ++ more)
+longer_part number bytes more (hop_by_hop header) behind is = (is.0, longer_raw bytes more header behind is.1)
+longer_part number bytes more (destination_options header) behind is = (is.0, longer_raw bytes more header behind is.1)
+longer_part number bytes more (routing header) behind is = (is.0, longer_raw bytes more header behind is.1)
+longer_part number bytes more (fragment header) behind is = (
+  is.0,
+  record {
+    encoded = is.1.encoded;
+    encodes = is.1.encodes;
+    parts = longer_rest bytes is.1.encoded behind more is.1.parts;
+  },
+)
+longer_part number bytes more (authentication header) behind is = (
+  is.0,
+  record {
+    encoded = is.1.encoded;
+    encodes = is.1.encodes;
+    parts = longer_rest bytes is.1.encoded behind more is.1.parts;
+  },
+)
+
+-- ---- chains
+
+-- a chain stands with any bytes behind it
+longer_behind : (version : IpVersion) (reading : Reading) (taken : List ℕ) (number : ℕ) (bytes more : List ℕ)
+    (parts : List ExtensionPart) (last : ℕ) (rest : List ℕ)
+    → IsChainBehind version reading taken number bytes parts last rest
+    → IsChainBehind version reading taken number (bytes ++ more) parts last (rest ++ more)
+longer_behind version reading taken number bytes more [] last rest is =
+    (is.0, is.1, ap (λ (l : List ℕ). l ++ more) is.2)
+longer_behind version reading taken number bytes more (part ∷ parts) last rest is = (
+  is.0,
+  (
+    is.1.0 ++ more,
+    longer_part number bytes more part is.1.0 is.1.1,
+    longer_behind version reading (number ∷ taken) (part_next part) is.1.0 more parts last rest is.1.2,
+  ),
+)
+
+pub longer_chain : (version : IpVersion) (reading : Reading) (number : ℕ) (bytes more : List ℕ) (chain : ExtensionChain)
+    → IsExtensionChain version reading number bytes chain
+    → IsExtensionChain version reading number (bytes ++ more)
+    (record { parts = chain.parts; last = chain.last; rest = chain.rest ++ more })
+longer_chain version reading number bytes more chain is =
+    longer_behind version reading [] number bytes more chain.parts chain.last chain.rest is
+
+-- the same refusal, seen from further in front
+further_cut : (offset cut whole : ℕ) (error : HeaderSliceError) → IsCut cut whole error
+    → IsCut (offset + cut) (offset + whole) (further_in offset error)
+further_cut offset cut whole error is =
+    let missing = is.missing in
+    record {
+      missing = record missing { layer_start_offset = missing.layer_start_offset + offset };
+      is = ap (further_in offset) is.is;
+      short = further_short offset cut whole missing.len_source missing is.short;
+      source = is.source;
+    }
+
+-- behind the headers that were taken, the whole is a chain, and the front is refused
+cut_behind : (version : IpVersion) (reading : Reading) (taken : List ℕ) (offset number : ℕ) (front back : List ℕ)
+    → AreBytes (front ++ back)
+    → (stand : List ExtensionPart) (last : ℕ) (rest : List ℕ)
+    → IsChainBehind version reading taken number (front ++ back) stand last rest
+    → (parts : List ExtensionPart) (error : HeaderSliceError)
+    → RefusesChainBehind version reading taken offset number front parts error
+    → IsCut (offset + length front) (offset + length (front ++ back)) error
+cut_behind version reading taken offset number front back fits [] last rest is [] error (inl refused) =
+    absurd (let wrong : ends ≡ misplaced = sym is.0 ∙ refused.0 in cc)
+cut_behind version reading taken offset number front back fits [] last rest is [] error (inr refused) =
+    absurd (let wrong : ends ≡ takes = sym is.0 ∙ refused.0 in cc)
+cut_behind version reading taken offset number front back fits [] last rest is (part ∷ parts) error refused =
+    absurd (let wrong : ends ≡ takes = sym is.0 ∙ refused.0 in cc)
+cut_behind version reading taken offset number front back fits (next ∷ stand) last rest is [] error (inl refused) =
+    absurd (let wrong : takes ≡ misplaced = sym is.0 ∙ refused.0 in cc)
+cut_behind version reading taken offset number front back fits (next ∷ stand) last rest is [] error (inr refused) =
+    let kind = taken_is_kind version reading taken number refused.0 in
+    let none = stands_unrefused (extension_part_rows number (front ++ back))
+    (part_decided header_laws number (front ++ back) fits kind) (next, is.1.0) is.1.1 in
+    subst (IsCut (offset + length front) (offset + length (front ++ back))) (sym refused.1.2)
+    (further_cut offset (length front) (length (front ++ back)) refused.1.0
+    (refused_beside (Beside front back) (extension_part_rows number front) (extension_part_rows number (front ++ back))
+    (part_beside number front back) none refused.1.0 refused.1.1))
+cut_behind version reading taken offset number front back fits (next ∷ stand) last rest is (part ∷ parts) error refused =
+    let behind = refused.1.0 in
+    let kind = taken_is_kind version reading taken number refused.0 in
+    let longer = longer_part number front back part behind refused.1.1 in
+    let same = (part_decided header_laws number (front ++ back) fits kind).one_value (next, is.1.0) (part, behind ++ back)
+    is.1.1 longer in
+    let stands = subst (λ (read : ReadPart). IsChainBehind version reading (number ∷ taken) (part_next read.0) read.1 stand
+    last rest) same is.1.2 in
+    let len = part_lens number front part behind refused.1.1 in
+    let cut : offset + part_len part + length behind ≡ offset + length front = omega (arith, len.0) in
+    let whole : offset + part_len part + length (behind ++ back) ≡ offset + length (front ++ back) =
+    omega (arith, len.0, length-append behind back, length-append front back) in
+    subst (λ (n : ℕ). IsCut n (offset + length (front ++ back)) error) cut
+    (subst (λ (n : ℕ). IsCut (offset + part_len part + length behind) n error) whole
+    (cut_behind version reading (number ∷ taken) (offset + part_len part) (part_next part) behind back
+    (part_behind_fits number (front ++ back) part (behind ++ back) longer fits) stand last rest stands parts error
+    refused.1.2))
+
+pub chain_cut : (version : IpVersion) (reading : Reading) (number : ℕ)
+    → TellsCut (IsExtensionChain version reading number) (RefusesExtensionChain version reading number) header_error.Len
+    (λ chain. slice_end)
+chain_cut version reading number front back fits chain is error refused =
+    let cut : 0 + length front ≡ length front = omega arith in
+    let whole : 0 + length (front ++ back) ≡ length (front ++ back) = omega arith in
+    subst (λ (n : ℕ). IsCut n (length (front ++ back)) error) cut
+    (subst (λ (n : ℕ). IsCut (0 + length front) n error) whole
+    (cut_behind version reading [] 0 number front back fits chain.parts chain.last chain.rest is refused.0 error refused.1))
