@@ -1,4 +1,5 @@
 pub mod CutLemmas
+pub mod CutRefusalLemmas
 pub mod ExtensionLaws
 pub mod Ipv4Lemmas
 pub mod Ipv6Lemmas

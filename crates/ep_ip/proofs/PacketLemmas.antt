@@ -283,7 +283,7 @@ ipv6_refused bytes fits cut cut_is number same refusal refused packet is =
 -- ---- of open version
 
 -- bytes of a version are refused for none
-version_rows_none : (bytes : List ℕ) → (version_of bytes ≡ 4) ⊎ (version_of bytes ≡ 6)
+pub version_rows_none : (bytes : List ℕ) → (version_of bytes ≡ 4) ⊎ (version_of bytes ≡ 6)
     → first_row (ip_version_rows bytes) ≡ None
 version_rows_none bytes version = grind (arith, common_steps)
 
@@ -296,12 +296,12 @@ version_rows_some (byte ∷ bytes) not_4 not_6 = (
   grind (arith, common_steps),
 )
 
-ipv4_version : (reading : Reading) (bytes : List ℕ) (packet : IpPacket Ipv4Header) → IsIpv4 reading bytes packet
+pub ipv4_version : (reading : Reading) (bytes : List ℕ) (packet : IpPacket Ipv4Header) → IsIpv4 reading bytes packet
     → version_of bytes ≡ 4
 ipv4_version reading bytes packet is =
     let none = (ipv4_packet_is_read.is_read bytes _ is.cut).0 in grind (arith, common_steps)
 
-ipv6_version : (reading : Reading) (bytes : List ℕ) (packet : IpPacket Ipv6Header) → IsIpv6 reading bytes packet
+pub ipv6_version : (reading : Reading) (bytes : List ℕ) (packet : IpPacket Ipv6Header) → IsIpv6 reading bytes packet
     → version_of bytes ≡ 6
 ipv6_version reading bytes packet is =
     let none = (ipv6_packet_is_read.is_read bytes _ is.cut).0 in grind (arith, common_steps)

@@ -5,6 +5,8 @@ use Rattle.ep_base.specs.IpPayload.{IpPayload}
 use Rattle.ep_base.specs.Layer.{Reading, behind_header, len_error}
 use Rattle.ep_base.specs.Tables.{Parts, parts_of, Refuses, RefusesAs}
 use Rattle.ep_base.specs.declared.err.layer.Layer.TheVariants as layer
+use Rattle.ep_base.specs.declared.err.len_error.LenError.{LenError}
+use Rattle.ep_base.specs.declared.len_source.LenSource.{LenSource}
 use Rattle.ep_base.specs.declared.len_source.LenSource.TheVariants as source
 use Rattle.ep_base.specs.declared.err.ip.HeaderError.TheVariants as content
 use Rattle.ep_base.specs.declared.err.ip.HeadersError.TheVariants as headers_error
@@ -26,7 +28,7 @@ use Rattle.ep_ip.specs.declared.ipv4_header.Ipv4Header.{Ipv4Header}
 use Rattle.ep_ip.specs.declared.ipv6_header.Ipv6Header.{Ipv6Header}
 use Rattle.ep_ip.specs.Ip.{version_of}
 use Rattle.ep_ip.specs.Ipv4.{IsIpv4Packet, RefusesIpv4Packet, ipv4_header_len, is_ipv4_fragment}
-use Rattle.ep_ip.specs.Ipv6.{IsIpv6Packet, RefusesIpv6Packet, ipv6_payload_source}
+use Rattle.ep_ip.specs.Ipv6.{IsIpv6Packet, RefusesIpv6Packet, ipv6_cut_limit, ipv6_payload_source}
 
 -- what bytes are: a header, its extension headers, the payload behind them, and what the header's length field leaves
 -- behind that
@@ -113,6 +115,11 @@ ip_left (ipv6_part packet) = packet.left
 abbrev pub IsIp : Reading → List ℕ → IpPart → Type 0
 IsIp reading bytes (ipv4_part packet) = IsIpv4 reading bytes packet
 IsIp reading bytes (ipv6_part packet) = IsIpv6 reading bytes packet
+
+-- what sets the limit where a cut left too few bytes of a packet that starts here
+abbrev pub ip_cut_limit : ℕ → IpPart → LenError → LenSource
+ip_cut_limit start (ipv4_part packet) error = source.Slice
+ip_cut_limit start (ipv6_part packet) error = ipv6_cut_limit start packet.header error
 
 -- why bytes are of neither version
 abbrev pub ip_version_rows : List ℕ → List (Bool × SliceError)

@@ -7,6 +7,7 @@ use Rattle.ep_base.specs.Bytes.{AreBytes, word_at}
 use Rattle.ep_base.specs.Layer.{len_error}
 use Rattle.ep_base.specs.Tables.{Parts, Refuses, rows_as}
 use Rattle.ep_base.specs.declared.err.layer.Layer.TheVariants as layer
+use Rattle.ep_base.specs.declared.err.len_error.LenError.{LenError}
 use Rattle.ep_base.specs.declared.len_source.LenSource.{LenSource}
 use Rattle.ep_base.specs.declared.len_source.LenSource.TheVariants as source
 use Rattle.ep_base.specs.declared.err.ipv6.HeaderError.TheVariants as content
@@ -97,6 +98,13 @@ RefusesIpv6Packet bytes = Refuses (ipv6_packet_rows bytes)
 abbrev pub ipv6_payload_source : Ipv6Header → List ℕ → LenSource
 ipv6_payload_source header payload =
     if (header.payload_length == 0) && nat_lt 0 (length payload) then source.Slice else source.Ipv6HeaderPayloadLen
+
+-- what sets the limit where a cut left too few bytes of a packet that starts here: the end of the bytes at hand, but the
+-- payload length, which is 0, where the cut ends with the header
+abbrev pub ipv6_cut_limit : ℕ → Ipv6Header → LenError → LenSource
+ipv6_cut_limit start header error =
+    if (error.layer_start_offset == start + 40) && ((error.len == 0) && (header.payload_length == 0))
+    then source.Ipv6HeaderPayloadLen else source.Slice
 
 -- ---- headers that are made
 

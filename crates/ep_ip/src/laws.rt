@@ -3,7 +3,7 @@
 ghost use Rattle.std.specs.Prelude.{◌≡◌, ◌≤◌, ◌↔◌, length, ℕ, true, false, List, [], ◌∷◌, replicate};
 ghost use Rattle.ep_base.specs.Bytes.{AreBytes};
 ghost use Rattle.ep_base.specs.Layer.{Reading};
-ghost use Rattle.ep_base.specs.Missing.{IsOfBytesAtHand, TellsMissing};
+ghost use Rattle.ep_base.specs.Missing.{IsOfBytesAtHand, TellsCut, TellsMissing, slice_end};
 ghost use Rattle.ep_base.specs.Tables.{IsDecided};
 ghost use Rattle.ep_base.specs.declared.err.ip.SliceError.TheVariants as ip_error;
 ghost use Rattle.ep_base.specs.declared.err.ipv4.HeaderSliceError.TheVariants as ipv4_header_error;
@@ -13,10 +13,10 @@ ghost use Rattle.ep_base.specs.declared.err.ipv4.SliceError.TheVariants as ipv4_
 ghost use Rattle.ep_base.specs.declared.err.ipv6.SliceError.TheVariants as ipv6_error;
 ghost use Rattle.ep_ip.specs.Ip.{version_of};
 ghost use Rattle.ep_ip.specs.Ipv4.{IsIpv4Header, RefusesIpv4Header, IsIpv4Packet, RefusesIpv4Packet};
-ghost use Rattle.ep_ip.specs.Ipv6.{IsIpv6Header, RefusesIpv6Header, IsIpv6Packet, RefusesIpv6Packet};
+ghost use Rattle.ep_ip.specs.Ipv6.{IsIpv6Header, RefusesIpv6Header, IsIpv6Packet, RefusesIpv6Packet, ipv6_cut_limit};
 ghost use Rattle.ep_ip.specs.IpBytes.{AreIpv4Bytes, AreIpv6Bytes};
 ghost use Rattle.ep_ip.specs.IpPackets.{IpPart, IpPacket, ipv4_part, ipv6_part};
-ghost use Rattle.ep_ip.specs.IpPackets.{IsIpv4, RefusesIpv4, IsIpv6, RefusesIpv6, IsIp, RefusesIp};
+ghost use Rattle.ep_ip.specs.IpPackets.{IsIpv4, RefusesIpv4, IsIpv6, RefusesIpv6, IsIp, RefusesIp, ip_cut_limit};
 ghost use Rattle.ep_ip.specs.declared.ipv4_header.Ipv4Header.{Ipv4Header};
 ghost use Rattle.ep_ip.specs.declared.ipv6_header.Ipv6Header.{Ipv6Header};
 
@@ -94,6 +94,21 @@ pub fn tell_missing()
     ensures ip { (reading : Reading) → TellsMissing (λ bytes error. RefusesIp reading bytes (ip_error.Len error)) }
     ensures payload { (reading : Reading) (bytes : List ℕ) (packet : IpPacket Ipv6Header) → IsIpv6 reading bytes packet
         → IsOfBytesAtHand packet.payload.source → packet.left ≡ [] }
+{}
+
+/// Where the front of bytes that are a packet is refused, it is for want of the bytes that the cut took: the offset plus `len`
+/// is the number of bytes up to the cut, `required_len` is more than `len`, and the offset plus `required_len` at most the
+/// number of all bytes. The limit is the end of the bytes at hand, but the payload length of IPv6, where it is 0 and the cut
+/// ends with the header.
+pub fn tell_cut()
+    ensures ipv4_packet { TellsCut IsIpv4Packet RefusesIpv4Packet ipv4_error.Len (λ packet. slice_end) }
+    ensures ipv6_packet { TellsCut IsIpv6Packet RefusesIpv6Packet ipv6_error.Len
+        (λ packet. ipv6_cut_limit 0 packet.header) }
+    ensures ipv4 { (reading : Reading)
+        → TellsCut (IsIpv4 reading) (RefusesIpv4 reading) ipv4_error.Len (λ packet. slice_end) }
+    ensures ipv6 { (reading : Reading)
+        → TellsCut (IsIpv6 reading) (RefusesIpv6 reading) ipv6_error.Len (λ packet. ipv6_cut_limit 0 packet.header) }
+    ensures ip { (reading : Reading) → TellsCut (IsIp reading) (RefusesIp reading) ip_error.Len (ip_cut_limit 0) }
 {}
 
 /// Bytes that begin with a version are a packet where the version is open exactly where they are one of this version,

@@ -1,4 +1,5 @@
 pub mod AlikeLemmas
+pub mod CutRefusalLemmas
 pub mod Deciders
 pub mod EntryLemmas
 pub mod FrameBytesLemmas

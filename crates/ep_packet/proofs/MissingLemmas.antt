@@ -234,7 +234,7 @@ tag_counts offset type bytes error refused =
     subst (Counts (offset + length bytes)) (sym refused.2) (extension_at offset type bytes refused.0 refused.1)
 
 -- an extension without a short length leaves nothing
-uncut_left : (type : EtherType) (bytes : List ℕ) (extension : LinkExtension) (left : List ℕ)
+pub uncut_left : (type : EtherType) (bytes : List ℕ) (extension : LinkExtension) (left : List ℕ)
     → IsLinkExtension type bytes (extension, left) → CutsNothing extension → left ≡ []
 uncut_left type bytes (vlan tag payload) left is uncut = is.1.cut
 uncut_left type bytes (macsec tag payload) left is uncut =
@@ -355,10 +355,10 @@ longer_parts bytes header payload left more parts nothing =
     ∙ sym (append-nil (header ++ (payload ++ more)))
 
 -- the same extension with these bytes behind its payload
-record IsLonger (extension longer : LinkExtension) (more : List ℕ) : Type 0 where
-  header : extension_header longer ≡ extension_header extension
-  type : extension_type longer ≡ extension_type extension
-  payload : extension_payload longer ≡ extension_payload extension ++ more
+pub record IsLonger (extension longer : LinkExtension) (more : List ℕ) : Type 0 where
+  pub header : extension_header longer ≡ extension_header extension
+  pub type : extension_type longer ≡ extension_type extension
+  pub payload : extension_payload longer ≡ extension_payload extension ++ more
 
 type_of_payload : (of : MacsecPType) (limit : LenSource) (bytes : List ℕ)
     → macsec_payload_type (payload_by of limit bytes) ≡ ptype_type of
@@ -368,7 +368,7 @@ type_of_payload ptype.Encrypted limit bytes = refl
 type_of_payload ptype.EncryptedUnmodified limit bytes = refl
 
 -- an extension without a short length stands with any bytes behind it, which belong to its payload
-longer_extension : (type : EtherType) (bytes more : List ℕ) (extension : LinkExtension) (left : List ℕ)
+pub longer_extension : (type : EtherType) (bytes more : List ℕ) (extension : LinkExtension) (left : List ℕ)
     → IsLinkExtension type bytes (extension, left) → CutsNothing extension
     → (longer : LinkExtension) × IsLinkExtension type (bytes ++ more) (longer, []) × IsLonger extension longer more
 longer_extension type bytes more (vlan tag payload) left is uncut = (
@@ -409,7 +409,7 @@ longer_extension type bytes more (macsec tag payload) left is uncut =
     )
 
 -- a tag has bytes
-tag_len : (header : LinkExtHeader) → 0 < link_ext_header_len header
+pub tag_len : (header : LinkExtHeader) → 0 < link_ext_header_len header
 tag_len (tag_header.Vlan tag) = omega arith
 tag_len (tag_header.Macsec tag) = omega arith
 
@@ -419,12 +419,12 @@ tag_len (tag_header.Macsec tag) = omega arith
 abbrev Again : LenError → ℕ → SliceError
 Again error len = slice_error.Len (that_row error len)
 
-abbrev ExtensionStart : ExtensionError → Type 0
+abbrev pub ExtensionStart : ExtensionError → Type 0
 ExtensionStart (extension_error.Len error) = error.layer_start_offset ≡ 0
 ExtensionStart (extension_error.Content error) = ⊤
 
 -- a link extension is refused at its start
-extension_at_start : (type : EtherType) (bytes : List ℕ) (error : ExtensionError)
+pub extension_at_start : (type : EtherType) (bytes : List ℕ) (error : ExtensionError)
     → RefusesLinkExtension type bytes error → ExtensionStart error
 extension_at_start type bytes error (inl refused) =
     refusal_is ExtensionStart (rows_as extension_error.Len (vlan_rows bytes)) (refl, tt) error refused.1
@@ -506,7 +506,7 @@ again_inside reading (suc room) offset (Some type) bytes more fits error len (in
 
 -- ---- frames
 
-ethernet2_len : (header : Ethernet2Header) → FitsEthernet2 header → length (ethernet2_bytes header) ≡ 14
+pub ethernet2_len : (header : Ethernet2Header) → FitsEthernet2 header → length (ethernet2_bytes header) ≡ 14
 ethernet2_len header fits = omega (
   arith,
   fits.source_length,
@@ -514,7 +514,7 @@ ethernet2_len header fits = omega (
   length-append {A = ℕ},
 )
 
-linux_sll_len : (header : LinuxSllHeader) → FitsLinuxSll header → length (linux_sll_bytes header) ≡ 16
+pub linux_sll_len : (header : LinuxSllHeader) → FitsLinuxSll header → length (linux_sll_bytes header) ≡ 16
 linux_sll_len header fits = omega (
   arith,
   fits.sender_address_length,
@@ -522,7 +522,7 @@ linux_sll_len header fits = omega (
 )
 
 -- bytes are a header, its payload, and nothing else
-whole_len : (bytes header payload left : List ℕ) → bytes ≡ (header ++ payload) ++ left → left ≡ []
+pub whole_len : (bytes header payload left : List ℕ) → bytes ≡ (header ++ payload) ++ left → left ≡ []
     → length header + length payload ≡ length bytes
 whole_len bytes header payload left parts nothing =
     omega (
@@ -572,7 +572,7 @@ frame_counts reading ip bytes error refused uncut =
     (net_counts reading 0 (Some any_ip) bytes (slice_error.Len error) refused)
 
 -- a link header stands with any bytes behind it
-longer_ethernet2 : (bytes more : List ℕ) (frame : Parts Ethernet2Header) → IsEthernet2 bytes frame
+pub longer_ethernet2 : (bytes more : List ℕ) (frame : Parts Ethernet2Header) → IsEthernet2 bytes frame
     → IsEthernet2 (bytes ++ more) (parts_of frame.header (frame.payload ++ more) [])
 longer_ethernet2 bytes more frame is = record {
   fits = is.fits;
@@ -580,7 +580,7 @@ longer_ethernet2 bytes more frame is = record {
   cut = refl;
 }
 
-longer_linux_sll : (bytes more : List ℕ) (frame : Parts LinuxSllHeader) → IsLinuxSll bytes frame
+pub longer_linux_sll : (bytes more : List ℕ) (frame : Parts LinuxSllHeader) → IsLinuxSll bytes frame
     → IsLinuxSll (bytes ++ more) (parts_of frame.header (frame.payload ++ more) [])
 longer_linux_sll bytes more frame is = record {
   fits = is.fits;
@@ -588,21 +588,24 @@ longer_linux_sll bytes more frame is = record {
   cut = refl;
 }
 
-ethernet2_start : (bytes : List ℕ) (error : LenError) → RefusesEthernet2 bytes error
+pub ethernet2_start : (bytes : List ℕ) (error : LenError) → RefusesEthernet2 bytes error
     → error.layer_start_offset ≡ 0
 ethernet2_start bytes error refused =
     refusal_is (λ (e : LenError). e.layer_start_offset ≡ 0) (ethernet2_rows bytes) (refl, tt) error refused
 
-abbrev SllStart : SllError → Type 0
+abbrev pub SllStart : SllError → Type 0
 SllStart (sll_error.Len error) = error.layer_start_offset ≡ 0
 SllStart (sll_error.Content error) = ⊤
+
+pub sll_at_start : (bytes : List ℕ) (refusal : SllError) → RefusesLinuxSll bytes refusal → SllStart refusal
+sll_at_start bytes refusal refused =
+    refusal_is SllStart (linux_sll_rows bytes) (refl, (tt, (tt, tt))) refusal refused
 
 sll_start : (bytes : List ℕ) (refusal : SllError) (error : LenError)
     → RefusesLinuxSll bytes refusal
     → slice_error.Len error ≡ linux_sll_refusal refusal → error.layer_start_offset ≡ 0
 sll_start bytes (sll_error.Len refusal) error refused same =
-    let start : refusal.layer_start_offset ≡ 0 =
-    refusal_is SllStart (linux_sll_rows bytes) (refl, (tt, (tt, tt))) (sll_error.Len refusal) refused in
+    let start : refusal.layer_start_offset ≡ 0 = sll_at_start bytes (sll_error.Len refusal) refused in
     let known : error ≡ refusal = cc in
     ap (λ (e : LenError). e.layer_start_offset) known ∙ start
 sll_start bytes (sll_error.Content refusal) error refused same = absurd cc

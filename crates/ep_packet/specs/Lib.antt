@@ -6,6 +6,7 @@ pub mod NetSlices
 pub mod FrameBytes
 pub mod Payloads
 pub mod UncutTags
+pub mod Cuts
 pub mod VlanTags
 pub mod ShownBytes
 pub mod Walk

@@ -3,9 +3,10 @@
 ghost use Rattle.std.specs.Prelude.{◌≡◌, ◌↔◌, ◌+◌, ◌≤◌, ◌++◌, ℕ, List, IsTrue, length};
 ghost use Rattle.ep_base.specs.Bytes.{AreBytes};
 ghost use Rattle.ep_base.specs.Layer.{Reading};
-ghost use Rattle.ep_base.specs.Missing.{CountsMissing, HasExactLength, IsOfBytesAtHand, that_row};
+ghost use Rattle.ep_base.specs.Missing.{CountsMissing, HasExactLength, IsOfBytesAtHand, TellsCut, that_row};
 ghost use Rattle.ep_base.specs.Tables.{IsDecided};
 ghost use Rattle.ep_base.specs.declared.err.len_error.LenError.{LenError};
+ghost use Rattle.ep_packet.specs.Cuts.{frame_cut_limit};
 ghost use Rattle.ep_packet.specs.Layers.{Layers};
 ghost use Rattle.ep_packet.specs.Frame.{IsFrame, IsFrameIn, most_link_exts};
 ghost use Rattle.ep_packet.specs.FrameBytes.{AreInOrder};
@@ -79,6 +80,16 @@ pub fn tell_missing()
         → HasNoShortLength entry bytes → IsOfBytesAtHand error.len_source → (¬ HasExactLength error.layer)
         → error.required_len ≤ error.len + length more
         → ¬ RefusesFrameIn reading entry (bytes ++ more) (slice_error.Len (that_row error len)) }
+{}
+
+/// Where a frame is cut, and the cut is refused, it is for want of the bytes that the cut took, in each reading by each entry:
+/// the error is one by length, the offset plus `len` is the number of bytes up to the cut, `required_len` is more than `len`,
+/// and the offset plus `required_len` is at most the number of the frame's bytes. Its source is `Slice`, but
+/// `ArpAddrLengths` where 8 bytes of an ARP packet are there, and `Ipv6HeaderPayloadLen` where the payload length is 0 and
+/// the cut ends with the header of IPv6.
+pub fn tell_cut()
+    ensures { (reading : Reading) (entry : Entry)
+        → TellsCut (IsFrameIn reading entry) (RefusesFrameIn reading entry) slice_error.Len (frame_cut_limit entry) }
 {}
 
 /// The cap that is told is the number of link extensions that a frame takes at most.

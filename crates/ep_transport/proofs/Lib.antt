@@ -1,3 +1,4 @@
+pub mod CutRefusalLemmas
 pub mod IcmpLemmas
 pub mod Icmpv4Lemmas
 pub mod Icmpv6Lemmas

@@ -8,7 +8,7 @@ ghost use Rattle.ep_transport.specs.declared.tcp_option_element.TcpOptionReadErr
 ghost use Rattle.ep_base.specs.Bytes.{AreBytes};
 ghost use Rattle.ep_base.specs.Checksum.{ones_sum, checksum_of, no_zero};
 ghost use Rattle.ep_base.specs.Layer.{Reading, slices, headers};
-ghost use Rattle.ep_base.specs.Missing.{TellsMissing};
+ghost use Rattle.ep_base.specs.Missing.{TellsCut, TellsMissing, slice_end};
 ghost use Rattle.ep_base.specs.Tables.{IsDecided};
 ghost use Rattle.ep_base.specs.declared.len_source.LenSource.TheVariants as source;
 ghost use Rattle.ep_base.specs.declared.err.len_error.LenError.{LenError};
@@ -125,6 +125,15 @@ pub fn tell_missing()
     ensures limit { (reading : Reading) (number : ℕ) (fragmented : Bool) (bytes : List ℕ) (error : LenError)
         → RefusesTransportPart reading number fragmented bytes (header_error.Len error)
         → (error.len_source ≡ source.Slice) ⊎ (error.len_source ≡ source.UdpHeaderLen) }
+{}
+
+/// Where the front of the bytes of a transport layer is refused, it is for want of the bytes that the cut took: the offset plus
+/// `len` is the number of bytes up to the cut, `required_len` is more than `len`, and the offset plus `required_len` at most
+/// the number of all bytes. The limit is the end of the bytes at hand.
+pub fn tell_cut()
+    ensures { (reading : Reading) (number : ℕ) (fragmented : Bool)
+        → TellsCut (IsTransportPart reading number fragmented) (RefusesTransportPart reading number fragmented)
+        header_error.Len (λ part. slice_end) }
 {}
 
 /// The bytes of an IP payload are the transport header, its payload, and what its cut leaves.

@@ -1,0 +1,333 @@
+-- That the front of an IP packet is refused for want of what the cut took, and that what stands on the front also stands on
+-- the whole.
+use Rattle.std.proofs.Common.{◌≡◌, ◌⊎◌, ℕ, zero, suc, ◌+◌, ◌*◌, ◌/◌, ◌%◌, ◌<◌, ◌≤◌, ◌==◌, if◌then◌else◌, Bool, true, false, not, List, [], ◌∷◌, ◌++◌, length, None, refl, sym, ap, subst, ◌∙◌, inl, inr, arith, length-append}
+use Rattle.std.specs.Prelude.{◌&&◌, ◌||◌, nat_lt}
+use Rattle.std.proofs.lemmas.Grind.{common_steps}
+use Rattle.ep_base.specs.Bytes.{AreBytes, word_at}
+use Rattle.ep_base.specs.IpPayload.{IpPayload}
+use Rattle.ep_base.specs.Layer.{Reading, behind_header, cut_by, len_error}
+use Rattle.ep_base.specs.Missing.{IsCutRefusal, IsCutShort, TellsCut, slice_end}
+use Rattle.ep_base.specs.Tables.{Parts, Refuses, first_row, parts_of}
+use Rattle.ep_base.proofs.BytesLemmas.{AreBytes-payload}
+use Rattle.ep_base.proofs.CutRefusalLemmas.{byte_beside, cut_row, enough, further_short, longer_payload, longer_rest, refused_beside, renamed_cut, same_row, word_beside}
+use Rattle.ep_base.proofs.TableLemmas.{one_value}
+use Rattle.ep_base.specs.declared.err.len_error.LenError.{LenError}
+use Rattle.ep_base.specs.declared.err.layer.Layer.TheVariants as layer
+use Rattle.ep_base.specs.declared.len_source.LenSource.{LenSource}
+use Rattle.ep_base.specs.declared.len_source.LenSource.TheVariants as source
+use Rattle.ep_base.specs.declared.err.ip.SliceError.{SliceError as IpSliceError}
+use Rattle.ep_base.specs.declared.err.ip.SliceError.TheVariants as ip_error
+use Rattle.ep_base.specs.declared.err.ipv4.SliceError.{SliceError as Ipv4SliceError}
+use Rattle.ep_base.specs.declared.err.ipv4.SliceError.TheVariants as ipv4_error
+use Rattle.ep_base.specs.declared.err.ipv6.SliceError.{SliceError as Ipv6SliceError}
+use Rattle.ep_base.specs.declared.err.ipv6.SliceError.TheVariants as ipv6_error
+use Rattle.ep_base.specs.declared.err.ipv6_exts.HeaderSliceError.{HeaderSliceError as ExtsSliceError}
+use Rattle.ep_base.specs.declared.err.ipv6_exts.HeaderSliceError.TheVariants as exts_error
+use Rattle.ep_ext.specs.Chains.{ExtensionChain, ipv6, chain_of, IsExtensionChain}
+use Rattle.ep_ext.proofs.CutRefusalLemmas.{IsCut, chain_cut, longer_chain}
+use Rattle.ep_ip.specs.declared.ipv4_header.Ipv4Header.{Ipv4Header}
+use Rattle.ep_ip.specs.declared.ipv6_header.Ipv6Header.{Ipv6Header}
+use Rattle.ep_ip.specs.Ip.{version_of}
+use Rattle.ep_ip.specs.Ipv4.{IsIpv4Packet, RefusesIpv4Packet, ihl_of, ipv4_packet_rows}
+use Rattle.ep_ip.specs.Ipv6.{IsIpv6Packet, RefusesIpv6Packet, ipv6_bytes, ipv6_cut_limit, ipv6_packet_rows, ipv6_payload_source}
+use Rattle.ep_ip.specs.IpPackets.{IpPacket, IpPart, IsIp, IsIpv4, IsIpv6, RefusesIp, RefusesIpv4, RefusesIpv6, ip_cut_limit, ip_version_rows, ipv4_part, ipv6_chain_refusal, ipv6_part, of_ipv4_error, of_ipv6_error}
+use Rattle.ep_ip.proofs.Ipv4Lemmas.{ipv4_packet_is_read}
+use Rattle.ep_ip.proofs.Ipv6Lemmas.{ipv6_packet_is_read}
+use Rattle.ep_ip.proofs.IpBytesLemmas.{ipv6_len}
+use Rattle.ep_ip.proofs.PacketLemmas.{ipv4_decided, ipv4_version, ipv6_decided, ipv6_version, version_rows_none}
+
+-- ---- IPv4
+
+abbrev Ipv4Cut : List ℕ → List ℕ → Ipv4SliceError → Type 0
+Ipv4Cut front back = IsCutRefusal ipv4_error.Len slice_end (length front) (length (front ++ back))
+
+pub ipv4_packet_cut : TellsCut IsIpv4Packet RefusesIpv4Packet ipv4_error.Len (λ packet. slice_end)
+ipv4_packet_cut front back fits packet is error refused =
+    let Such = Ipv4Cut front back in
+    refused_beside Such (ipv4_packet_rows front) (ipv4_packet_rows (front ++ back))
+    (λ long. (
+      cut_row ipv4_error.Len slice_end front back 20 20 source.Slice layer.Ipv4Header refl refl long,
+      λ short.
+      let there = enough (length front) 20 short in
+      let first = byte_beside front back 0 (omega (arith, there)) in
+      let total = word_beside front back 2 (omega (arith, there)) in
+      let header = ap (λ (b : ℕ). 4 * (b % 16)) first in
+      λ version. (
+        same_row Such _ _ _ (ap (λ (b : ℕ). not (b / 16 == 4)) first) version,
+        λ known.
+        λ words. (
+          same_row Such _ _ _ (ap (λ (b : ℕ). nat_lt (b % 16) 5) first) words,
+          λ also.
+          λ options. (
+            cut_row ipv4_error.Len slice_end front back (4 * ihl_of front) (4 * ihl_of (front ++ back)) source.Slice
+                layer.Ipv4Header refl header options,
+            λ stands.
+            λ least. (
+              same_row Such _ _ _ (λ i. nat_lt (total i) (header i)) least,
+              λ holds.
+              λ whole. (
+                cut_row ipv4_error.Len slice_end front back (word_at front 2) (word_at (front ++ back) 2) source.Slice
+                    layer.Ipv4Packet refl total whole,
+                λ last. tt,
+              ),
+            ),
+          ),
+        ),
+      ),
+    ))
+    (ipv4_packet_is_read.is_read (front ++ back) packet is).0 error refused
+
+-- a packet stands with any bytes behind it
+longer_ipv4_packet : (bytes more : List ℕ) (packet : Parts Ipv4Header) → IsIpv4Packet bytes packet
+    → IsIpv4Packet (bytes ++ more) (parts_of packet.header packet.payload (packet.left ++ more))
+longer_ipv4_packet bytes more packet is = record {
+  encoded = is.encoded;
+  encodes = is.encodes;
+  parts = longer_rest bytes (is.encoded ++ packet.payload) packet.left more is.parts;
+  cut = is.cut;
+}
+
+-- the same packet, with these bytes left behind it
+abbrev pub with_left : {Header : Type 0} → IpPacket Header → List ℕ → IpPacket Header
+with_left packet more = record packet { left = packet.left ++ more }
+
+pub longer_ipv4 : (reading : Reading) (bytes more : List ℕ) (packet : IpPacket Ipv4Header) → IsIpv4 reading bytes packet
+    → IsIpv4 reading (bytes ++ more) (with_left packet more)
+longer_ipv4 reading bytes more packet is = record {
+  content = is.content;
+  cut = longer_ipv4_packet bytes more (parts_of packet.header is.content packet.left) is.cut;
+  chain = is.chain;
+  fragmented = is.fragmented;
+  source = is.source;
+}
+
+pub ipv4_cut : (reading : Reading) → TellsCut (IsIpv4 reading) (RefusesIpv4 reading) ipv4_error.Len (λ packet. slice_end)
+ipv4_cut reading front back fits packet is error (inl refused) =
+    ipv4_packet_cut front back fits (parts_of packet.header is.content packet.left) is.cut error refused
+ipv4_cut reading front back fits packet is error (inr (cut, cut_is, why)) =
+    let longer = parts_of cut.header cut.payload (cut.left ++ back) in
+    absurd ((ipv4_decided reading (front ++ back) fits).not_both packet error is
+    (inr (longer, longer_ipv4_packet front back cut cut_is, why)))
+
+-- ---- IPv6
+
+abbrev Ipv6Cut : Ipv6Header → List ℕ → List ℕ → Ipv6SliceError → Type 0
+Ipv6Cut header front back = IsCutRefusal ipv6_error.Len (ipv6_cut_limit 0 header) (length front) (length (front ++ back))
+
+pub ipv6_packet_cut : TellsCut IsIpv6Packet RefusesIpv6Packet ipv6_error.Len (λ packet. ipv6_cut_limit 0 packet.header)
+ipv6_packet_cut front back fits packet is error refused =
+    let Such = Ipv6Cut packet.header front back in
+    let limit = ipv6_cut_limit 0 packet.header in
+    refused_beside Such (ipv6_packet_rows front) (ipv6_packet_rows (front ++ back))
+    (λ long. (
+      cut_row ipv6_error.Len limit front back 40 40 source.Slice layer.Ipv6Header refl refl long,
+      λ short.
+      let there = enough (length front) 40 short in
+      let first = byte_beside front back 0 (omega (arith, there)) in
+      let field = word_beside front back 4 (omega (arith, there)) in
+      λ version. (
+        same_row Such _ _ _ (ap (λ (b : ℕ). not (b / 16 == 6)) first) version,
+        λ known.
+        λ whole. (
+          cut_row ipv6_error.Len limit front back (40 + word_at front 4) (40 + word_at (front ++ back) 4) source.Slice
+              layer.Ipv6Packet refl (ap (λ (n : ℕ). 40 + n) field) whole,
+          λ last. tt,
+        ),
+      ),
+    ))
+    (ipv6_packet_is_read.is_read (front ++ back) packet is).0 error refused
+
+-- a packet whose payload length cuts stands with any bytes behind it, which are left
+longer_counted : (bytes more : List ℕ) (packet : Parts Ipv6Header) → IsIpv6Packet bytes packet
+    → (0 < packet.header.payload_length) × (packet.header.payload_length ≡ length packet.payload)
+    → IsIpv6Packet (bytes ++ more) (parts_of packet.header packet.payload (packet.left ++ more))
+longer_counted bytes more packet is counted = record {
+  fits = is.fits;
+  parts = longer_rest bytes (ipv6_bytes packet.header ++ packet.payload) packet.left more is.parts;
+  cut = inl counted;
+}
+
+-- one whose payload length is 0 has them in its payload
+longer_open : (bytes more : List ℕ) (packet : Parts Ipv6Header) → IsIpv6Packet bytes packet
+    → (packet.header.payload_length ≡ 0) × (packet.left ≡ [])
+    → IsIpv6Packet (bytes ++ more) (parts_of packet.header (packet.payload ++ more) [])
+longer_open bytes more packet is zero_length = record {
+  fits = is.fits;
+  parts = longer_payload bytes (ipv6_bytes packet.header) packet.payload packet.left more is.parts zero_length.1;
+  cut = inr (zero_length.0, refl);
+}
+
+-- the limit of a payload whose payload length is 0, of which a refusal counts the bytes up to their end
+pub open_limit : (start offset len there field : ℕ) → offset + len ≡ there → field ≡ 0
+    → (if (field == 0) && nat_lt 0 there then source.Slice else source.Ipv6HeaderPayloadLen)
+    ≡ (if (offset + (start + 40) == start + 40) && ((len == 0) && (field == 0))
+    then source.Ipv6HeaderPayloadLen else source.Slice)
+open_limit start offset len there field counted zero_is = grind (arith, common_steps)
+
+-- a refusal of the extension headers of a packet whose payload length is 0
+open_cut : (front back : List ℕ) (header : Ipv6Header) (cut : Parts Ipv6Header) → IsIpv6Packet front cut
+    → header ≡ cut.header → cut.header.payload_length ≡ 0 → cut.left ≡ [] → (refusal : ExtsSliceError)
+    → IsCut (length cut.payload) (length (cut.payload ++ back)) refusal
+    → Ipv6Cut header front back (ipv6_chain_refusal cut.header cut.payload refusal)
+open_cut front back header cut is same none nothing refusal known =
+    let missing = known.missing in
+    let limit = ipv6_payload_source cut.header cut.payload in
+    let here : 40 + length cut.payload ≡ length front =
+    omega (
+      arith,
+      ap length is.parts,
+      ap length nothing,
+      length-append (ipv6_bytes cut.header ++ cut.payload) cut.left,
+      length-append (ipv6_bytes cut.header) cut.payload,
+      ipv6_len cut.header is.fits,
+    ) in
+    let whole : 40 + length (cut.payload ++ back) ≡ length (front ++ back) =
+    omega (arith, here, length-append cut.payload back, length-append front back) in
+    let moved = record missing { layer_start_offset = missing.layer_start_offset + 40; len_source = limit } in
+    let limits : ipv6_payload_source cut.header cut.payload ≡ ipv6_cut_limit 0 cut.header moved =
+    open_limit 0 missing.layer_start_offset missing.len (length cut.payload) cut.header.payload_length known.short.there
+    none in
+    record {
+      missing = moved;
+      is = ap (ipv6_chain_refusal cut.header cut.payload) known.is
+          ∙ ap (λ (s : LenSource). ipv6_error.Len (record missing {
+            layer_start_offset = missing.layer_start_offset + 40;
+            len_source = cut_by limit s;
+          })) known.source;
+      short = subst (λ (n : ℕ). IsCutShort n (length (front ++ back)) moved) here
+          (subst (λ (n : ℕ). IsCutShort (40 + length cut.payload) n moved) whole
+          (further_short 40 (length cut.payload) (length (cut.payload ++ back)) limit missing known.short));
+      source = limits ∙ ap (λ (h : Ipv6Header). ipv6_cut_limit 0 h moved) (sym same);
+    }
+
+pub ipv6_cut : (reading : Reading)
+    → TellsCut (IsIpv6 reading) (RefusesIpv6 reading) ipv6_error.Len (λ packet. ipv6_cut_limit 0 packet.header)
+ipv6_cut reading front back fits packet is error (inl refused) =
+    ipv6_packet_cut front back fits (parts_of packet.header is.content packet.left) is.cut error refused
+ipv6_cut reading front back fits packet is error (inr (cut, cut_is, why)) =
+    elim cut_is.cut [
+      | inl counted ↦
+          let longer = parts_of cut.header cut.payload (cut.left ++ back) in
+          absurd ((ipv6_decided reading (front ++ back) fits).not_both packet error is
+          (inr (longer, longer_counted front back cut cut_is counted, why)))
+      | inr zero_length ↦
+          let content = cut.payload ++ back in
+          let stands = longer_open front back cut cut_is zero_length in
+          let same = one_value ipv6_packet_is_read (front ++ back) (parts_of packet.header is.content packet.left)
+          (parts_of cut.header content []) is.cut stands in
+          let chain = chain_of packet.extensions packet.payload.number packet.payload.bytes in
+          let chain_is : IsExtensionChain ipv6 reading cut.header.next_header.0 content chain =
+          subst (λ (p : Parts Ipv6Header). IsExtensionChain ipv6 reading p.header.next_header.0 p.payload chain) same
+          is.chain in
+          let content_fits = AreBytes-payload (front ++ back) (ipv6_bytes cut.header) content [] fits stands.parts in
+          subst (Ipv6Cut packet.header front back) (sym why.2)
+          (open_cut front back packet.header cut cut_is (ap (λ (p : Parts Ipv6Header). p.header) same) zero_length.0 zero_length.1 why.0
+          (chain_cut ipv6 reading cut.header.next_header.0 cut.payload back content_fits chain chain_is why.0 why.1))
+    ]
+
+-- the same packet, with these bytes in its payload, behind so much content
+abbrev pub with_more : IpPacket Ipv6Header → List ℕ → List ℕ → IpPacket Ipv6Header
+with_more packet content more = record {
+  header = packet.header;
+  extensions = packet.extensions;
+  payload = record {
+    number = packet.payload.number;
+    fragmented = packet.payload.fragmented;
+    source = ipv6_payload_source packet.header (content ++ more);
+    bytes = packet.payload.bytes ++ more;
+  };
+  left = [];
+}
+
+-- a packet stands with any bytes behind it, which are left, or belong to the payload where the payload length is 0
+pub longer_ipv6 : (reading : Reading) (bytes more : List ℕ) (packet : IpPacket Ipv6Header) (is : IsIpv6 reading bytes packet)
+    → IsIpv6 reading (bytes ++ more) (with_left packet more)
+    ⊎ ((packet.header.payload_length ≡ 0) × (packet.left ≡ [])
+    × IsIpv6 reading (bytes ++ more) (with_more packet is.content more))
+longer_ipv6 reading bytes more packet is =
+    let cut = parts_of packet.header is.content packet.left in
+    elim is.cut.cut [
+      | inl counted ↦ inl (record {
+        content = is.content;
+        cut = longer_counted bytes more cut is.cut counted;
+        chain = is.chain;
+        fragmented = is.fragmented;
+        source = is.source;
+      })
+      | inr zero_length ↦ inr (
+        zero_length.0,
+        zero_length.1,
+        record {
+          content = is.content ++ more;
+          cut = longer_open bytes more cut is.cut zero_length;
+          chain = longer_chain ipv6 reading packet.header.next_header.0 is.content more
+              (chain_of packet.extensions packet.payload.number packet.payload.bytes) is.chain;
+          fragmented = is.fragmented;
+          source = refl;
+        },
+      )
+    ]
+
+-- ---- of open version
+
+abbrev IpCut : (LenError → LenSource) → List ℕ → List ℕ → IpSliceError → Type 0
+IpCut limit front back = IsCutRefusal ip_error.Len limit (length front) (length (front ++ back))
+
+-- no byte is there to read the version from
+no_byte : (limit : LenError → LenSource) (front back : List ℕ)
+    → source.Slice ≡ limit (len_error 1 0 source.Slice layer.IpHeader)
+    → (length (front ++ back) == 0) ≡ false → (length front == 0) ≡ true
+    → IpCut limit front back (ip_error.Len (len_error 1 0 source.Slice layer.IpHeader))
+no_byte limit front back by some none = record {
+  missing = len_error 1 0 source.Slice layer.IpHeader;
+  is = refl;
+  short = record {
+    there = grind (arith, common_steps);
+    needed = omega arith;
+    within = grind (arith, common_steps);
+  };
+  source = by;
+}
+
+version_cut : (limit : LenError → LenSource) (front back : List ℕ)
+    → source.Slice ≡ limit (len_error 1 0 source.Slice layer.IpHeader)
+    → first_row (ip_version_rows (front ++ back)) ≡ None → (error : IpSliceError)
+    → Refuses (ip_version_rows front) error → IpCut limit front back error
+version_cut limit front back by none error refused =
+    refused_beside (IpCut limit front back) (ip_version_rows front) (ip_version_rows (front ++ back))
+    (λ some. (
+      no_byte limit front back by some,
+      λ byte.
+      let there : 1 ≤ length front = grind (arith, common_steps) in
+      let first = byte_beside front back 0 (omega (arith, there)) in
+      λ version. (
+        same_row (IpCut limit front back) _ _ _ (ap (λ (b : ℕ). not (b / 16 == 4 || b / 16 == 6)) first) version,
+        λ last. tt,
+      ),
+    ))
+    none error refused
+
+-- bytes of a version have a first one, with which the whole begins too
+same_version : (front back : List ℕ) → (version_of front ≡ 0 → ⊥) → version_of front ≡ version_of (front ++ back)
+same_version [] back some = absurd (some refl)
+same_version (byte ∷ front) back some = refl
+
+pub ip_cut : (reading : Reading) → TellsCut (IsIp reading) (RefusesIp reading) ip_error.Len (ip_cut_limit 0)
+ip_cut reading front back fits (ipv4_part packet) is error (inl refused) =
+    version_cut slice_end front back refl
+    (version_rows_none (front ++ back) (inl (ipv4_version reading (front ++ back) packet is))) error refused
+ip_cut reading front back fits (ipv6_part packet) is error (inl refused) =
+    version_cut (ipv6_cut_limit 0 packet.header) front back refl
+    (version_rows_none (front ++ back) (inr (ipv6_version reading (front ++ back) packet is))) error refused
+ip_cut reading front back fits (ipv4_part packet) is error (inr (inl refused)) =
+    renamed_cut of_ipv4_error ipv4_error.Len slice_end (length front) (length (front ++ back)) refused.1.0 error
+    (ipv4_cut reading front back fits packet is refused.1.0 refused.1.1) refused.1.2
+ip_cut reading front back fits (ipv6_part packet) is error (inr (inl refused)) =
+    let same = same_version front back (λ none. omega (arith, refused.0, none)) in
+    absurd (omega (arith, refused.0, same, ipv6_version reading (front ++ back) packet is))
+ip_cut reading front back fits (ipv4_part packet) is error (inr (inr refused)) =
+    let same = same_version front back (λ none. omega (arith, refused.0, none)) in
+    absurd (omega (arith, refused.0, same, ipv4_version reading (front ++ back) packet is))
+ip_cut reading front back fits (ipv6_part packet) is error (inr (inr refused)) =
+    renamed_cut of_ipv6_error ipv6_error.Len (ipv6_cut_limit 0 packet.header) (length front) (length (front ++ back))
+    refused.1.0 error (ipv6_cut reading front back fits packet is refused.1.0 refused.1.1) refused.1.2

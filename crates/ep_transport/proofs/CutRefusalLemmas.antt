@@ -1,0 +1,152 @@
+-- That the front of a transport layer is refused for want of what the cut took.
+use Rattle.std.proofs.Common.{◌≡◌, ℕ, ◌+◌, ◌*◌, ◌/◌, ◌<◌, ◌==◌, if◌then◌else◌, Bool, true, false, not, List, [], ◌∷◌, ◌++◌, length, Option, Some, None, refl, sym, ap, subst, ◌∙◌, inl, inr, arith, length-append}
+use Rattle.std.specs.Prelude.{◌&&◌, nat_lt}
+use Rattle.std.proofs.lemmas.Grind.{common_steps}
+use Rattle.ep_base.specs.Bytes.{word_at}
+use Rattle.ep_base.specs.IpNumbers.{icmpv4_number, icmpv6_number, tcp_number, udp_number}
+use Rattle.ep_base.specs.Layer.{Reading, headers, len_error, slices}
+use Rattle.ep_base.specs.Missing.{IsCutRefusal, TellsCut, slice_end}
+use Rattle.ep_base.specs.Tables.{rows_as}
+use Rattle.ep_base.proofs.CutRefusalLemmas.{BesideRows, byte_beside, cut_row, either_beside, enough, named_beside, refused_beside, same_row, word_beside}
+use Rattle.ep_base.specs.declared.err.len_error.LenError.{LenError}
+use Rattle.ep_base.specs.declared.err.layer.Layer.{Layer}
+use Rattle.ep_base.specs.declared.err.layer.Layer.TheVariants as layer
+use Rattle.ep_base.specs.declared.len_source.LenSource.TheVariants as source
+use Rattle.ep_base.specs.declared.err.tcp.HeaderSliceError.{HeaderSliceError}
+use Rattle.ep_base.specs.declared.err.tcp.HeaderSliceError.TheVariants.{Len, Content}
+use Rattle.ep_transport.specs.declared.icmpv4.kind.Icmpv4Kind.{Icmpv4Kind}
+use Rattle.ep_transport.specs.declared.icmpv4.kind.Icmpv4Kind.TheVariants as kind
+use Rattle.ep_transport.specs.Icmpv4.{icmpv4_kind_at, icmpv4_kind_of, icmpv4_rows, icmpv4_timestamp_rows}
+use Rattle.ep_transport.specs.Icmpv6.{icmpv6_rows}
+use Rattle.ep_transport.specs.Tcp.{data_offset_of, tcp_rows}
+use Rattle.ep_transport.specs.TransportParts.{IsTransportPart, RefusesTransportPart, transport_part_rows, transport_rows, udp_part_rows}
+use Rattle.ep_transport.specs.Udp.{udp_header_rows, udp_rows}
+use Rattle.ep_transport.proofs.TransportLemmas.{transport_is_read}
+
+-- a refusal for want of what the cut took
+abbrev Beside : List ℕ → List ℕ → HeaderSliceError → Type 0
+Beside front back = IsCutRefusal Len slice_end (length front) (length (front ++ back))
+
+-- the same of an error that has no other name yet
+abbrev LenBeside : List ℕ → List ℕ → LenError → Type 0
+LenBeside front back error = Beside front back (Len error)
+
+-- ---- the tables
+
+udp_header_beside : (front back : List ℕ)
+    → BesideRows (LenBeside front back) (udp_header_rows front) (udp_header_rows (front ++ back))
+udp_header_beside front back long =
+    (cut_row Len slice_end front back 8 8 source.Slice layer.UdpHeader refl refl long, λ there. tt)
+
+udp_beside : (front back : List ℕ) → BesideRows (LenBeside front back) (udp_rows front) (udp_rows (front ++ back))
+udp_beside front back long = (
+  cut_row Len slice_end front back 8 8 source.Slice layer.UdpHeader refl refl long,
+  λ short.
+  let there = enough (length front) 8 short in
+  let field = word_beside front back 4 (omega (arith, there)) in
+  λ least. (
+    same_row (LenBeside front back) _ _ _ (ap (λ (n : ℕ). nat_lt 0 n && nat_lt n 8) field) least,
+    λ also.
+    λ whole. (
+      cut_row Len slice_end front back (word_at front 4) (word_at (front ++ back) 4) source.Slice layer.UdpPayload refl field
+          whole,
+      λ last. tt,
+    ),
+  ),
+)
+
+udp_part_beside : (reading : Reading) (front back : List ℕ)
+    → BesideRows (LenBeside front back) (udp_part_rows reading front) (udp_part_rows reading (front ++ back))
+udp_part_beside slices front back = udp_beside front back
+udp_part_beside headers front back = udp_header_beside front back
+
+tcp_beside : (front back : List ℕ) → BesideRows (Beside front back) (tcp_rows front) (tcp_rows (front ++ back))
+tcp_beside front back long = (
+  cut_row Len slice_end front back 20 20 source.Slice layer.TcpHeader refl refl long,
+  λ short.
+  let there = enough (length front) 20 short in
+  let field = byte_beside front back 12 (omega (arith, there)) in
+  λ least. (
+    same_row (Beside front back) _ _ _ (ap (λ (b : ℕ). nat_lt (b / 16) 5) field) least,
+    λ also.
+    λ whole. (
+      cut_row Len slice_end front back (4 * data_offset_of front) (4 * data_offset_of (front ++ back)) source.Slice
+          layer.TcpHeader refl (ap (λ (b : ℕ). 4 * (b / 16)) field) whole,
+      λ last. tt,
+    ),
+  ),
+)
+
+-- a message that must have exactly 20 bytes
+exact_row : (front back : List ℕ) (place : Layer) → not (length (front ++ back) == 20) ≡ false
+    → not (length front == 20) ≡ true → LenBeside front back (len_error 20 (length front) source.Slice place)
+exact_row front back place exact other =
+    let whole : length (front ++ back) ≡ 20 = grind (arith, common_steps) in
+    let below : length front < 20 = grind (arith, common_steps, whole, other, length-append front back) in
+    record {
+      missing = len_error 20 (length front) source.Slice place;
+      is = refl;
+      short = record { there = omega arith; needed = below; within = omega (arith, whole) };
+      source = refl;
+    }
+
+timestamp_beside : (front back : List ℕ) (of : Option Icmpv4Kind) → BesideRows (LenBeside front back)
+    (icmpv4_timestamp_rows of (length front)) (icmpv4_timestamp_rows of (length (front ++ back)))
+timestamp_beside front back None = tt
+timestamp_beside front back (Some kind.EchoReply) = tt
+timestamp_beside front back (Some kind.DestinationUnreachable) = tt
+timestamp_beside front back (Some kind.Redirect) = tt
+timestamp_beside front back (Some kind.EchoRequest) = tt
+timestamp_beside front back (Some kind.TimeExceeded) = tt
+timestamp_beside front back (Some kind.ParameterProblem) = tt
+timestamp_beside front back (Some kind.TimestampRequest) =
+    λ exact. (exact_row front back layer.Icmpv4Timestamp exact, λ last. tt)
+timestamp_beside front back (Some kind.TimestampReply) =
+    λ exact. (exact_row front back layer.Icmpv4TimestampReply exact, λ last. tt)
+
+icmpv4_beside : (front back : List ℕ)
+    → BesideRows (LenBeside front back) (icmpv4_rows front) (icmpv4_rows (front ++ back))
+icmpv4_beside front back long = (
+  cut_row Len slice_end front back 8 8 source.Slice layer.Icmpv4 refl refl long,
+  λ short.
+  let there = enough (length front) 8 short in
+  let type = byte_beside front back 0 (omega (arith, there)) in
+  let code = byte_beside front back 1 (omega (arith, there)) in
+  let same : icmpv4_kind_at front ≡ icmpv4_kind_at (front ++ back) = λ i. icmpv4_kind_of (type i) (code i) in
+  subst (λ (of : Option Icmpv4Kind). BesideRows (LenBeside front back) (icmpv4_timestamp_rows (icmpv4_kind_at front)
+  (length front)) (icmpv4_timestamp_rows of (length (front ++ back)))) same
+  (timestamp_beside front back (icmpv4_kind_at front)),
+)
+
+icmpv6_beside : (front back : List ℕ)
+    → BesideRows (LenBeside front back) (icmpv6_rows front) (icmpv6_rows (front ++ back))
+icmpv6_beside front back long =
+    (cut_row Len slice_end front back 8 8 source.Slice layer.Icmpv6 refl refl long, λ there. tt)
+
+transport_beside : (reading : Reading) (number : ℕ) (front back : List ℕ)
+    → BesideRows (Beside front back) (transport_rows reading number front) (transport_rows reading number (front ++ back))
+transport_beside reading number front back =
+    let Such = Beside front back in
+    either_beside Such (number == udp_number) _ _ _ _
+    (named_beside Such Len (udp_part_rows reading front) (udp_part_rows reading (front ++ back))
+    (udp_part_beside reading front back))
+    (either_beside Such (number == tcp_number) _ _ _ _ (tcp_beside front back)
+    (either_beside Such (number == icmpv4_number) _ _ _ _
+    (named_beside Such Len (icmpv4_rows front) (icmpv4_rows (front ++ back)) (icmpv4_beside front back))
+    (either_beside Such (number == icmpv6_number) (rows_as Len (icmpv6_rows front)) []
+    (rows_as Len (icmpv6_rows (front ++ back))) []
+    (named_beside Such Len (icmpv6_rows front) (icmpv6_rows (front ++ back)) (icmpv6_beside front back)) tt)))
+
+part_beside : (reading : Reading) (number : ℕ) (fragmented : Bool) (front back : List ℕ)
+    → BesideRows (Beside front back) (transport_part_rows reading number fragmented front)
+    (transport_part_rows reading number fragmented (front ++ back))
+part_beside reading number true front back = tt
+part_beside reading number false front back = transport_beside reading number front back
+
+pub transport_cut : (reading : Reading) (number : ℕ) (fragmented : Bool)
+    → TellsCut (IsTransportPart reading number fragmented) (RefusesTransportPart reading number fragmented) Len
+    (λ part. slice_end)
+transport_cut reading number fragmented front back fits part is error refused =
+    refused_beside (Beside front back) (transport_part_rows reading number fragmented front)
+    (transport_part_rows reading number fragmented (front ++ back)) (part_beside reading number fragmented front back)
+    ((transport_is_read reading number fragmented).is_read (front ++ back) part is).0 error refused
