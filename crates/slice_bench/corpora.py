@@ -10,6 +10,12 @@ vlan2        udp64 behind a service tag and a customer tag
 mix          IPv4 and IPv6, with and without options, extension headers and tags; UDP, TCP with options, ICMP, ARP
 interleaved  1,000 streams of FRAGMENTS fragments each (1,000 where it is left out) of 64 bytes, in turn
 streams      the same fragments, one stream after the other
+crowd        100,000 streams of a hundredth of FRAGMENTS fragments each (10, at least 1) of 64 bytes, in turn
+queue        the same fragments, one stream after the other
+ascending    a payload of 65,528 bytes in fragments of 8 bytes, from the first to the last
+descending   the same fragments, from the last to the first
+shuffled     the same in random order
+alternating  the same, every second one first
 """
 import random
 import struct
@@ -17,6 +23,7 @@ import sys
 
 FRAMES = 1000
 STREAMS = 1000
+CROWD = 100_000
 
 
 def checksum(data):
@@ -131,14 +138,14 @@ def mixed_frame(rng):
     return ethernet(rng, 0x86DD, ipv6(rng, 58, icmp(rng, 128, payload, pseudo), six), tags)
 
 
-def stream_fragments(rng, count):
-    """The fragments of a UDP datagram without a checksum, of 64 bytes each."""
+def stream_fragments(rng, count, size=64):
+    """The fragments of a UDP datagram without a checksum, of so many bytes each, a multiple of 8."""
     addresses, ident = rng.randbytes(8), rng.randrange(65536)
-    payload = rng.randbytes(64 * count)
+    payload = rng.randbytes(size * count)
     payload = payload[:4] + struct.pack(">HH", len(payload), 0) + payload[8:]
     for at in range(count):
-        flags = (0x2000 if at + 1 < count else 0) | at * 8
-        packet = ipv4(rng, 17, payload[64 * at : 64 * at + 64], b"", addresses, ident, flags)
+        flags = (0x2000 if at + 1 < count else 0) | at * size // 8
+        packet = ipv4(rng, 17, payload[size * at : size * at + size], b"", addresses, ident, flags)
         yield ethernet(rng, 0x0800, packet)
 
 
@@ -164,6 +171,14 @@ def main(arguments):
     streams = [list(stream_fragments(rng, fragments)) for _ in range(STREAMS)]
     write(folder, "streams", (frame for stream in streams for frame in stream))
     write(folder, "interleaved", (frame for turn in zip(*streams) for frame in turn))
+    streams = [list(stream_fragments(rng, max(1, fragments // 100))) for _ in range(CROWD)]
+    write(folder, "queue", (frame for stream in streams for frame in stream))
+    write(folder, "crowd", (frame for turn in zip(*streams) for frame in turn))
+    frames = list(stream_fragments(rng, 8191, 8))
+    write(folder, "ascending", frames)
+    write(folder, "descending", frames[::-1])
+    write(folder, "shuffled", rng.sample(frames, len(frames)))
+    write(folder, "alternating", frames[::2] + frames[1::2])
 
 
 if __name__ == "__main__":
