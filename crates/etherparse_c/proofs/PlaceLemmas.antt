@@ -1,0 +1,136 @@
+-- Where in a frame the bytes are that C is told of.
+use Rattle.std.proofs.Common.{◌≡◌, ℕ, ◌+◌, ◌-◌, ◌<◌, ◌≤◌, ◌^◌, List, [], ◌∷◌, ◌++◌, length, take, drop, refl, sym, ap, subst, ◌∙◌, arith, append_assoc, length-append}
+use Rattle.std.proofs.Math.Seq.{drop-append_seam, take-append_seam}
+use Rattle.ep_base.specs.Layer.{slices}
+use Rattle.ep_link.specs.LinkExtensions.{LinkExtension, EncodesTag}
+use Rattle.ep_transport.specs.TransportParts.{EncodesTransport}
+use Rattle.ep_packet.specs.declared.entry.Entry.{Entry}
+use Rattle.ep_packet.specs.Frame.{IsFrame}
+use Rattle.ep_packet.specs.FrameBytes.{AreInOrder, EncodesLink, EncodesNet, EncodesTags, last_payload}
+use Rattle.ep_packet.specs.Layers.{Layers}
+use Rattle.ep_packet.proofs.FrameBytesLemmas.{frame_in_order}
+use Rattle.ep_packet.proofs.LayerLaws.{layer_laws}
+use Rattle.etherparse_c.specs.declared.packet.Packet.{Packet}
+use Rattle.etherparse_c.specs.Description.{description, link_len, net_len, net_offset, payload_offset, tag_len, transport_len, transport_offset}
+use Rattle.etherparse_c.specs.Places.{AreTagsAt, Describes, bytes_at}
+use Rattle.etherparse_c.proofs.LenLemmas.{link_encoded, net_encoded, tag_encoded, tags_encoded, transport_encoded}
+
+-- bytes behind so many others
+pub bytes_behind : (bytes front part behind : List ℕ) (offset len : ℕ) → bytes ≡ front ++ (part ++ behind)
+    → length front ≡ offset → length part ≡ len → bytes_at bytes offset len ≡ part
+bytes_behind bytes front part behind offset len same front_len part_len =
+    let cut : (offset + len) - offset ≡ length part = omega (arith, part_len) in
+    let there : drop offset bytes ≡ part ++ behind =
+    ap (λ (b : List ℕ). drop offset b) same
+    ∙ ap (λ (n : ℕ). drop n (front ++ (part ++ behind))) (sym front_len) ∙ drop-append_seam front (part ++ behind) in
+    ap (λ (n : ℕ). take n (drop offset bytes)) cut ∙ ap (λ (b : List ℕ). take (length part) b) there
+    ∙ take-append_seam part behind
+
+-- tags that stand one after the other behind other bytes
+tags_behind : (bytes front tags behind : List ℕ) (offset : ℕ) (extensions : List LinkExtension)
+    → bytes ≡ front ++ (tags ++ behind) → length front ≡ offset → EncodesTags extensions tags
+    → AreTagsAt bytes offset extensions
+tags_behind bytes front tags behind offset [] same front_len encodes = tt
+tags_behind bytes front tags behind offset (extension ∷ others) same front_len (tag, rest, first, more, parts) =
+    let here : bytes ≡ front ++ (tag ++ (rest ++ behind)) =
+    same ∙ ap (λ (x : List ℕ). front ++ (x ++ behind)) parts ∙ ap (λ (x : List ℕ). front ++ x) (append_assoc tag rest behind) in
+    let len = tag_encoded extension tag first in (
+      subst (EncodesTag extension)
+          (sym (bytes_behind bytes front tag (rest ++ behind) offset (tag_len extension) here front_len len)) first,
+      tags_behind bytes (front ++ tag) rest behind (offset + tag_len extension) others
+          (here ∙ sym (append_assoc front tag (rest ++ behind)))
+          (length-append front tag ∙ omega (arith, front_len, len)) more,
+    )
+
+-- the lengths of the headers of a frame whose bytes are in order, and of what lies behind them
+record Lens (bytes : List ℕ) (layers : Layers) (order : AreInOrder bytes layers) : Type 0 where
+  link : length order.link ≡ link_len layers.link
+  tags : length (order.link ++ order.tags) ≡ net_offset layers
+  net : length ((order.link ++ order.tags) ++ order.net) ≡ transport_offset layers
+  transport : length (((order.link ++ order.tags) ++ order.net) ++ order.transport) ≡ payload_offset layers
+
+lens : (bytes : List ℕ) (layers : Layers) (order : AreInOrder bytes layers) → Lens bytes layers order
+lens bytes layers order =
+    let link = link_encoded layers.link order.link order.link_header in
+    let tags = tags_encoded layers.link_exts order.tags order.tag_headers in
+    let net = net_encoded layers.net order.net order.net_header in
+    let transport = transport_encoded layers.transport order.transport order.transport_header in
+    let two = length-append order.link order.tags in
+    let three = length-append (order.link ++ order.tags) order.net in
+    let four = length-append ((order.link ++ order.tags) ++ order.net) order.transport in
+    record {
+      link = link;
+      tags = omega (arith, link, tags, two);
+      net = omega (arith, link, tags, two, net, three);
+      transport = omega (arith, link, tags, two, net, three, transport, four);
+    }
+
+-- the bytes, grouped from the front
+record Grouped (bytes : List ℕ) (layers : Layers) (order : AreInOrder bytes layers) : Type 0 where
+  net : bytes ≡ (order.link ++ order.tags) ++ (order.net ++ (order.transport ++ (last_payload layers ++ order.left)))
+  transport : bytes
+      ≡ ((order.link ++ order.tags) ++ order.net) ++ (order.transport ++ (last_payload layers ++ order.left))
+  payload : bytes
+      ≡ (((order.link ++ order.tags) ++ order.net) ++ order.transport) ++ (last_payload layers ++ order.left)
+
+grouped : (bytes : List ℕ) (layers : Layers) (order : AreInOrder bytes layers) → Grouped bytes layers order
+grouped bytes layers order =
+    let net = order.parts ∙ sym (append_assoc order.link order.tags _) in
+    let transport = net ∙ sym (append_assoc (order.link ++ order.tags) order.net _) in
+    record {
+      net = net;
+      transport = transport;
+      payload = transport ∙ sym (append_assoc ((order.link ++ order.tags) ++ order.net) order.transport _);
+    }
+
+-- the payload of a frame's last layer ends within the frame
+pub within : (bytes : List ℕ) (layers : Layers) → AreInOrder bytes layers
+    → payload_offset layers + length (last_payload layers) ≤ length bytes
+within bytes layers order = omega (
+  arith,
+  ap length (grouped bytes layers order).payload,
+  (lens bytes layers order).transport,
+  length-append (((order.link ++ order.tags) ++ order.net) ++ order.transport) (last_payload layers ++ order.left),
+  length-append (last_payload layers) order.left,
+)
+
+-- what is said of a frame is where its layers are
+pub describes : (entry : Entry) (bytes : List ℕ) (layers : Layers) → IsFrame entry bytes layers
+    → AreInOrder bytes layers → Describes entry bytes layers (description layers)
+describes entry bytes layers frame order =
+    let len = lens bytes layers order in
+    let group = grouped bytes layers order in
+    record {
+      frame = frame;
+      numbers = refl;
+      link = subst (EncodesLink layers.link)
+          (sym (bytes_behind bytes [] order.link _ 0 (link_len layers.link) order.parts refl len.link))
+          order.link_header;
+      tags = tags_behind bytes order.link order.tags _ (link_len layers.link) layers.link_exts order.parts len.link
+          order.tag_headers;
+      net = subst (EncodesNet layers.net)
+          (sym (bytes_behind bytes (order.link ++ order.tags) order.net _ (net_offset layers) (net_len layers.net)
+          group.net len.tags (net_encoded layers.net order.net order.net_header)))
+          order.net_header;
+      transport = subst (EncodesTransport layers.transport)
+          (sym (bytes_behind bytes ((order.link ++ order.tags) ++ order.net) order.transport _
+          (transport_offset layers) (transport_len layers.transport) group.transport len.net
+          (transport_encoded layers.transport order.transport order.transport_header)))
+          order.transport_header;
+      payload = sym (bytes_behind bytes (((order.link ++ order.tags) ++ order.net) ++ order.transport)
+          (last_payload layers) _ (payload_offset layers) (length (last_payload layers)) group.payload len.transport
+          refl);
+    }
+
+-- the same of any packet that says it
+pub frame_describes : (entry : Entry) (bytes : List ℕ) (layers : Layers) (packet : Packet)
+    → IsFrame entry bytes layers → packet ≡ description layers → Describes entry bytes layers packet
+frame_describes entry bytes layers packet frame same =
+    subst (Describes entry bytes layers) (sym same)
+    (describes entry bytes layers frame (frame_in_order layer_laws slices entry bytes layers frame))
+
+-- no offset in a frame is too great for its type
+pub offsets_fit : (entry : Entry) (bytes : List ℕ) (layers : Layers) → IsFrame entry bytes layers
+    → length bytes < 2 ^ 64 → payload_offset layers < 2 ^ 64
+offsets_fit entry bytes layers frame fits =
+    omega (arith, within bytes layers (frame_in_order layer_laws slices entry bytes layers frame), fits)

@@ -1,0 +1,11 @@
+use Rattle.std.proofs.Common.{◌≡◌}
+use Rattle.ep_ext.specs.Ipv6Slices.{ipv6_slice_parts, parts_left}
+use Rattle.ep_packet.specs.Fragments.{first_fragment}
+use Rattle.etherparse_c.proofs.net_part.first_fragment_header.Given as goal
+
+-- no header that is passed is a fragment header
+abbrev pub invariant-loop-extension : goal.invariant-loop-extension
+invariant-loop-extension l =
+    (first_fragment (parts_left l.extension-iterator) ≡ first_fragment (ipv6_slice_parts l.fn.extensions))
+    × (goal.iterator-loop-extension).can_next l.extension-iterator
+    × (goal.iterator-loop-extension).is_finite l.extension-iterator

@@ -1,0 +1,36 @@
+-- What a call of `etherparse_slice` answers.
+use Rattle.std.specs.Prelude.{◌≡◌, ◌==◌, if◌then◌else◌, ℕ, List, ◌⊎◌, Option, Some, None}
+use Rattle.ep_packet.specs.declared.entry.Entry.{Entry}
+use Rattle.ep_packet.specs.declared.entry.Entry.TheVariants.{Ethernet as ethernet, LinuxSll as linux_sll, EtherType as ether_type, Ip as ip}
+use Rattle.ep_packet.specs.declared.err.slice_error.SliceError.{SliceError}
+use Rattle.ep_packet.specs.Layers.{Layers, no_layers}
+use Rattle.ep_packet.specs.Refusals.{RefusesFrame}
+use Rattle.etherparse_c.specs.declared.packet.Packet.{Packet}
+use Rattle.etherparse_c.specs.Description.{description}
+use Rattle.etherparse_c.specs.Places.{Describes}
+use Rattle.etherparse_c.specs.Refusals.{refusal_part}
+
+-- what a frame begins with, by the number that C says it by
+abbrev pub entry_of : ℕ → ℕ → Option Entry
+entry_of number type =
+    if number == 0 then Some ethernet
+    else if number == 1 then Some linux_sll
+    else if number == 2 then Some (ether_type (record { 0 = type }))
+    else if number == 3 then Some ip
+    else None
+
+-- nothing is said: no layer, and no refusal
+abbrev pub nothing_said : Packet
+nothing_said = description no_layers
+
+-- no layer, and this refusal
+abbrev pub refused_packet : SliceError → Packet
+refused_packet error = record nothing_said { refusal = refusal_part error }
+
+-- The status is 0, and the packet describes the frame that the bytes are; or it is 1, and the packet says why they are
+-- none. Where the number is none of an entry, it is 2, and nothing is said.
+abbrev pub IsSliceAnswer : Option Entry → List ℕ → ℕ → Packet → Type 0
+IsSliceAnswer None bytes status packet = (status ≡ 2) × (packet ≡ nothing_said)
+IsSliceAnswer (Some entry) bytes status packet =
+    ((status ≡ 0) × ((layers : Layers) × Describes entry bytes layers packet))
+    ⊎ ((status ≡ 1) × ((error : SliceError) × RefusesFrame entry bytes error × (packet ≡ refused_packet error)))

@@ -1,0 +1,105 @@
+-- What the calls that build a frame answer.
+use Rattle.std.specs.Prelude.{◌≡◌, ◌==◌, ◌<◌, ◌≤◌, not, Bool, if◌then◌else◌, ℕ, List, ◌++◌, length, drop, bit_and, ◌⊎◌, Option, Some, None}
+use Rattle.ep_build.specs.BuiltFrames.{Held, built_frame, held_transport}
+use Rattle.ep_build.specs.BuildErrors.{IsBuildable, RefusesBuild}
+use Rattle.ep_build.specs.Steps.{ipv4_headers_between, ipv6_headers_between, no_type}
+use Rattle.ep_build.specs.declared.link_part.LinkPart.{LinkPart}
+use Rattle.ep_build.specs.declared.link_part.LinkPart.TheVariants as link
+use Rattle.ep_build.specs.declared.err.build_write_error.BuildWriteError.{BuildWriteError}
+use Rattle.ep_packet.specs.declared.ip_headers.IpHeaders.{IpHeaders}
+use Rattle.ep_transport.specs.Tcp.{default_tcp_header}
+use Rattle.ep_transport.specs.declared.transport_header.TransportHeader.{TransportHeader}
+use Rattle.ep_transport.specs.declared.transport_header.TransportHeader.TheVariants as transport
+use Rattle.ep_transport.specs.declared.icmpv4_type.Icmpv4Type.{Icmpv4Type}
+use Rattle.ep_transport.specs.declared.icmpv4_type.Icmpv4Type.TheVariants as v4
+use Rattle.ep_transport.specs.declared.icmpv6_type.Icmpv6Type.{Icmpv6Type}
+use Rattle.ep_transport.specs.declared.icmpv6_type.Icmpv6Type.TheVariants as v6
+use Rattle.etherparse_c.specs.declared.route.Route.{Route}
+use Rattle.etherparse_c.specs.declared.route.TcpFields.{TcpFields}
+
+-- the link header of a route: none, or an Ethernet II header of its addresses
+abbrev pub route_link : Route → LinkPart
+route_link route =
+    if route.with_ethernet == 0 then link.Absent
+    else link.Ethernet2
+    (record { source = route.ethernet_source; destination = route.ethernet_destination; ether_type = no_type })
+
+-- the IP headers of a route, where its version is one
+abbrev pub route_headers : Route → Option IpHeaders
+route_headers route =
+    if route.version == 4
+    then Some (ipv4_headers_between route.ipv4_source route.ipv4_destination route.hop_limit)
+    else if route.version == 6
+    then Some (ipv6_headers_between route.ipv6_source route.ipv6_destination route.hop_limit)
+    else None
+
+-- a UDP header of these ports
+abbrev pub udp_between : ℕ → ℕ → TransportHeader
+udp_between source_port destination_port = transport.Udp
+    (record { source_port = source_port; destination_port = destination_port; length = 0; checksum = 0 })
+
+-- What a call answers that builds the frame of these headers and a payload. The status is 0, and the frame is written to
+-- the front of the buffer; 3, and the buffer has too few bytes for it; 4, and the headers' length fields have no room for
+-- the payload; or 5, and there was no memory. Only at 0 is the buffer changed, and at 0 and 3 the number of the frame's
+-- bytes is told.
+abbrev pub IsBuilt : Held → List ℕ → List ℕ → List ℕ → ℕ → ℕ → Type 0
+IsBuilt held payload old new written status =
+    let frame = built_frame held payload in
+    ((status ≡ 0) × IsBuildable held (length payload) × (length frame ≤ length old)
+    × (new ≡ frame ++ drop (length frame) old) × (written ≡ length frame))
+    ⊎ ((status ≡ 3) × IsBuildable held (length payload) × (length old < length frame)
+    × (new ≡ old) × (written ≡ length frame))
+    ⊎ ((status ≡ 4) × ((error : BuildWriteError) × RefusesBuild held (length payload) error)
+    × (new ≡ old) × (written ≡ 0))
+    ⊎ ((status ≡ 5) × (new ≡ old) × (written ≡ 0))
+
+-- The same for a route and a transport header. Where the version of the route is none, the status is 2, and nothing is
+-- changed.
+abbrev pub IsBuildAnswerBy : LinkPart → TransportHeader → Option IpHeaders → List ℕ → List ℕ → List ℕ → ℕ → ℕ → Type 0
+IsBuildAnswerBy link behind None payload old new written status = (status ≡ 2) × (new ≡ old) × (written ≡ 0)
+IsBuildAnswerBy link behind (Some headers) payload old new written status =
+    IsBuilt (held_transport link headers behind) payload old new written status
+
+abbrev pub IsBuildAnswer : Route → TransportHeader → List ℕ → List ℕ → List ℕ → ℕ → ℕ → Type 0
+IsBuildAnswer route behind = IsBuildAnswerBy (route_link route) behind (route_headers route)
+
+-- a flag among the bits of a number
+abbrev pub has_flag : ℕ → ℕ → Bool
+has_flag flags mask = not (bit_and flags mask == 0)
+
+-- a TCP header of these fields, without options
+unfoldable pub tcp_of : TcpFields → TransportHeader
+tcp_of fields = transport.Tcp (record default_tcp_header {
+  source_port = fields.source_port;
+  destination_port = fields.destination_port;
+  sequence_number = fields.sequence_number;
+  acknowledgment_number = fields.acknowledgment_number;
+  fin = has_flag fields.flags 1;
+  syn = has_flag fields.flags 2;
+  rst = has_flag fields.flags 4;
+  psh = has_flag fields.flags 8;
+  ack = has_flag fields.flags 16;
+  urg = has_flag fields.flags 32;
+  ece = has_flag fields.flags 64;
+  cwr = has_flag fields.flags 128;
+  window_size = fields.window_size;
+  urgent_pointer = fields.urgent_pointer;
+})
+
+-- an echo message of ICMP: a request or a reply, with this identifier and number
+abbrev pub icmpv4_echo : ℕ → ℕ → ℕ → Icmpv4Type
+icmpv4_echo is_reply id seq =
+    if is_reply == 0 then v4.EchoRequest (record { id = id; seq = seq })
+    else v4.EchoReply (record { id = id; seq = seq })
+
+abbrev pub icmpv6_echo : ℕ → ℕ → ℕ → Icmpv6Type
+icmpv6_echo is_reply id seq =
+    if is_reply == 0 then v6.EchoRequest (record { id = id; seq = seq })
+    else v6.EchoReply (record { id = id; seq = seq })
+
+-- the echo message of the route's version of IP
+abbrev pub echo_of : Route → ℕ → ℕ → ℕ → TransportHeader
+echo_of route is_reply id seq =
+    if route.version == 4
+    then transport.Icmpv4 (record { icmp_type = icmpv4_echo is_reply id seq; checksum = 0 })
+    else transport.Icmpv6 (record { icmp_type = icmpv6_echo is_reply id seq; checksum = 0 })

@@ -1,0 +1,291 @@
+-- What C is told of the layers of a frame: what each is, where it begins and how long it is. Each begins where the one
+-- before it ends.
+use Rattle.std.specs.Prelude.{ℕ, ◌+◌, ◌-◌, ◌*◌, ◌==◌, if◌then◌else◌, List, [], ◌∷◌, ◌++◌, length, replicate, Option, Some, None}
+use Rattle.ep_base.specs.Bytes.{bit}
+use Rattle.ep_base.specs.IpPayload.{IpPayload}
+use Rattle.ep_base.specs.Layer.{cut_by}
+use Rattle.ep_base.specs.declared.len_source.LenSource.{LenSource}
+use Rattle.ep_base.specs.declared.len_source.LenSource.TheVariants as source
+use Rattle.ep_ext.specs.declared.ipv6_fragment_header.Ipv6FragmentHeader.{Ipv6FragmentHeader}
+use Rattle.ep_ext.specs.ExtensionParts.{ExtensionPart, part_len}
+use Rattle.ep_ip.specs.Ipv4.{ipv4_header_len}
+use Rattle.ep_ip.specs.declared.ipv4_header.Ipv4Header.{Ipv4Header}
+use Rattle.ep_link.specs.Arp.{arp_len}
+use Rattle.ep_link.specs.LinkExtensions.{LinkExtension, vlan, macsec, extension_header, link_ext_header_len}
+use Rattle.ep_link.specs.LinkSlices.{LinkLayer, ethernet2, linux_sll, ether_payload, linux_sll_payload, link_layer_header_len}
+use Rattle.ep_transport.specs.TransportHeaders.{transport_header_len}
+use Rattle.ep_transport.specs.TransportParts.{TransportLayer}
+use Rattle.ep_transport.specs.declared.transport_header.TransportHeader.{TransportHeader}
+use Rattle.ep_transport.specs.declared.transport_header.TransportHeader.TheVariants as transport
+use Rattle.ep_packet.specs.Fragments.{first_fragment}
+use Rattle.ep_packet.specs.FrameBytes.{last_payload}
+use Rattle.ep_packet.specs.Layers.{Layers, NetLayer, ipv4, ipv6, arp}
+use Rattle.ep_packet.specs.Payloads.{extensions_len_source}
+use Rattle.etherparse_c.specs.declared.packet.Part.{Part}
+use Rattle.etherparse_c.specs.declared.packet.LinkExt.{LinkExt}
+use Rattle.etherparse_c.specs.declared.packet.Ip.{Ip}
+use Rattle.etherparse_c.specs.declared.packet.Payload.{Payload}
+use Rattle.etherparse_c.specs.declared.packet.Refusal.{Refusal}
+use Rattle.etherparse_c.specs.declared.packet.Packet.{Packet}
+
+-- a header of this kind, from this offset on
+abbrev pub part : ℕ → ℕ → ℕ → Part
+part kind offset len = record { kind = kind; offset = offset; len = len }
+
+-- ---- the link header
+
+-- what a link layer's header is: 1 of Ethernet II, 2 of a Linux cooked capture, 0 where it has none
+abbrev pub link_kind : Option LinkLayer → ℕ
+link_kind None = 0
+link_kind (Some (ethernet2 header payload)) = 1
+link_kind (Some (linux_sll header payload)) = 2
+link_kind (Some (ether_payload type source payload)) = 0
+link_kind (Some (linux_sll_payload protocol payload)) = 0
+
+-- the number of its bytes
+abbrev pub link_len : Option LinkLayer → ℕ
+link_len None = 0
+link_len (Some layer) = link_layer_header_len layer
+
+-- the link header, with which a frame begins
+abbrev pub link_part : Option LinkLayer → Part
+link_part link = part (link_kind link) 0 (link_len link)
+
+-- ---- the tags of link extensions
+
+-- the number of bytes of a tag
+abbrev pub tag_len : LinkExtension → ℕ
+tag_len extension = link_ext_header_len (extension_header extension)
+
+-- the number of bytes of some tags
+abbrev pub tags_len : List LinkExtension → ℕ
+tags_len [] = 0
+tags_len (extension ∷ others) = tag_len extension + tags_len others
+
+-- what a tag is: 1 of VLAN, 2 of MACsec
+abbrev pub tag_kind : LinkExtension → ℕ
+tag_kind (vlan tag payload) = 1
+tag_kind (macsec tag payload) = 2
+
+-- the identifier of a VLAN tag
+abbrev pub tag_vlan_id : LinkExtension → ℕ
+tag_vlan_id (vlan tag payload) = tag.vlan_id
+tag_vlan_id (macsec tag payload) = 0
+
+-- a tag from this offset on
+abbrev pub tag_part : ℕ → LinkExtension → LinkExt
+tag_part offset extension = record {
+  kind = tag_kind extension;
+  vlan_id = tag_vlan_id extension;
+  offset = offset;
+  len = tag_len extension;
+}
+
+-- tags, of which the first begins at this offset
+abbrev pub tag_parts : ℕ → List LinkExtension → List LinkExt
+tag_parts offset [] = []
+tag_parts offset (extension ∷ others) = tag_part offset extension ∷ tag_parts (offset + tag_len extension) others
+
+-- no tag
+abbrev pub no_tag : LinkExt
+no_tag = record { kind = 0; vlan_id = 0; offset = 0; len = 0 }
+
+-- the three places for tags: those that there are, and then none
+abbrev pub tag_slots : ℕ → List LinkExtension → List LinkExt
+tag_slots offset extensions = tag_parts offset extensions ++ replicate (3 - length extensions) no_tag
+
+-- ---- the net layer
+
+-- what a net layer is: 4 and 6 of the versions of IP, 1 of ARP, 0 where there is none
+abbrev pub net_kind : Option NetLayer → ℕ
+net_kind None = 0
+net_kind (Some (ipv4 header extensions payload)) = 4
+net_kind (Some (ipv6 header extensions payload)) = 6
+net_kind (Some (arp packet)) = 1
+
+-- the number of bytes of extension headers
+abbrev pub parts_len : List ExtensionPart → ℕ
+parts_len [] = 0
+parts_len (extension ∷ others) = part_len extension + parts_len others
+
+-- the number of bytes of an IP header with its extension headers, or of an ARP packet
+abbrev pub net_len : Option NetLayer → ℕ
+net_len None = 0
+net_len (Some (ipv4 header extensions payload)) = ipv4_header_len header + parts_len extensions
+net_len (Some (ipv6 header extensions payload)) = 40 + parts_len extensions
+net_len (Some (arp packet)) = arp_len packet
+
+-- nothing is said of IP
+abbrev pub no_ip : Ip
+no_ip = record {
+  version = 0;
+  number = 0;
+  fragmented = 0;
+  more_fragments = 0;
+  fragment_offset = 0;
+  identification = 0;
+  header_len = 0;
+}
+
+-- what a header of IPv4 says
+abbrev pub ipv4_part : Ipv4Header → IpPayload → Ip
+ipv4_part header payload = record {
+  version = 4;
+  number = payload.number;
+  fragmented = bit payload.fragmented;
+  more_fragments = bit header.more_fragments;
+  fragment_offset = 8 * header.fragment_offset;
+  identification = header.identification;
+  header_len = ipv4_header_len header;
+}
+
+-- what IPv6 says, with its first fragment header, where it has one
+abbrev pub ipv6_part : Option Ipv6FragmentHeader → IpPayload → Ip
+ipv6_part None payload = record {
+  version = 6;
+  number = payload.number;
+  fragmented = bit payload.fragmented;
+  more_fragments = 0;
+  fragment_offset = 0;
+  identification = 0;
+  header_len = 40;
+}
+ipv6_part (Some header) payload = record {
+  version = 6;
+  number = payload.number;
+  fragmented = bit payload.fragmented;
+  more_fragments = bit header.more_fragments;
+  fragment_offset = 8 * header.fragment_offset;
+  identification = header.identification;
+  header_len = 40;
+}
+
+-- what the net layer says of IP
+abbrev pub ip_in : Option NetLayer → Ip
+ip_in None = no_ip
+ip_in (Some (ipv4 header extensions payload)) = ipv4_part header payload
+ip_in (Some (ipv6 header extensions payload)) = ipv6_part (first_fragment extensions) payload
+ip_in (Some (arp packet)) = no_ip
+
+-- ---- the transport layer
+
+-- what a transport header is: its protocol number, and 0 where there is none
+abbrev pub header_kind : TransportHeader → ℕ
+header_kind (transport.Udp header) = 17
+header_kind (transport.Tcp header) = 6
+header_kind (transport.Icmpv4 header) = 1
+header_kind (transport.Icmpv6 header) = 58
+
+abbrev pub transport_kind : Option TransportLayer → ℕ
+transport_kind None = 0
+transport_kind (Some layer) = header_kind layer.header
+
+-- the number of its bytes
+abbrev pub transport_len : Option TransportLayer → ℕ
+transport_len None = 0
+transport_len (Some layer) = transport_header_len layer.header
+
+-- the sender's port, where the transport header has ports
+abbrev pub header_source_port : TransportHeader → ℕ
+header_source_port (transport.Udp header) = header.source_port
+header_source_port (transport.Tcp header) = header.source_port
+header_source_port (transport.Icmpv4 header) = 0
+header_source_port (transport.Icmpv6 header) = 0
+
+abbrev pub source_port_in : Option TransportLayer → ℕ
+source_port_in None = 0
+source_port_in (Some layer) = header_source_port layer.header
+
+-- the receiver's port, the same
+abbrev pub header_destination_port : TransportHeader → ℕ
+header_destination_port (transport.Udp header) = header.destination_port
+header_destination_port (transport.Tcp header) = header.destination_port
+header_destination_port (transport.Icmpv4 header) = 0
+header_destination_port (transport.Icmpv6 header) = 0
+
+abbrev pub destination_port_in : Option TransportLayer → ℕ
+destination_port_in None = 0
+destination_port_in (Some layer) = header_destination_port layer.header
+
+-- ---- the payload
+
+-- what a net layer's own fields set the end of its payload by
+abbrev pub net_end : Option NetLayer → LenSource
+net_end None = source.Slice
+net_end (Some (ipv4 header extensions payload)) = payload.source
+net_end (Some (ipv6 header extensions payload)) = payload.source
+net_end (Some (arp packet)) = source.ArpAddrLengths
+
+-- the same of a transport header: UDP has a length field, which cuts where it is not 0
+abbrev pub header_end : TransportHeader → LenSource
+header_end (transport.Udp header) = if header.length == 0 then source.Slice else source.UdpHeaderLen
+header_end (transport.Tcp header) = source.Slice
+header_end (transport.Icmpv4 header) = source.Slice
+header_end (transport.Icmpv6 header) = source.Slice
+
+abbrev pub transport_end : Option TransportLayer → LenSource
+transport_end None = source.Slice
+transport_end (Some layer) = header_end layer.header
+
+-- what set the end of the last layer's payload: the innermost field that did, or else the end of the bytes
+abbrev pub payload_end : Layers → LenSource
+payload_end layers =
+    cut_by (cut_by (extensions_len_source layers.link_exts) (net_end layers.net)) (transport_end layers.transport)
+
+-- the number that says what set an end
+abbrev pub source_number : LenSource → ℕ
+source_number source.Slice = 0
+source_number source.MacsecShortLength = 1
+source_number source.Ipv4HeaderTotalLen = 2
+source_number source.Ipv6HeaderPayloadLen = 3
+source_number source.UdpHeaderLen = 4
+source_number source.ArpAddrLengths = 5
+
+-- ---- all of it
+
+-- how far behind the frame's first byte the net layer begins
+abbrev pub net_offset : Layers → ℕ
+net_offset layers = link_len layers.link + tags_len layers.link_exts
+
+-- the transport layer
+abbrev pub transport_offset : Layers → ℕ
+transport_offset layers = net_offset layers + net_len layers.net
+
+-- and the payload of the last layer
+abbrev pub payload_offset : Layers → ℕ
+payload_offset layers = transport_offset layers + transport_len layers.transport
+
+-- nothing is refused
+abbrev pub no_refusal : Refusal
+no_refusal = record {
+  kind = 0;
+  layer = 0;
+  len_source = 0;
+  number = 0;
+  required_len = 0;
+  len = 0;
+  layer_start_offset = 0;
+}
+
+-- the payload of the last layer
+abbrev pub payload_part : Layers → Payload
+payload_part layers = record {
+  len_source = source_number (payload_end layers);
+  offset = payload_offset layers;
+  len = length (last_payload layers);
+}
+
+-- what is said of a frame of these layers
+abbrev pub description : Layers → Packet
+description layers = record {
+  link = link_part layers.link;
+  link_exts = tag_slots (link_len layers.link) layers.link_exts;
+  link_ext_count = length layers.link_exts;
+  source_port = source_port_in layers.transport;
+  destination_port = destination_port_in layers.transport;
+  net = part (net_kind layers.net) (net_offset layers) (net_len layers.net);
+  ip = ip_in layers.net;
+  transport = part (transport_kind layers.transport) (transport_offset layers) (transport_len layers.transport);
+  payload = payload_part layers;
+  refusal = no_refusal;
+}

@@ -1,0 +1,5 @@
+pub mod Description
+pub mod Places
+pub mod Refusals
+pub mod Answers
+pub mod Building

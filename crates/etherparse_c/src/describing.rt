@@ -1,0 +1,295 @@
+//! What C is told of the layers of a frame.
+
+ghost use Rattle.std.specs.Prelude.{◌≡◌, ◌+◌, ◌<◌, ◌≤◌, ◌^◌, length, map};
+ghost use Rattle.std.specs.Option.{option_map};
+ghost use Rattle.ep_link.specs.LinkExtensions.{link_extension_of};
+ghost use Rattle.ep_link.specs.LinkSlices.{link_layer_of};
+ghost use Rattle.ep_packet.specs.Layers.{layers_of, net_layer_of};
+ghost use Rattle.ep_packet.specs.Payloads.{extensions_len_source};
+ghost use Rattle.ep_transport.specs.TransportParts.{transport_layer_of};
+ghost use Rattle.etherparse_c.specs.Description.{description, destination_port_in, link_part, net_end, no_refusal, no_tag, part};
+ghost use Rattle.etherparse_c.specs.Description.{payload_end, payload_offset, source_number, source_port_in, tag_part};
+ghost use Rattle.etherparse_c.specs.Description.{tag_slots, tags_len, transport_end, transport_kind, transport_len};
+
+use crate::net_part::{ip_part, net_part};
+use crate::numbers;
+use crate::packet::{LinkExt, Packet, Part, Payload, Refusal};
+use etherparse::{LenSource, LinkExtSlice, LinkSlice, NetSlice, SlicedPacket, TransportSlice};
+
+/// Says what the layers of a packet are, field by field, so that no packet is built beside this one.
+#[inline(always)]
+pub(crate) fn describe(told: &mut Packet, packet: &SlicedPacket<'_>)
+    requires { payload_offset (layers_of packet.now) < 2 ^ 64 }
+    ensures { told.new ≡ description (layers_of packet.now) }
+{
+    let link = link_part(&packet.link);
+    let tags = placed_tags(packet.link_exts.as_slice(), link.len);
+    let link_exts = tags.slots;
+    let net = net_part(&packet.net, tags.end);
+    let transport_offset = net.offset + net.len;
+    let transport = transport_part(&packet.transport, transport_offset);
+    let payload_offset = transport_offset + transport.len;
+    told.link = link;
+    told.link_exts = link_exts;
+    told.link_ext_count = packet.link_exts.len() as u32;
+    told.source_port = source_port(&packet.transport);
+    told.destination_port = destination_port(&packet.transport);
+    told.net = net;
+    told.ip = ip_part(&packet.net);
+    told.transport = transport;
+    told.payload = Payload {
+        len_source: source_number(payload_end(packet)),
+        offset: payload_offset,
+        len: packet.payload().len(),
+    };
+    told.refusal = no_refusal();
+}
+
+/// What is said where nothing is refused.
+#[inline(always)]
+fn no_refusal() -> Refusal
+    ensures { result ≡ no_refusal }
+{
+    Refusal {
+        kind: 0,
+        layer: 0,
+        len_source: 0,
+        number: 0,
+        required_len: 0,
+        len: 0,
+        layer_start_offset: 0,
+    }
+}
+
+/// The link header, with which a frame begins.
+#[inline(always)]
+fn link_part(link: &Option<LinkSlice<'_>>) -> Part
+    ensures { result ≡ link_part (option_map link_layer_of link.now) }
+{
+    match link {
+        Some(LinkSlice::Ethernet2(frame)) => Part {
+            kind: numbers::LINK_ETHERNET2,
+            offset: 0,
+            len: frame.header_len(),
+        },
+        Some(LinkSlice::LinuxSll(frame)) => Part {
+            kind: numbers::LINK_LINUX_SLL,
+            offset: 0,
+            len: frame.header_len(),
+        },
+        Some(LinkSlice::EtherPayload(_) | LinkSlice::LinuxSllPayload(_)) | None => Part {
+            kind: 0,
+            offset: 0,
+            len: 0,
+        },
+    }
+}
+
+/// The places for tags, and how far behind the frame's start the tags end.
+#[derive(Drop)]
+struct Tags {
+    slots: [LinkExt; 3],
+    end: usize,
+}
+
+/// The tags of link extensions, of which the first begins `offset` bytes behind the frame's start.
+#[inline(always)]
+fn placed_tags(extensions: &[LinkExtSlice<'_>], offset: usize) -> Tags
+    requires most { length extensions.now ≤ 3 }
+    requires place { offset + tags_len (map link_extension_of extensions.now) < 2 ^ 64 }
+    ensures slots { result.slots ≡ tag_slots offset (map link_extension_of extensions.now) }
+    ensures end { result.end ≡ offset + tags_len (map link_extension_of extensions.now) }
+{
+    let Some((first, others)) = extensions.split_first() else {
+        return Tags {
+            slots: [no_tag(), no_tag(), no_tag()],
+            end: offset,
+        };
+    };
+    let outer = tag_part(first, offset);
+    let behind_outer = offset + outer.len;
+    let Some((second, others)) = others.split_first() else {
+        return Tags {
+            slots: [outer, no_tag(), no_tag()],
+            end: behind_outer,
+        };
+    };
+    let middle = tag_part(second, behind_outer);
+    let behind_middle = behind_outer + middle.len;
+    let Some((third, _)) = others.split_first() else {
+        return Tags {
+            slots: [outer, middle, no_tag()],
+            end: behind_middle,
+        };
+    };
+    let inner = tag_part(third, behind_middle);
+    let end = behind_middle + inner.len;
+    Tags {
+        slots: [outer, middle, inner],
+        end,
+    }
+}
+
+/// The place of a tag that is not there.
+#[inline(always)]
+fn no_tag() -> LinkExt
+    ensures { result ≡ no_tag }
+{
+    LinkExt {
+        kind: 0,
+        vlan_id: 0,
+        offset: 0,
+        len: 0,
+    }
+}
+
+/// The tag of a link extension that begins `offset` bytes behind the frame's start.
+#[inline(always)]
+fn tag_part(extension: &LinkExtSlice<'_>, offset: usize) -> LinkExt
+    ensures { result ≡ tag_part offset (link_extension_of extension.now) }
+{
+    let len = extension.header_len();
+    match extension {
+        LinkExtSlice::Vlan(tag) => LinkExt {
+            kind: numbers::EXT_VLAN,
+            vlan_id: tag.vlan_identifier().value(),
+            offset,
+            len,
+        },
+        LinkExtSlice::Macsec(_) => LinkExt {
+            kind: numbers::EXT_MACSEC,
+            vlan_id: 0,
+            offset,
+            len,
+        },
+    }
+}
+
+/// The transport header, which begins `offset` bytes behind the frame's start.
+#[inline(always)]
+fn transport_part(transport: &Option<TransportSlice<'_>>, offset: usize) -> Part
+    ensures { let layer = option_map transport_layer_of transport.now in
+        result ≡ part (transport_kind layer) offset (transport_len layer) }
+{
+    match transport {
+        Some(TransportSlice::Udp(datagram)) => Part {
+            kind: numbers::TRANSPORT_UDP,
+            offset,
+            len: datagram.header_len(),
+        },
+        Some(TransportSlice::Tcp(segment)) => Part {
+            kind: numbers::TRANSPORT_TCP,
+            offset,
+            len: segment.header_len(),
+        },
+        Some(TransportSlice::Icmpv4(message)) => Part {
+            kind: numbers::TRANSPORT_ICMPV4,
+            offset,
+            len: message.header_len(),
+        },
+        Some(TransportSlice::Icmpv6(message)) => Part {
+            kind: numbers::TRANSPORT_ICMPV6,
+            offset,
+            len: message.header_len(),
+        },
+        None => Part {
+            kind: 0,
+            offset,
+            len: 0,
+        },
+    }
+}
+
+/// The sender's port.
+#[inline(always)]
+fn source_port(transport: &Option<TransportSlice<'_>>) -> u16
+    ensures { result ≡ source_port_in (option_map transport_layer_of transport.now) }
+{
+    match transport {
+        Some(TransportSlice::Udp(datagram)) => datagram.source_port(),
+        Some(TransportSlice::Tcp(segment)) => segment.source_port(),
+        Some(TransportSlice::Icmpv4(_) | TransportSlice::Icmpv6(_)) | None => 0,
+    }
+}
+
+/// The receiver's port.
+#[inline(always)]
+fn destination_port(transport: &Option<TransportSlice<'_>>) -> u16
+    ensures { result ≡ destination_port_in (option_map transport_layer_of transport.now) }
+{
+    match transport {
+        Some(TransportSlice::Udp(datagram)) => datagram.destination_port(),
+        Some(TransportSlice::Tcp(segment)) => segment.destination_port(),
+        Some(TransportSlice::Icmpv4(_) | TransportSlice::Icmpv6(_)) | None => 0,
+    }
+}
+
+/// What set the end of the last layer's payload.
+#[inline(always)]
+fn payload_end(packet: &SlicedPacket<'_>) -> LenSource
+    ensures { result ≡ payload_end (layers_of packet.now) }
+{
+    let outer = extensions_end(packet.link_exts.as_slice());
+    transport_end(&packet.transport).cut_by(net_end(&packet.net).cut_by(outer))
+}
+
+/// What set the end of what lies behind link extensions.
+#[inline(always)]
+fn extensions_end(extensions: &[LinkExtSlice<'_>]) -> LenSource
+    ensures { result ≡ extensions_len_source (map link_extension_of extensions.now) }
+{
+    for extension in extensions {
+        if let LinkExtSlice::Macsec(packet) = extension {
+            if packet.header.short_len().value() > 0 {
+                return LenSource::MacsecShortLength;
+            }
+        }
+    }
+    LenSource::Slice
+}
+
+/// What the net layer's own fields set the end of its payload by.
+#[inline(always)]
+fn net_end(net: &Option<NetSlice<'_>>) -> LenSource
+    ensures { result ≡ net_end (option_map net_layer_of net.now) }
+{
+    match net {
+        Some(NetSlice::Ipv4(packet)) => packet.payload().len_source,
+        Some(NetSlice::Ipv6(packet)) => packet.payload().len_source,
+        Some(NetSlice::Arp(_)) => LenSource::ArpAddrLengths,
+        None => LenSource::Slice,
+    }
+}
+
+/// The same of the transport layer.
+#[inline(always)]
+fn transport_end(transport: &Option<TransportSlice<'_>>) -> LenSource
+    ensures { result ≡ transport_end (option_map transport_layer_of transport.now) }
+{
+    match transport {
+        Some(TransportSlice::Udp(datagram)) => {
+            if datagram.length() == 0 {
+                LenSource::Slice
+            } else {
+                LenSource::UdpHeaderLen
+            }
+        }
+        Some(TransportSlice::Tcp(_) | TransportSlice::Icmpv4(_) | TransportSlice::Icmpv6(_))
+        | None => LenSource::Slice,
+    }
+}
+
+/// The number that says what set an end.
+#[inline(always)]
+pub(crate) fn source_number(source: LenSource) -> u32
+    ensures { result ≡ source_number source }
+{
+    match source {
+        LenSource::Slice => 0,
+        LenSource::MacsecShortLength => 1,
+        LenSource::Ipv4HeaderTotalLen => 2,
+        LenSource::Ipv6HeaderPayloadLen => 3,
+        LenSource::UdpHeaderLen => 4,
+        LenSource::ArpAddrLengths => 5,
+    }
+}

@@ -1,0 +1,46 @@
+//! What C says of the headers of a frame that is built: numbers alone, whose layout is C's.
+
+/// The headers before the transport header: of which version IP is, the addresses, and whether an Ethernet II header
+/// stands before the IP header. The addresses of the other version are not read.
+#[repr(C)]
+#[derive(Clone, Copy)]
+pub struct Route {
+    /// 4 or 6.
+    pub version: u8,
+    /// 0 if the frame begins with the IP header, else it begins with an Ethernet II header.
+    pub with_ethernet: u8,
+    /// The number of hops that the packet may take.
+    pub hop_limit: u8,
+    /// The sender's Ethernet address.
+    pub ethernet_source: [u8; 6],
+    /// The receiver's Ethernet address.
+    pub ethernet_destination: [u8; 6],
+    /// The sender's IPv4 address.
+    pub ipv4_source: [u8; 4],
+    /// The receiver's IPv4 address.
+    pub ipv4_destination: [u8; 4],
+    /// The sender's IPv6 address.
+    pub ipv6_source: [u8; 16],
+    /// The receiver's IPv6 address.
+    pub ipv6_destination: [u8; 16],
+}
+
+/// The fields of a TCP header without options.
+#[repr(C)]
+#[derive(Clone, Copy)]
+pub struct TcpFields {
+    /// The sender's port.
+    pub source_port: u16,
+    /// The receiver's port.
+    pub destination_port: u16,
+    /// Where the payload lies in the sender's stream.
+    pub sequence_number: u32,
+    /// The place in the receiver's stream that is waited for.
+    pub acknowledgment_number: u32,
+    /// How many bytes the sender takes.
+    pub window_size: u16,
+    /// Where the urgent data end, counted from the sequence number.
+    pub urgent_pointer: u16,
+    /// The flags of byte 13 of the header: FIN is 1, SYN 2, RST 4, PSH 8, ACK 16, URG 32, ECE 64, CWR 128.
+    pub flags: u8,
+}

@@ -1,0 +1,72 @@
+//! Slicing a frame.
+
+ghost use Rattle.std.specs.Prelude.{◌≡◌, IfOk, IfErr, MatchOption};
+ghost use Rattle.ep_packet.specs.Layers.{Layers, layers_of, no_layers};
+ghost use Rattle.ep_packet.specs.Frame.{IsFrame};
+ghost use Rattle.etherparse_c.specs.Answers.{IsSliceAnswer, entry_of, nothing_said, refused_packet};
+
+use crate::describing::describe;
+use crate::numbers;
+use crate::packet::Packet;
+use crate::refusing::refusal_part;
+use etherparse::err::packet::SliceError;
+use etherparse::{Entry, EtherType, SlicedPacket};
+
+/// Slices a frame into its layers. `entry` says what it begins with: 0 an Ethernet II header, 1 the header of a Linux
+/// cooked capture, 2 what an ether type says, 3 an IP header of either version; `ether_type` is read for 2 alone. The
+/// status is 0 where the bytes are a frame, which `packet` then describes, 1 where they are none, and `packet` says why,
+/// and 2 where `entry` is another number. Whatever `packet` held is overwritten.
+#[unsafe(no_mangle)]
+pub extern "C" fn etherparse_slice(
+    entry: u32,
+    ether_type: u16,
+    bytes: &[u8],
+    packet: &mut Packet,
+) -> u32
+    ensures { IsSliceAnswer (entry_of entry ether_type) bytes.now result packet.new }
+{
+    let Some(entry) = entry_of(entry, ether_type) else {
+        say_nothing(packet);
+        return numbers::UNKNOWN_CHOICE;
+    };
+    let mut sliced = SlicedPacket::new();
+    match sliced.slice_into(entry, bytes) {
+        Ok(()) => {
+            describe(packet, &sliced);
+            numbers::OK
+        }
+        Err(error) => {
+            say_refused(packet, &error);
+            numbers::REFUSED
+        }
+    }
+}
+
+/// What a frame begins with.
+#[inline(always)]
+fn entry_of(entry: u32, ether_type: u16) -> Option<Entry>
+    ensures { result ≡ entry_of entry ether_type }
+{
+    match entry {
+        0 => Some(Entry::Ethernet),
+        1 => Some(Entry::LinuxSll),
+        2 => Some(Entry::EtherType(EtherType(ether_type))),
+        3 => Some(Entry::Ip),
+        _ => None,
+    }
+}
+
+/// No layer, and no refusal.
+fn say_nothing(told: &mut Packet)
+    ensures { told.new ≡ nothing_said }
+{
+    describe(told, &SlicedPacket::new());
+}
+
+/// No layer, and this refusal.
+fn say_refused(told: &mut Packet, error: &SliceError)
+    ensures { told.new ≡ refused_packet error.now }
+{
+    say_nothing(told);
+    told.refusal = refusal_part(error);
+}

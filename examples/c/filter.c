@@ -1,0 +1,50 @@
+/* Prints the UDP datagrams of a capture that go to a port: filter PORT FILE.
+ * FILE is a capture of Ethernet II in the classic format of pcap, in either order of bytes. */
+#include <etherparse.h>
+#include <stdio.h>
+#include <stdlib.h>
+
+static uint32_t number(const uint8_t *at, int big) {
+    return big ? (uint32_t)at[0] << 24 | (uint32_t)at[1] << 16 | (uint32_t)at[2] << 8 | at[3]
+               : (uint32_t)at[3] << 24 | (uint32_t)at[2] << 16 | (uint32_t)at[1] << 8 | at[0];
+}
+
+int main(int argc, char **argv) {
+    if (argc != 3) return fprintf(stderr, "usage: filter PORT FILE\n"), 2;
+    unsigned long port = strtoul(argv[1], NULL, 10);
+    FILE *file = fopen(argv[2], "rb");
+    if (!file) return perror(argv[2]), 1;
+
+    uint8_t head[24];
+    if (fread(head, 1, sizeof head, file) != sizeof head) return fprintf(stderr, "no capture\n"), 1;
+    int big = head[0] == 0xa1;
+    uint32_t magic = number(head, big);
+    if ((magic != 0xa1b2c3d4 && magic != 0xa1b23c4d) || number(head + 20, big) != 1)
+        return fprintf(stderr, "no capture of Ethernet\n"), 1;
+
+    static uint8_t frame[1 << 18];
+    uint8_t record[16];
+    unsigned long frames = 0, found = 0, refused = 0;
+    while (fread(record, 1, sizeof record, file) == sizeof record) {
+        size_t len = number(record + 8, big);
+        if (len > sizeof frame || fread(frame, 1, len, file) != len) return fprintf(stderr, "the capture is cut\n"), 1;
+        frames++;
+        struct etherparse_packet packet;
+        if (etherparse_slice(ETHERPARSE_ENTRY_ETHERNET, 0, frame, len, &packet) != ETHERPARSE_OK) {
+            char text[128];
+            etherparse_refusal_text(&packet.refusal, text, sizeof text);
+            printf("%lu: %s\n", frames, text);
+            refused++;
+            continue;
+        }
+        if (packet.transport.kind != ETHERPARSE_TRANSPORT_UDP || packet.destination_port != port) continue;
+        found++;
+        printf("%lu: port %u, %zu bytes at %zu:", frames, packet.source_port, packet.payload.len, packet.payload.offset);
+        for (size_t i = 0; i < packet.payload.len && i < 8; i++) printf(" %02x", frame[packet.payload.offset + i]);
+        for (uint32_t i = 0; i < packet.link_ext_count; i++) printf(", VLAN %u", packet.link_exts[i].vlan_id);
+        printf("\n");
+    }
+    fclose(file);
+    printf("%lu frames, %lu to port %lu, %lu refused\n", frames, found, port, refused);
+    return 0;
+}

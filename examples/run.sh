@@ -1,0 +1,57 @@
+#!/usr/bin/env bash
+# Builds the examples against the archive that `rt lib` left in crates/etherparse_c/out, runs them on input that is made
+# here, and compares what they print. Says which of them need a compiler that is not there. Its status is 0 where all
+# that ran did what they must.
+set -euo pipefail
+cd "$(dirname "$0")"
+top=$(cd .. && pwd)
+archive=$top/crates/etherparse_c/out/libetherparse_c.a
+if [ ! -e "$archive" ]; then
+    echo "examples: no $archive: run 'rt lib' in crates/etherparse_c first"
+    exit 1
+fi
+work=$(mktemp -d)
+trap 'rm -rf "$work"' EXIT
+
+# Little-endian numbers of four bytes, and bytes in hexadecimal.
+word() { printf "\\x$(printf %02x $(($1 & 255)))\\x$(printf %02x $(($1 >> 8 & 255)))\\x$(printf %02x $(($1 >> 16 & 255)))\\x$(printf %02x $(($1 >> 24)))"; }
+bytes() { local i; for ((i = 0; i < ${#1}; i += 2)); do printf "\\x${1:i:2}"; done; }
+record() { word 0; word 0; word $((${#1} / 2)); word $((${#1} / 2)); bytes "$1"; }
+
+# A capture: a datagram to port 1234, one behind a VLAN tag, one to another port, and one that is cut.
+addresses=0708090a0b0c010203040506
+datagram=450000240000400014 # up to the IPv4 header's number of hops
+datagram=${datagram}11e375c0a80101c0a80102 # and up to its end
+datagram=${datagram}001504d20010677f0102030405060708
+other=${datagram/04d2/0035}
+{
+    word $((0xa1b2c3d4)); bytes 0200040000000000000000000000040001000000
+    record "${addresses}0800$datagram"
+    record "${addresses}8100002a0800$datagram"
+    record "${addresses}0800$other"
+    record "${addresses}0800${datagram%0708}"
+} > "$work/capture"
+
+if command -v gcc > /dev/null; then
+    gcc -std=c99 -Wall -Wextra -Werror -O2 -I"$top/include" c/filter.c \
+        "$top/include/etherparse_heap.c" "$archive" -o "$work/filter"
+    "$work/filter" 1234 "$work/capture" | tee "$work/filter.out"
+    cmp "$work/filter.out" c/filter.out
+    gcc -std=c99 -Wall -Wextra -Werror -O2 -I"$top/include" c/build.c \
+        "$top/include/etherparse_heap.c" "$archive" -o "$work/build"
+    "$work/build" | tee "$work/build.out"
+    cmp "$work/build.out" c/build.out
+    echo "examples: c/filter.c and c/build.c printed what they must"
+else
+    echo "examples: no gcc, so the C examples were not run"
+fi
+
+if command -v cargo > /dev/null && command -v cc > /dev/null; then
+    cd "$top/rust"
+    cargo test --quiet --offline
+    cargo run --quiet --offline --example filter -- 1234 "$work/capture" | tee "$work/filter.out"
+    cmp "$work/filter.out" examples/filter.out
+    echo "examples: the wrappers' tests passed, and rust/examples/filter.rs printed what it must"
+else
+    echo "examples: no cargo or no cc, so the Rust wrappers and their example were not run"
+fi

@@ -1,0 +1,288 @@
+/* etherparse: takes network frames apart, from C and C++.
+ *
+ * The library behind these calls is written in Rattle, where every function is proved against its contract before it is
+ * built: whatever the bytes, a call returns, reads no byte outside of them, writes none outside of what it is given, and
+ * answers by the written grammar of the protocols alone (docs/PROVED.md says what that is).
+ *
+ * For all calls:
+ * - A pointer is never null, also where the length beside it is 0, and no two pointers of a call overlap. A pointer to
+ *   `len` bytes is to that many bytes, which are at most PTRDIFF_MAX.
+ * - No call keeps a pointer, has a state or prints; any may be called from many threads at once. The calls that build
+ *   frames take memory by malloc and give it back before they return; no other call takes any.
+ * - What a call fills in is numbers alone. Nothing in it points anywhere, and nothing has to be freed.
+ * - size_t has 64 bits.
+ *
+ * Link with the archive libetherparse_c.a, which `rt lib` leaves in crates/etherparse_c/out, and with
+ * etherparse_heap.c, which stands beside this file. */
+#ifndef ETHERPARSE_H
+#define ETHERPARSE_H
+
+#include <stddef.h>
+#include <stdint.h>
+#include <stdio.h>
+
+#ifdef __cplusplus
+extern "C" {
+#endif
+
+/* What a call answers. */
+enum etherparse_status {
+    ETHERPARSE_OK = 0,            /* it did what it is for */
+    ETHERPARSE_REFUSED = 1,       /* the bytes are no frame; the refusal says why */
+    ETHERPARSE_UNKNOWN_CHOICE = 2, /* a number in the place of a choice is none of those below */
+    ETHERPARSE_TOO_SMALL = 3,     /* the buffer has too few bytes; how many are needed is told */
+    ETHERPARSE_TOO_LONG = 4,      /* the payload is longer than the headers' length fields can count */
+    ETHERPARSE_OUT_OF_MEMORY = 5  /* there was no memory */
+};
+
+/* What a frame begins with. */
+enum etherparse_entry {
+    ETHERPARSE_ENTRY_ETHERNET = 0,   /* an Ethernet II header */
+    ETHERPARSE_ENTRY_LINUX_SLL = 1,  /* the header of a Linux cooked capture (SLL v1) */
+    ETHERPARSE_ENTRY_ETHER_TYPE = 2, /* what an ether type says, without a link header */
+    ETHERPARSE_ENTRY_IP = 3          /* an IP header of either version */
+};
+
+/* The kinds of headers, by their layer. In each layer 0 is none. */
+enum etherparse_link_kind { ETHERPARSE_LINK_ETHERNET2 = 1, ETHERPARSE_LINK_LINUX_SLL = 2 };
+enum etherparse_ext_kind { ETHERPARSE_EXT_VLAN = 1, ETHERPARSE_EXT_MACSEC = 2 };
+enum etherparse_net_kind { ETHERPARSE_NET_ARP = 1, ETHERPARSE_NET_IPV4 = 4, ETHERPARSE_NET_IPV6 = 6 };
+enum etherparse_transport_kind { /* the protocol numbers of IP */
+    ETHERPARSE_TRANSPORT_ICMPV4 = 1,
+    ETHERPARSE_TRANSPORT_TCP = 6,
+    ETHERPARSE_TRANSPORT_UDP = 17,
+    ETHERPARSE_TRANSPORT_ICMPV6 = 58
+};
+
+/* What set the end of some bytes. */
+enum etherparse_len_source {
+    ETHERPARSE_END_SLICE = 0,        /* the length that was passed */
+    ETHERPARSE_END_MACSEC = 1,       /* the short length of a MACsec tag */
+    ETHERPARSE_END_IPV4 = 2,         /* the total length of an IPv4 header */
+    ETHERPARSE_END_IPV6 = 3,         /* the payload length of an IPv6 header */
+    ETHERPARSE_END_UDP = 4,          /* the length of a UDP header */
+    ETHERPARSE_END_ARP = 5           /* the address lengths of an ARP packet */
+};
+
+/* A header: `len` bytes from the `offset`-th of the frame on. Where there is none, kind and len are 0, and offset is
+ * where it would begin. */
+struct etherparse_part {
+    uint32_t kind;
+    size_t offset;
+    size_t len;
+};
+
+/* The tag of a link extension. */
+struct etherparse_link_ext {
+    uint32_t kind;    /* enum etherparse_ext_kind */
+    uint16_t vlan_id; /* the identifier of a VLAN tag; 0 of MACsec */
+    size_t offset;
+    size_t len;
+};
+
+/* What an IP header says, and its extension headers; all 0 where there is no IP packet. */
+struct etherparse_ip {
+    uint8_t version;          /* 4 or 6 */
+    uint8_t number;           /* the protocol number of the payload, behind the extension headers */
+    uint8_t fragmented;       /* 1 if the payload is one fragment of a longer one */
+    uint8_t more_fragments;   /* 1 if the header says that more fragments follow */
+    uint16_t fragment_offset; /* where the fragment lies in the whole payload, in bytes */
+    uint32_t identification;  /* what the fragments of one payload have in common; 0 in IPv6 without a fragment header */
+    size_t header_len;        /* the IP header's bytes, without extension headers */
+};
+
+/* The payload of the last layer that was read. */
+struct etherparse_payload {
+    uint32_t len_source; /* enum etherparse_len_source */
+    size_t offset;
+    size_t len;
+};
+
+/* Why bytes are no frame. */
+enum etherparse_refusal_kind {
+    ETHERPARSE_REFUSAL_NONE = 0,
+    ETHERPARSE_REFUSAL_LEN = 1,              /* a layer needs more bytes than there are */
+    ETHERPARSE_REFUSAL_SLL_PACKET_TYPE = 2,  /* the packet type of a cooked capture is `number`, above 7 */
+    ETHERPARSE_REFUSAL_SLL_ARP_HARDWARE = 3, /* its hardware type `number` is not known */
+    ETHERPARSE_REFUSAL_MACSEC_VERSION = 4,   /* the version bit of MACsec is set */
+    ETHERPARSE_REFUSAL_MACSEC_SHORT_LEN = 5, /* an unmodified MACsec payload has no room for its ether type */
+    ETHERPARSE_REFUSAL_IP_VERSION = 6,       /* entry IP: the version is `number`, neither 4 nor 6 */
+    ETHERPARSE_REFUSAL_IP_IHL = 7,           /* entry IP: the header length of IPv4 is `number` words, below 5 */
+    ETHERPARSE_REFUSAL_IPV4_VERSION = 8,     /* behind the ether type of IPv4 the version is `number` */
+    ETHERPARSE_REFUSAL_IPV4_IHL = 9,         /* the header length is `number` words, below 5 */
+    ETHERPARSE_REFUSAL_IPV6_VERSION = 10,    /* behind the ether type of IPv6 the version is `number` */
+    ETHERPARSE_REFUSAL_IPV4_AUTH = 11,       /* the length of an authentication header in IPv4 is 0 */
+    ETHERPARSE_REFUSAL_IPV6_HOP_BY_HOP = 12, /* hop by hop options stand behind another extension header */
+    ETHERPARSE_REFUSAL_IPV6_AUTH = 13,       /* the length of an authentication header in IPv6 is 0 */
+    ETHERPARSE_REFUSAL_TCP_DATA_OFFSET = 14  /* the data offset of TCP is `number` words, below 5 */
+};
+
+/* The layers that a refusal by length names. */
+enum etherparse_layer {
+    ETHERPARSE_LAYER_ETHERNET2_HEADER = 1,
+    ETHERPARSE_LAYER_LINUX_SLL_HEADER = 2,
+    ETHERPARSE_LAYER_VLAN_HEADER = 3,
+    ETHERPARSE_LAYER_MACSEC_HEADER = 4,
+    ETHERPARSE_LAYER_MACSEC_PACKET = 5,
+    ETHERPARSE_LAYER_ARP = 6,
+    ETHERPARSE_LAYER_IP_HEADER = 7,
+    ETHERPARSE_LAYER_IPV4_HEADER = 8,
+    ETHERPARSE_LAYER_IPV4_PACKET = 9,
+    ETHERPARSE_LAYER_IP_AUTH_HEADER = 10,
+    ETHERPARSE_LAYER_IPV6_HEADER = 11,
+    ETHERPARSE_LAYER_IPV6_PACKET = 12,
+    ETHERPARSE_LAYER_IPV6_EXT_HEADER = 13,
+    ETHERPARSE_LAYER_IPV6_FRAG_HEADER = 14,
+    ETHERPARSE_LAYER_UDP_HEADER = 15,
+    ETHERPARSE_LAYER_UDP_PAYLOAD = 16,
+    ETHERPARSE_LAYER_TCP_HEADER = 17,
+    ETHERPARSE_LAYER_ICMPV4 = 18,
+    ETHERPARSE_LAYER_ICMPV4_TIMESTAMP = 19,
+    ETHERPARSE_LAYER_ICMPV4_TIMESTAMP_REPLY = 20,
+    ETHERPARSE_LAYER_ICMPV6 = 21
+};
+
+/* Why bytes are no frame; all 0 of a frame. */
+struct etherparse_refusal {
+    uint32_t kind;             /* enum etherparse_refusal_kind */
+    uint32_t layer;            /* kind LEN: enum etherparse_layer */
+    uint32_t len_source;       /* kind LEN: what set the number of bytes at hand */
+    uint32_t number;           /* the number that the bytes hold, of the kinds that name it */
+    size_t required_len;       /* kind LEN: the number of bytes that the layer needs */
+    size_t len;                /* kind LEN: the number of bytes at hand */
+    size_t layer_start_offset; /* kind LEN: where in the frame the layer begins */
+};
+
+/* What the layers of a frame are, or why bytes are no frame. The headers stand one behind the other in the order of the
+ * fields, without gaps, and then the payload; what a length field cuts off, as the padding behind a short IPv4 packet,
+ * lies behind the payload. A layer whose protocol is not read is part of the payload. */
+struct etherparse_packet {
+    struct etherparse_part link;             /* enum etherparse_link_kind */
+    struct etherparse_link_ext link_exts[3]; /* from the outside in; a fourth is left as payload */
+    uint32_t link_ext_count;
+    uint16_t source_port;      /* of UDP and TCP, else 0 */
+    uint16_t destination_port; /* the same */
+    struct etherparse_part net; /* enum etherparse_net_kind: IP with its extension headers, or the whole ARP packet */
+    struct etherparse_ip ip;
+    struct etherparse_part transport; /* enum etherparse_transport_kind; none in a fragment */
+    struct etherparse_payload payload;
+    struct etherparse_refusal refusal;
+};
+
+/* Slices the frame in `bytes`, which begins with what `entry` (enum etherparse_entry) says; `ether_type` is read for
+ * ETHERPARSE_ENTRY_ETHER_TYPE alone. Answers
+ * - ETHERPARSE_OK: the bytes are a frame, and `packet` says what its layers are;
+ * - ETHERPARSE_REFUSED: they are none; `packet->refusal` says why, and the rest says that there is no layer;
+ * - ETHERPARSE_UNKNOWN_CHOICE: `entry` is another number; `packet` says that there is no layer.
+ * What `packet` held before is never read. Checksums are not verified. */
+uint32_t etherparse_slice(uint32_t entry, uint16_t ether_type, const uint8_t *bytes, size_t len,
+                          struct etherparse_packet *packet);
+
+/* Writes the text of a refusal as snprintf does: at most `len` bytes, of which the last is zero, and answers how many bytes
+ * the whole text has without the zero byte. It stands here in C, and is not proved. */
+static inline int etherparse_refusal_text(const struct etherparse_refusal *refusal, char *buffer, size_t len) {
+    static const char *const layers[] = {
+        "none",          "Ethernet2Header", "LinuxSllHeader",  "VlanHeader",           "MacsecHeader", "MacsecPacket",
+        "Arp",           "IpHeader",        "Ipv4Header",      "Ipv4Packet",           "IpAuthHeader", "Ipv6Header",
+        "Ipv6Packet",    "Ipv6ExtHeader",   "Ipv6FragHeader",  "UdpHeader",            "UdpPayload",   "TcpHeader",
+        "Icmpv4",        "Icmpv4Timestamp", "Icmpv4TimestampReply", "Icmpv6"};
+    static const char *const ends[] = {"Slice",                "MacsecShortLength", "Ipv4HeaderTotalLen",
+                                       "Ipv6HeaderPayloadLen", "UdpHeaderLen",      "ArpAddrLengths"};
+    static const char *const kinds[] = {"no refusal",
+                                        "Len",
+                                        "UnsupportedPacketTypeField",
+                                        "UnsupportedArpHardwareId",
+                                        "UnexpectedVersion",
+                                        "InvalidUnmodifiedShortLen",
+                                        "UnsupportedIpVersion",
+                                        "Ipv4HeaderLengthSmallerThanHeader",
+                                        "UnexpectedVersion",
+                                        "HeaderLengthSmallerThanHeader",
+                                        "UnexpectedVersion",
+                                        "ZeroPayloadLen",
+                                        "HopByHopNotAtStart",
+                                        "ZeroPayloadLen",
+                                        "DataOffsetTooSmall"};
+    /* a bit for each kind that holds a number */
+    const unsigned with_number = 1u << 2 | 1u << 3 | 1u << 6 | 1u << 7 | 1u << 8 | 1u << 9 | 1u << 10 | 1u << 14;
+    if (refusal->kind >= sizeof kinds / sizeof *kinds) return snprintf(buffer, len, "unknown refusal");
+    if (refusal->kind == ETHERPARSE_REFUSAL_LEN)
+        return snprintf(buffer, len, "%s: %zu bytes needed, %zu there (limit %s, offset %zu)",
+                        refusal->layer < sizeof layers / sizeof *layers ? layers[refusal->layer] : "unknown",
+                        refusal->required_len, refusal->len,
+                        refusal->len_source < sizeof ends / sizeof *ends ? ends[refusal->len_source] : "unknown",
+                        refusal->layer_start_offset);
+    if (with_number >> refusal->kind & 1) return snprintf(buffer, len, "%s %u", kinds[refusal->kind], (unsigned)refusal->number);
+    return snprintf(buffer, len, "%s", kinds[refusal->kind]);
+}
+
+/* The Internet checksum (RFC 1071) of some bytes, as a number: write its upper byte first. An odd last byte counts as
+ * the upper half of a word. */
+uint16_t etherparse_checksum(const uint8_t *bytes, size_t len);
+
+/* ---- Building frames
+ *
+ * Each call writes a frame with this payload to the front of `buffer`, its lengths and checksums filled in, and answers
+ * - ETHERPARSE_OK: `written` is the number of the frame's bytes, and what lies behind them in the buffer is as it was;
+ * - ETHERPARSE_UNKNOWN_CHOICE: the version of the route is neither 4 nor 6;
+ * - ETHERPARSE_TOO_SMALL: the buffer has too few bytes, and `written` says how many the frame has;
+ * - ETHERPARSE_TOO_LONG: the payload is too long;
+ * - ETHERPARSE_OUT_OF_MEMORY.
+ * But for ETHERPARSE_OK the buffer is as it was, and but for ETHERPARSE_TOO_SMALL `written` is then 0. */
+
+/* The headers before the transport header. The addresses of the other version are not read. */
+struct etherparse_route {
+    uint8_t version;       /* 4 or 6 */
+    uint8_t with_ethernet; /* 0: the frame begins with the IP header; else with an Ethernet II header */
+    uint8_t hop_limit;     /* the number of hops that the packet may take */
+    uint8_t ethernet_source[6];
+    uint8_t ethernet_destination[6];
+    uint8_t ipv4_source[4];
+    uint8_t ipv4_destination[4];
+    uint8_t ipv6_source[16];
+    uint8_t ipv6_destination[16];
+};
+
+/* The flags of TCP. */
+enum etherparse_tcp_flag {
+    ETHERPARSE_TCP_FIN = 1,
+    ETHERPARSE_TCP_SYN = 2,
+    ETHERPARSE_TCP_RST = 4,
+    ETHERPARSE_TCP_PSH = 8,
+    ETHERPARSE_TCP_ACK = 16,
+    ETHERPARSE_TCP_URG = 32,
+    ETHERPARSE_TCP_ECE = 64,
+    ETHERPARSE_TCP_CWR = 128
+};
+
+/* The fields of a TCP header without options. */
+struct etherparse_tcp_fields {
+    uint16_t source_port;
+    uint16_t destination_port;
+    uint32_t sequence_number;
+    uint32_t acknowledgment_number;
+    uint16_t window_size;
+    uint16_t urgent_pointer;
+    uint8_t flags; /* of enum etherparse_tcp_flag, added up */
+};
+
+/* A UDP datagram. */
+uint32_t etherparse_build_udp(const struct etherparse_route *route, uint16_t source_port, uint16_t destination_port,
+                              const uint8_t *payload, size_t payload_len, uint8_t *buffer, size_t buffer_len,
+                              size_t *written);
+
+/* A TCP segment. */
+uint32_t etherparse_build_tcp(const struct etherparse_route *route, const struct etherparse_tcp_fields *fields,
+                              const uint8_t *payload, size_t payload_len, uint8_t *buffer, size_t buffer_len,
+                              size_t *written);
+
+/* An echo message of ICMP or, where the version is 6, of ICMPv6: a request where is_reply is 0, else a reply. */
+uint32_t etherparse_build_icmp_echo(const struct etherparse_route *route, uint8_t is_reply, uint16_t id, uint16_t seq,
+                                    const uint8_t *payload, size_t payload_len, uint8_t *buffer, size_t buffer_len,
+                                    size_t *written);
+
+#ifdef __cplusplus
+}
+#endif
+
+#endif
