@@ -1,0 +1,321 @@
+-- The bytes of headings and records, and what is read from them.
+use Rattle.std.proofs.Common.{◌≡◌, ℕ, ◌+◌, ◌-◌, ◌^◌, ◌<◌, ◌≤◌, true, List, [], ◌∷◌, ◌++◌, Option, Some, None}
+use Rattle.std.proofs.Common.{◌==◌, ◌&&◌, Bool, not, nat_lt, is_some}
+use Rattle.std.proofs.Common.{length, take, drop, get_or, slice_range, refl, sym, ap, ◌∙◌}
+use Rattle.std.proofs.Common.{append_assoc, length-append, length-drop, length-take-le, take-append-drop, arith}
+use Rattle.std.proofs.lemmas.Grind.{common_steps}
+use Rattle.std.proofs.lemmas.Bool.Decides.{nat_tests}
+use Rattle.std.proofs.lemmas.List.{take_at, drop_at, drop-drop}
+use Rattle.ep_base.specs.Bytes.{AreBytes}
+use Rattle.ep_base.specs.Tables.{first_row}
+use Rattle.ep_base.proofs.TableLemmas.{IsReadBy}
+use Rattle.capture_reader.specs.declared.byte_order.ByteOrder.{ByteOrder}
+use Rattle.capture_reader.specs.declared.byte_order.ByteOrder.TheVariants.{Big, Little}
+use Rattle.capture_reader.specs.declared.heading.Heading.{Heading}
+use Rattle.capture_reader.specs.declared.heading.Resolution.{Resolution}
+use Rattle.capture_reader.specs.declared.heading.Resolution.TheVariants.{Micros, Nanos}
+use Rattle.capture_reader.specs.declared.refusal.Refusal.{Refusal}
+use Rattle.capture_reader.specs.declared.refusal.Refusal.TheVariants as refusal
+use Rattle.capture_reader.specs.Numbers.{word16, word32, word16_at, word32_at}
+use Rattle.capture_reader.specs.Classic.{PlainPacket, IsRecord, most_kept, record_bytes, record_of, record_rows}
+use Rattle.capture_reader.specs.Classic.{IsHeading, heading_bytes, heading_of, heading_rows, knows_link}
+use Rattle.capture_reader.specs.Classic.{link_of, magic_of, style_in, style_of, style_order, style_resolution}
+use Rattle.capture_reader.proofs.NumberLemmas.{length-words_then, word16_front, word16_read, word32_at-fits}
+use Rattle.capture_reader.proofs.NumberLemmas.{length-word32, words_front, words_read, words_then}
+
+-- ---- records
+
+-- the record that is read, and what stands behind it
+abbrev pub record_read : ByteOrder → List ℕ → PlainPacket × List ℕ
+record_read order bytes = (record_of order bytes, drop (16 + word32_at order bytes 8) bytes)
+
+-- the numbers in front of a packet
+abbrev record_words : PlainPacket → List ℕ
+record_words packet = packet.seconds ∷ packet.fraction ∷ length packet.bytes ∷ packet.original_len ∷ []
+
+record_parts : (order : ByteOrder) (packet : PlainPacket) (rest : List ℕ)
+    → record_bytes order packet ++ rest ≡ words_then order (record_words packet) (packet.bytes ++ rest)
+record_parts order packet rest = simp append_assoc
+
+-- what stands between two indices, and behind
+pub range_split : (bytes : List ℕ) (n : ℕ) → 16 + n ≤ length bytes
+    → (length (slice_range bytes 16 (16 + n)) ≡ n)
+    × (drop 16 bytes ≡ slice_range bytes 16 (16 + n) ++ drop (16 + n) bytes)
+range_split bytes n within =
+    let size : 16 + n - 16 ≡ n = omega arith in
+    let behind : drop (16 + n - 16) (drop 16 bytes) ≡ drop (16 + n) bytes =
+    ap (λ (k : ℕ). drop k (drop 16 bytes)) size ∙ drop-drop n 16 bytes in (
+      length-take-le (16 + n - 16) (drop 16 bytes) (omega (arith, length-drop 16 bytes)) ∙ size,
+      sym (take-append-drop (16 + n - 16) (drop 16 bytes))
+          ∙ ap (λ (s : List ℕ). slice_range bytes 16 (16 + n) ++ s) behind,
+    )
+
+record_front : (order : ByteOrder) (bytes : List ℕ) → AreBytes bytes → 16 + word32_at order bytes 8 ≤ length bytes
+    → bytes ≡ record_bytes order (record_of order bytes) ++ drop (16 + word32_at order bytes 8) bytes
+record_front order bytes fits within =
+    let kept = word32_at order bytes 8 in
+    let packet = record_of order bytes in
+    let rest = drop (16 + kept) bytes in
+    let split = range_split bytes kept within in
+    let Words : ℕ → List ℕ → List ℕ = λ n s.
+    words_then order (packet.seconds ∷ packet.fraction ∷ n ∷ packet.original_len ∷ []) s in
+    words_front order 4 0 bytes fits (omega arith) ∙ ap (Words kept) split.1
+    ∙ ap (λ (n : ℕ). Words n (packet.bytes ++ rest)) (sym split.0) ∙ sym (record_parts order packet rest)
+
+record_reads : (order : ByteOrder) (bytes : List ℕ) → AreBytes bytes → first_row (record_rows order bytes) ≡ None
+    → IsRecord order bytes (record_read order bytes)
+record_reads order bytes fits none =
+    let kept = word32_at order bytes 8 in
+    let facts : (16 + kept ≤ length bytes) × (kept ≤ most_kept) = grind (arith, common_steps) in
+    record {
+      fits = record {
+        seconds = word32_at-fits order bytes 0 fits;
+        fraction = word32_at-fits order bytes 4 fits;
+        original_len = word32_at-fits order bytes 12 fits;
+        kept = omega (arith, facts.1, (range_split bytes kept facts.0).0);
+      };
+      parts = record_front order bytes fits facts.0;
+    }
+
+record_none : (order : ByteOrder) (bytes : List ℕ) → 16 + word32_at order bytes 8 ≤ length bytes
+    → word32_at order bytes 8 ≤ most_kept → first_row (record_rows order bytes) ≡ None
+record_none order bytes within kept = grind (arith, common_steps)
+
+record_is_read : (order : ByteOrder) (bytes : List ℕ) (value : PlainPacket × List ℕ) → IsRecord order bytes value
+    → (first_row (record_rows order bytes) ≡ None) × (value ≡ record_read order bytes)
+record_is_read order bytes value is =
+    let packet = value.0 in
+    let rest = value.1 in
+    let fits = is.fits in
+    let parts = is.parts ∙ record_parts order packet rest in
+    let few : length packet.bytes < 2 ^ 32 = omega (arith, fits.kept) in
+    let read = words_read order (record_words packet) 0 bytes (packet.bytes ++ rest)
+    (fits.seconds, (fits.fraction, (few, (fits.original_len, tt)))) parts in
+    let kept : word32_at order bytes 8 ≡ length packet.bytes = ap (λ (s : List ℕ). get_or s 2 0) read.0 in
+    let long : 16 + length (packet.bytes ++ rest) ≡ length bytes =
+    omega (arith, ap length parts, length-words_then order (record_words packet) (packet.bytes ++ rest)) in
+    let within : 16 + word32_at order bytes 8 ≤ length bytes =
+    omega (arith, long, kept, length-append packet.bytes rest) in
+    let shown : packet.bytes ≡ slice_range bytes 16 (16 + word32_at order bytes 8) =
+    sym (ap (take (16 + word32_at order bytes 8 - 16)) read.1
+    ∙ take_at packet.bytes rest (16 + word32_at order bytes 8 - 16) (omega (arith, kept))) in
+    let behind : rest ≡ drop (16 + word32_at order bytes 8) bytes =
+    sym (sym (drop-drop (word32_at order bytes 8) 16 bytes) ∙ ap (drop (word32_at order bytes 8)) read.1
+    ∙ drop_at packet.bytes rest (word32_at order bytes 8) (sym kept)) in (
+      record_none order bytes within (omega (arith, kept, fits.kept)),
+      λ i. (
+        record {
+          seconds = get_or (sym read.0 i) 0 0;
+          fraction = get_or (sym read.0 i) 1 0;
+          original_len = get_or (sym read.0 i) 3 0;
+          bytes = shown i;
+        },
+        behind i,
+      ),
+    )
+
+-- how many bytes are kept of a packet, as its record says
+pub record_kept : (order : ByteOrder) (bytes : List ℕ) (packet : PlainPacket) (rest : List ℕ)
+    → IsRecord order bytes (packet, rest) → word32_at order bytes 8 ≡ length packet.bytes
+record_kept order bytes packet rest is =
+    let few : length packet.bytes < 2 ^ 32 = omega (arith, is.fits.kept) in
+    ap (λ (s : List ℕ). get_or s 2 0)
+    (words_read order (record_words packet) 0 bytes (packet.bytes ++ rest)
+    (is.fits.seconds, (is.fits.fraction, (few, (is.fits.original_len, tt))))
+    (is.parts ∙ record_parts order packet rest)).0
+
+-- how long a record is
+pub record_long : (order : ByteOrder) (bytes : List ℕ) (packet : PlainPacket) (rest : List ℕ)
+    → IsRecord order bytes (packet, rest) → length bytes ≡ 16 + length packet.bytes + length rest
+record_long order bytes packet rest is =
+    omega (
+      arith,
+      ap length (is.parts ∙ record_parts order packet rest),
+      length-words_then order (record_words packet) (packet.bytes ++ rest),
+      length-append packet.bytes rest,
+    )
+
+-- such records are decided
+pub record_is_read_by : (order : ByteOrder) → IsReadBy (IsRecord order) (record_rows order) (record_read order)
+record_is_read_by order = record { reads = record_reads order; is_read = record_is_read order }
+
+-- ---- the heading
+
+-- the number that was written in a byte order is read as this order and these fractions
+style_read : (order : ByteOrder) (resolution : Resolution) (rest : List ℕ)
+    → style_in (word32 order (magic_of resolution) ++ rest) ≡ Some (order, resolution)
+unfolding word32 word32_at
+style_read Big Micros rest = refl
+style_read Big Nanos rest = refl
+style_read Little Micros rest = refl
+style_read Little Nanos rest = refl
+
+-- the number of some style, read with the highest byte first
+abbrev number_of : ByteOrder → Resolution → ℕ
+number_of Big Micros = 0xa1b2c3d4
+number_of Little Micros = 0xd4c3b2a1
+number_of Big Nanos = 0xa1b23c4d
+number_of Little Nanos = 0x4d3cb2a1
+
+-- what is read as a style is its number
+number_of_style : (magic : ℕ) (order : ByteOrder) (resolution : Resolution)
+    → style_of magic ≡ Some (order, resolution) → magic ≡ number_of order resolution
+number_of_style magic order resolution is = grind (arith, nat_tests)
+
+-- which is written so
+style_written : (order : ByteOrder) (resolution : Resolution)
+    → word32 Big (number_of order resolution) ≡ word32 order (magic_of resolution)
+unfolding word32
+style_written Big Micros = refl
+style_written Little Micros = refl
+style_written Big Nanos = refl
+style_written Little Nanos = refl
+
+-- the heading that is read, and what stands behind it
+abbrev pub heading_read : List ℕ → Heading × List ℕ
+heading_read bytes = (heading_of bytes, drop 24 bytes)
+
+-- the numbers behind the version
+abbrev heading_words : Heading → List ℕ
+heading_words heading = heading.zone ∷ heading.accuracy ∷ heading.snap_len ∷ heading.network ∷ []
+
+heading_parts : (heading : Heading) (rest : List ℕ)
+    → heading_bytes heading ++ rest
+    ≡ word32 heading.order (magic_of heading.resolution) ++ (word16 heading.order 2 ++ (word16 heading.order 4
+    ++ words_then heading.order (heading_words heading) rest))
+heading_parts heading rest = simp append_assoc
+
+-- what a style makes of bytes
+abbrev pub heading_with : Option (ByteOrder × Resolution) → List ℕ → Heading
+heading_with style bytes =
+    let order = style_order style in
+    record {
+      order = order;
+      resolution = style_resolution style;
+      zone = word32_at order bytes 8;
+      accuracy = word32_at order bytes 12;
+      snap_len = word32_at order bytes 16;
+      network = word32_at order bytes 20;
+    }
+
+-- the rows behind the style's
+abbrev rows_with : Option (ByteOrder × Resolution) → List ℕ → List (Bool × Refusal)
+rows_with style bytes =
+    let order = style_order style in
+    let major = word16_at order bytes 4 in
+    let minor = word16_at order bytes 6 in
+    let link = link_of (word32_at order bytes 20) in
+    (nat_lt (length bytes) 4, refusal.Cut 4 (length bytes))
+    ∷ (not (is_some style), refusal.UnknownMagic (word32_at Big bytes 0))
+    ∷ (nat_lt (length bytes) 24, refusal.Cut 24 (length bytes))
+    ∷ (not ((major == 2) && (minor == 4)), refusal.UnsupportedVersion major minor)
+    ∷ (not (knows_link link), refusal.UnsupportedLinkType link)
+    ∷ []
+
+-- what no row refuses
+pub record Passes (style : ByteOrder × Resolution) (bytes : List ℕ) : Type 0 where
+  pub long : 24 ≤ length bytes
+  pub major : word16_at style.0 bytes 4 ≡ 2
+  pub minor : word16_at style.0 bytes 6 ≡ 4
+  pub link : knows_link (link_of (word32_at style.0 bytes 20)) ≡ true
+
+passes : (style : ByteOrder × Resolution) (bytes : List ℕ) → first_row (rows_with (Some style) bytes) ≡ None
+    → Passes style bytes
+passes style bytes none =
+    let facts : (24 ≤ length bytes) × (word16_at style.0 bytes 4 ≡ 2) × (word16_at style.0 bytes 6 ≡ 4)
+    × (knows_link (link_of (word32_at style.0 bytes 20)) ≡ true) = grind (arith, common_steps, nat_tests) in
+    record { long = facts.0; major = facts.1; minor = facts.2; link = facts.3 }
+
+none_refuses : (style : ByteOrder × Resolution) (bytes : List ℕ) → Passes style bytes
+    → first_row (rows_with (Some style) bytes) ≡ None
+none_refuses style bytes passed =
+    let long = passed.long in
+    let link = passed.link in
+    rw (passed.major, passed.minor, link) (grind (arith, common_steps))
+
+-- without a style a row refuses
+no_style : (bytes : List ℕ) → first_row (rows_with None bytes) ≡ None → ⊥
+no_style bytes none = grind (arith, common_steps)
+
+heading_front : (style : ByteOrder × Resolution) (bytes : List ℕ) → AreBytes bytes → style_in bytes ≡ Some style
+    → Passes style bytes → bytes ≡ heading_bytes (heading_with (Some style) bytes) ++ drop 24 bytes
+heading_front style bytes fits is passed =
+    let order = style.0 in
+    let heading = heading_with (Some style) bytes in
+    let long = passed.long in
+    let magic : word32 Big (word32_at Big bytes 0) ≡ word32 order (magic_of style.1) =
+    ap (word32 Big) (number_of_style (word32_at Big bytes 0) order style.1 is) ∙ style_written order style.1 in
+    let major : drop 4 bytes ≡ word16 order 2 ++ drop 6 bytes =
+    word16_front order bytes 4 fits (omega arith) ∙ ap (λ (n : ℕ). word16 order n ++ drop 6 bytes) passed.major in
+    let minor : drop 6 bytes ≡ word16 order 4 ++ drop 8 bytes =
+    word16_front order bytes 6 fits (omega arith) ∙ ap (λ (n : ℕ). word16 order n ++ drop 8 bytes) passed.minor in
+    let words = words_front order 4 8 bytes fits long in
+    words_front Big 1 0 bytes fits (omega arith)
+    ∙ ap (λ (s : List ℕ). s ++ drop 4 bytes) magic
+    ∙ ap (λ (s : List ℕ). word32 order (magic_of style.1) ++ s)
+    (major ∙ ap (λ (s : List ℕ). word16 order 2 ++ s) (minor ∙ ap (λ (s : List ℕ). word16 order 4 ++ s) words))
+    ∙ sym (heading_parts heading (drop 24 bytes))
+
+pub read_with : (style : ByteOrder × Resolution) (bytes : List ℕ) → AreBytes bytes → style_in bytes ≡ Some style
+    → Passes style bytes → IsHeading bytes (heading_with (Some style) bytes, drop 24 bytes)
+read_with style bytes fits is passed = record {
+  fits = record {
+    zone = word32_at-fits style.0 bytes 8 fits;
+    accuracy = word32_at-fits style.0 bytes 12 fits;
+    snap_len = word32_at-fits style.0 bytes 16 fits;
+    network = word32_at-fits style.0 bytes 20 fits;
+    link = passed.link;
+  };
+  parts = heading_front style bytes fits is passed;
+}
+
+reads_with : (style : Option (ByteOrder × Resolution)) (bytes : List ℕ) → AreBytes bytes → style_in bytes ≡ style
+    → first_row (rows_with style bytes) ≡ None → IsHeading bytes (heading_with style bytes, drop 24 bytes)
+reads_with None bytes fits is none = absurd (no_style bytes none)
+reads_with (Some style) bytes fits is none = read_with style bytes fits is (passes style bytes none)
+
+heading_reads : (bytes : List ℕ) → AreBytes bytes → first_row (heading_rows bytes) ≡ None
+    → IsHeading bytes (heading_read bytes)
+heading_reads bytes fits none = reads_with (style_in bytes) bytes fits refl none
+
+heading_is_read : (bytes : List ℕ) (value : Heading × List ℕ) → IsHeading bytes value
+    → (first_row (heading_rows bytes) ≡ None) × (value ≡ heading_read bytes)
+heading_is_read bytes value is =
+    let heading = value.0 in
+    let rest = value.1 in
+    let order = heading.order in
+    let fits = is.fits in
+    let behind = words_then order (heading_words heading) rest in
+    let parts = is.parts ∙ heading_parts heading rest in
+    let style : style_in bytes ≡ Some (order, heading.resolution) =
+    ap style_in parts ∙ style_read order heading.resolution (word16 order 2 ++ (word16 order 4 ++ behind)) in
+    let version = ap (drop 4) parts ∙ drop_at (word32 order (magic_of heading.resolution))
+    (word16 order 2 ++ (word16 order 4 ++ behind)) 4 (length-word32 order (magic_of heading.resolution)) in
+    let major = word16_read order 2 4 bytes (word16 order 4 ++ behind) (omega arith) version in
+    let minor = word16_read order 4 6 bytes behind (omega arith) major.1 in
+    let read = words_read order (heading_words heading) 8 bytes rest
+    (fits.zone, (fits.accuracy, (fits.snap_len, (fits.network, tt)))) minor.1 in
+    let network : heading.network ≡ word32_at order bytes 20 = ap (λ (s : List ℕ). get_or s 3 0) (sym read.0) in
+    let long : 24 ≤ length bytes =
+    omega (arith, ap length minor.1, length-drop 8 bytes, length-words_then order (heading_words heading) rest) in
+    let passed : Passes (order, heading.resolution) bytes = record {
+      long = long;
+      major = major.0;
+      minor = minor.0;
+      link = ap (λ (n : ℕ). knows_link (link_of n)) (sym network) ∙ fits.link;
+    } in
+    let same : heading ≡ heading_with (Some (order, heading.resolution)) bytes = λ i. record {
+      order = order;
+      resolution = heading.resolution;
+      zone = get_or (sym read.0 i) 0 0;
+      accuracy = get_or (sym read.0 i) 1 0;
+      snap_len = get_or (sym read.0 i) 2 0;
+      network = get_or (sym read.0 i) 3 0;
+    } in (
+      ap (λ s. first_row (rows_with s bytes)) style ∙ none_refuses (order, heading.resolution) bytes passed,
+      λ i. ((same ∙ ap (λ s. heading_with s bytes) (sym style)) i, sym read.1 i),
+    )
+
+-- such headings are decided
+pub heading_is_read_by : IsReadBy IsHeading heading_rows heading_read
+heading_is_read_by = record { reads = heading_reads; is_read = heading_is_read }

@@ -1,0 +1,4 @@
+pub mod NumberLemmas
+pub mod ClassicLemmas
+pub mod CaptureLemmas
+pub mod ReaderLemmas

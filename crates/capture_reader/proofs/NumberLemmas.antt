@@ -1,0 +1,187 @@
+-- Numbers written and read again, one behind the other.
+use Rattle.std.proofs.Common.{◌≡◌, ℕ, zero, suc, ◌+◌, ◌*◌, ◌^◌, ◌<◌, ◌≤◌, List, [], ◌∷◌, ◌++◌, length, drop}
+use Rattle.std.proofs.Common.{get_or, refl, sym, ap, ◌∙◌, add-zero, length-append, arith}
+use Rattle.std.proofs.lemmas.Grind.{common_steps}
+use Rattle.std.proofs.lemmas.List.{get_or-drop, drop_at, drop-drop}
+use Rattle.std.proofs.lemmas.Nat.{be_bytes_2, be_bytes_4, le_bytes_2, le_bytes_4}
+use Rattle.std.proofs.lemmas.Nat.{from_be_bytes-to_be_bytes_2, from_be_bytes-to_be_bytes_4}
+use Rattle.std.proofs.lemmas.Nat.{from_le_bytes-to_le_bytes_2, from_le_bytes-to_le_bytes_4}
+use Rattle.std.specs.Int.{w16, w32, from_be_bytes, from_le_bytes}
+use Rattle.ep_base.specs.Bytes.{AreBytes}
+use Rattle.ep_base.proofs.BytesLemmas.{elements, drop-elements}
+use Rattle.capture_reader.specs.declared.byte_order.ByteOrder.{ByteOrder}
+use Rattle.capture_reader.specs.declared.byte_order.ByteOrder.TheVariants.{Big, Little}
+use Rattle.capture_reader.specs.Numbers.{four_at, two_at, word16, word16_at, word32, word32_at}
+
+-- ---- numbers of four bytes
+
+pub length-word32 : (order : ByteOrder) (n : ℕ) → length (word32 order n) ≡ 4
+unfolding word32
+length-word32 Big n = refl
+length-word32 Little n = refl
+
+-- a number of four bytes fits them
+pub word32_at-fits : (order : ByteOrder) (bytes : List ℕ) (i : ℕ) → AreBytes bytes → word32_at order bytes i < 2 ^ 32
+unfolding word32_at
+word32_at-fits Big bytes i fits = omega (arith, fits i, fits (i + 1), fits (i + 2), fits (i + 3))
+word32_at-fits Little bytes i fits = omega (arith, fits i, fits (i + 1), fits (i + 2), fits (i + 3))
+
+-- what is read of a number that was written
+word32_at-front : (order : ByteOrder) (n : ℕ) (rest : List ℕ) → n < 2 ^ 32
+    → word32_at order (word32 order n ++ rest) 0 ≡ n
+unfolding word32 word32_at
+word32_at-front Big n rest fits = from_be_bytes-to_be_bytes_4 n fits
+word32_at-front Little n rest fits = from_le_bytes-to_le_bytes_4 n fits
+
+-- each of four bytes is a byte
+four_fit : (bytes : List ℕ) (i : ℕ) → AreBytes bytes → AreBytes (four_at bytes i)
+four_fit bytes i fits zero = fits i
+four_fit bytes i fits (suc zero) = fits (i + 1)
+four_fit bytes i fits (suc (suc zero)) = fits (i + 2)
+four_fit bytes i fits (suc (suc (suc zero))) = fits (i + 3)
+four_fit bytes i fits (suc (suc (suc (suc k)))) = omega arith
+
+-- what is written of a number that was read
+word32_of_read : (order : ByteOrder) (bytes : List ℕ) (i : ℕ) → AreBytes bytes
+    → word32 order (word32_at order bytes i) ≡ four_at bytes i
+unfolding word32 word32_at
+word32_of_read Big bytes i fits = be_bytes_4 (four_at bytes i) _ refl (four_fit bytes i fits) refl
+word32_of_read Little bytes i fits = le_bytes_4 (four_at bytes i) _ refl (four_fit bytes i fits) refl
+
+four_at-drop : (bytes : List ℕ) (i : ℕ) → four_at (drop i bytes) 0 ≡ four_at bytes i
+four_at-drop bytes i = simp (get_or-drop, add-zero)
+
+-- four bytes, and what stands behind them
+drop-four : (bytes : List ℕ) (i : ℕ) → i + 4 ≤ length bytes → drop i bytes ≡ four_at bytes i ++ drop (i + 4) bytes
+unfolding elements
+drop-four bytes i within =
+    let third : i + 1 + 1 ≡ i + 2 = omega arith in
+    let fourth : i + 1 + 1 + 1 ≡ i + 3 = omega arith in
+    let cells : elements 4 i bytes ≡ four_at bytes i =
+    λ j. get_or bytes i 0 ∷ get_or bytes (i + 1) 0 ∷ get_or bytes (third j) 0 ∷ get_or bytes (fourth j) 0 ∷ [] in
+    drop-elements 4 i bytes within ∙ ap (λ (s : List ℕ). s ++ drop (i + 4) bytes) cells
+
+-- behind a front
+word32_at-drop : (order : ByteOrder) (bytes : List ℕ) (i : ℕ) → word32_at order (drop i bytes) 0 ≡ word32_at order bytes i
+unfolding word32_at
+word32_at-drop Big bytes i = ap (from_be_bytes w32) (four_at-drop bytes i)
+word32_at-drop Little bytes i = ap (from_le_bytes w32) (four_at-drop bytes i)
+
+-- with more behind
+pub word32_at-more : (order : ByteOrder) (bytes more : List ℕ) (i : ℕ) → i + 4 ≤ length bytes
+    → word32_at order (bytes ++ more) i ≡ word32_at order bytes i
+unfolding word32_at
+word32_at-more Big bytes more i within = grind (arith, common_steps)
+word32_at-more Little bytes more i within = grind (arith, common_steps)
+
+-- ---- numbers of two bytes
+
+pub length-word16 : (order : ByteOrder) (n : ℕ) → length (word16 order n) ≡ 2
+unfolding word16
+length-word16 Big n = refl
+length-word16 Little n = refl
+
+word16_at-front : (order : ByteOrder) (n : ℕ) (rest : List ℕ) → n < 2 ^ 16
+    → word16_at order (word16 order n ++ rest) 0 ≡ n
+unfolding word16 word16_at
+word16_at-front Big n rest fits = from_be_bytes-to_be_bytes_2 n fits
+word16_at-front Little n rest fits = from_le_bytes-to_le_bytes_2 n fits
+
+two_fit : (bytes : List ℕ) (i : ℕ) → AreBytes bytes → AreBytes (two_at bytes i)
+two_fit bytes i fits zero = fits i
+two_fit bytes i fits (suc zero) = fits (i + 1)
+two_fit bytes i fits (suc (suc k)) = omega arith
+
+word16_of_read : (order : ByteOrder) (bytes : List ℕ) (i : ℕ) → AreBytes bytes
+    → word16 order (word16_at order bytes i) ≡ two_at bytes i
+unfolding word16 word16_at
+word16_of_read Big bytes i fits = be_bytes_2 (two_at bytes i) _ refl (two_fit bytes i fits) refl
+word16_of_read Little bytes i fits = le_bytes_2 (two_at bytes i) _ refl (two_fit bytes i fits) refl
+
+two_at-drop : (bytes : List ℕ) (i : ℕ) → two_at (drop i bytes) 0 ≡ two_at bytes i
+two_at-drop bytes i = simp (get_or-drop, add-zero)
+
+word16_at-drop : (order : ByteOrder) (bytes : List ℕ) (i : ℕ) → word16_at order (drop i bytes) 0 ≡ word16_at order bytes i
+unfolding word16_at
+word16_at-drop Big bytes i = ap (from_be_bytes w16) (two_at-drop bytes i)
+word16_at-drop Little bytes i = ap (from_le_bytes w16) (two_at-drop bytes i)
+
+pub word16_at-more : (order : ByteOrder) (bytes more : List ℕ) (i : ℕ) → i + 2 ≤ length bytes
+    → word16_at order (bytes ++ more) i ≡ word16_at order bytes i
+unfolding word16_at
+word16_at-more Big bytes more i within = grind (arith, common_steps)
+word16_at-more Little bytes more i within = grind (arith, common_steps)
+
+-- what stands from i on is a number of two bytes, and what stands behind it
+pub word16_front : (order : ByteOrder) (bytes : List ℕ) (i : ℕ) → AreBytes bytes → i + 2 ≤ length bytes
+    → drop i bytes ≡ word16 order (word16_at order bytes i) ++ drop (i + 2) bytes
+unfolding elements
+word16_front order bytes i fits within =
+    drop-elements 2 i bytes within
+    ∙ ap (λ (s : List ℕ). s ++ drop (i + 2) bytes) (sym (word16_of_read order bytes i fits))
+
+-- the number of two bytes that was written from i on is read, and what stands behind it is there
+pub word16_read : (order : ByteOrder) (n i : ℕ) (bytes rest : List ℕ) → n < 2 ^ 16
+    → drop i bytes ≡ word16 order n ++ rest → (word16_at order bytes i ≡ n) × (drop (i + 2) bytes ≡ rest)
+word16_read order n i bytes rest fits parts = (
+  sym (word16_at-drop order bytes i) ∙ ap (λ (s : List ℕ). word16_at order s 0) parts
+      ∙ word16_at-front order n rest fits,
+  sym (drop-drop 2 i bytes) ∙ ap (drop 2) parts ∙ drop_at (word16 order n) rest 2 (length-word16 order n),
+)
+
+-- ---- several numbers of four bytes
+
+-- the bytes of some numbers, and what stands behind them
+abbrev pub words_then : ByteOrder → List ℕ → List ℕ → List ℕ
+words_then order [] rest = rest
+words_then order (n ∷ ns) rest = word32 order n ++ words_then order ns rest
+
+-- so many numbers, from i on
+abbrev pub words_at : ByteOrder → ℕ → ℕ → List ℕ → List ℕ
+words_at order zero i bytes = []
+words_at order (suc k) i bytes = word32_at order bytes i ∷ words_at order k (i + 4) bytes
+
+-- each fits its four bytes
+abbrev pub AllFit : List ℕ → Type 0
+AllFit [] = Unit {0}
+AllFit (n ∷ ns) = (n < 2 ^ 32) × AllFit ns
+
+pub length-words_then : (order : ByteOrder) (ns rest : List ℕ)
+    → length (words_then order ns rest) ≡ 4 * length ns + length rest
+length-words_then order [] rest = omega arith
+length-words_then order (n ∷ ns) rest =
+    omega (
+      arith,
+      length-append (word32 order n) (words_then order ns rest),
+      length-word32 order n,
+      length-words_then order ns rest,
+    )
+
+-- the numbers that were written from i on are read, and what stands behind them is there
+pub words_read : (order : ByteOrder) (ns : List ℕ) (i : ℕ) (bytes rest : List ℕ) → AllFit ns
+    → drop i bytes ≡ words_then order ns rest
+    → (words_at order (length ns) i bytes ≡ ns) × (drop (i + 4 * length ns) bytes ≡ rest)
+words_read order [] i bytes rest fits parts = (refl, ap (λ (k : ℕ). drop k bytes) (omega arith) ∙ parts)
+words_read order (n ∷ ns) i bytes rest fits parts =
+    let first : word32_at order bytes i ≡ n =
+    sym (word32_at-drop order bytes i) ∙ ap (λ (s : List ℕ). word32_at order s 0) parts
+    ∙ word32_at-front order n (words_then order ns rest) fits.0 in
+    let behind : drop (i + 4) bytes ≡ words_then order ns rest =
+    sym (drop-drop 4 i bytes) ∙ ap (drop 4) parts
+    ∙ drop_at (word32 order n) (words_then order ns rest) 4 (length-word32 order n) in
+    let others = words_read order ns (i + 4) bytes rest fits.1 behind in (
+      λ j. first j ∷ others.0 j,
+      ap (λ (k : ℕ). drop k bytes) (omega arith) ∙ others.1,
+    )
+
+-- what stands from i on is so many numbers, and what stands behind them
+pub words_front : (order : ByteOrder) (k i : ℕ) (bytes : List ℕ) → AreBytes bytes → i + 4 * k ≤ length bytes
+    → drop i bytes ≡ words_then order (words_at order k i bytes) (drop (i + 4 * k) bytes)
+words_front order zero i bytes fits within = ap (λ (k : ℕ). drop k bytes) (omega arith)
+words_front order (suc k) i bytes fits within =
+    let others : drop (i + 4) bytes ≡ words_then order (words_at order k (i + 4) bytes) (drop (i + 4 + 4 * k) bytes) =
+    words_front order k (i + 4) bytes fits (omega arith) in
+    drop-four bytes i (omega arith)
+    ∙ ap (λ (s : List ℕ). s ++ drop (i + 4) bytes) (sym (word32_of_read order bytes i fits))
+    ∙ ap (λ (s : List ℕ). word32 order (word32_at order bytes i) ++ s) others
+    ∙ ap (λ (m : ℕ). words_then order (words_at order (suc k) i bytes) (drop m bytes)) (omega arith)

@@ -1,0 +1,4 @@
+pub mod Numbers
+pub mod Classic
+pub mod Captures
+pub mod Readers

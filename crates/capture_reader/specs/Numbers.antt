@@ -1,0 +1,34 @@
+-- Numbers of two and four bytes, in the byte order of the machine that wrote them.
+use Rattle.std.specs.Prelude.{ℕ, ◌+◌, List, [], ◌∷◌, slice_index}
+use Rattle.std.specs.Int.{w16, w32, to_be_bytes, to_le_bytes, from_be_bytes, from_le_bytes}
+use Rattle.capture_reader.specs.declared.byte_order.ByteOrder.{ByteOrder}
+use Rattle.capture_reader.specs.declared.byte_order.ByteOrder.TheVariants.{Big, Little}
+
+-- the two bytes of a number
+unfoldable pub word16 : ByteOrder → ℕ → List ℕ
+word16 Big number = to_be_bytes w16 number
+word16 Little number = to_le_bytes w16 number
+
+-- the four bytes of a number
+unfoldable pub word32 : ByteOrder → ℕ → List ℕ
+word32 Big number = to_be_bytes w32 number
+word32 Little number = to_le_bytes w32 number
+
+-- the two bytes from i on
+abbrev pub two_at : List ℕ → ℕ → List ℕ
+two_at bytes i = slice_index bytes i ∷ slice_index bytes (i + 1) ∷ []
+
+-- the four bytes from i on
+abbrev pub four_at : List ℕ → ℕ → List ℕ
+four_at bytes i =
+    slice_index bytes i ∷ slice_index bytes (i + 1) ∷ slice_index bytes (i + 2) ∷ slice_index bytes (i + 3) ∷ []
+
+-- the number whose two bytes stand from i on
+unfoldable pub word16_at : ByteOrder → List ℕ → ℕ → ℕ
+word16_at Big bytes i = from_be_bytes w16 (two_at bytes i)
+word16_at Little bytes i = from_le_bytes w16 (two_at bytes i)
+
+-- the number whose four bytes stand from i on
+unfoldable pub word32_at : ByteOrder → List ℕ → ℕ → ℕ
+word32_at Big bytes i = from_be_bytes w32 (four_at bytes i)
+word32_at Little bytes i = from_le_bytes w32 (four_at bytes i)

@@ -1,0 +1,43 @@
+//! Numbers in the byte order of a capture.
+
+ghost use Rattle.std.specs.Prelude.{◌≡◌, ◌+◌, ◌≤◌, length};
+ghost use Rattle.capture_reader.specs.Numbers.{word16_at, word32_at};
+
+/// Which byte of a number stands first.
+#[derive(Clone, Copy, Debug, PartialEq, Eq)]
+pub enum ByteOrder {
+    /// The highest.
+    Big,
+    /// The lowest.
+    Little,
+}
+
+impl ByteOrder {
+    /// The number of two bytes from an index on.
+    #[inline]
+    #[tactic(auto, unfolding(crate::specs::Numbers::word16_at))]
+    pub(crate) fn word16(self, bytes: &[u8], at: usize) -> u16
+        requires { at + 2 ≤ length bytes.now }
+        ensures { result ≡ word16_at self bytes.now at }
+    {
+        let word = [bytes[at], bytes[at + 1]];
+        match self {
+            ByteOrder::Big => u16::from_be_bytes(word),
+            ByteOrder::Little => u16::from_le_bytes(word),
+        }
+    }
+
+    /// The number of four bytes from an index on.
+    #[inline]
+    #[tactic(auto, unfolding(crate::specs::Numbers::word32_at))]
+    pub(crate) fn word32(self, bytes: &[u8], at: usize) -> u32
+        requires { at + 4 ≤ length bytes.now }
+        ensures { result ≡ word32_at self bytes.now at }
+    {
+        let word = [bytes[at], bytes[at + 1], bytes[at + 2], bytes[at + 3]];
+        match self {
+            ByteOrder::Big => u32::from_be_bytes(word),
+            ByteOrder::Little => u32::from_le_bytes(word),
+        }
+    }
+}
