@@ -11,6 +11,8 @@ pub mod laws;
 pub mod packet;
 pub mod reader;
 pub mod refusal;
+#[cfg(test)]
+mod tests;
 
 pub use crate::byte_order::ByteOrder;
 pub use crate::heading::{Heading, Resolution};

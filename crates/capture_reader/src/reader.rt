@@ -76,6 +76,13 @@ impl CaptureReader {
         }
     }
 
+    /// How many bytes were taken.
+    pub fn taken(&self) -> u64
+        ensures { result ≡ reader_offset self.now + reader_left self.now }
+    {
+        self.offset + (self.buffer.len() - self.end) as u64
+    }
+
     /// Takes the next bytes of the capture, below 2^64 with those before.
     pub fn take(&mut self, piece: &[u8]) -> Result<(), AllocError>
         requires { reader_offset self.old + reader_left self.old + length piece.now < 2 ^ 64 }
