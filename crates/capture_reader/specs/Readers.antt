@@ -1,12 +1,13 @@
 -- What a contract sees of a reader.
 use Rattle.std.specs.Prelude.{◌≡◌, ℕ, ◌+◌, ◌-◌, ◌<◌, true, false, List, [], ◌∷◌, ◌++◌, length, drop, slice_range}
-use Rattle.std.specs.Prelude.{Result, Ok, Err}
+use Rattle.std.specs.Prelude.{Option, Some, None, Result, Ok, Err}
 use Rattle.ep_base.specs.Tables.{Refuses}
 use Rattle.capture_reader.specs.Captures.{Item, packet, Stage, at_start, in_records}
 use Rattle.capture_reader.specs.Captures.{AreItems, Fits, IsCapture, RefusesCapture}
 use Rattle.capture_reader.specs.Captures.{item_bytes, item_rows, items_bytes, may_end, stage_after, stage_behind}
 use Rattle.capture_reader.specs.Classic.{PlainPacket, kept_packet, most_kept}
 use Rattle.capture_reader.specs.declared.byte_order.ByteOrder.{ByteOrder}
+use Rattle.capture_reader.specs.declared.heading.Heading.{Heading}
 use Rattle.capture_reader.specs.declared.reader.Advance.{Advance}
 use Rattle.capture_reader.specs.declared.reader.Advance.TheVariants.{Packet, Other, MayEnd, Cut}
 use Rattle.capture_reader.specs.declared.reader.CaptureReader.{CaptureReader}
@@ -24,6 +25,11 @@ stage_of (Records first) = in_records first
 -- what a reader has read before
 abbrev pub reader_stage : CaptureReader → Stage
 reader_stage reader = stage_of reader.state
+
+-- the heading that was read
+abbrev pub heading_in : Stage → Option Heading
+heading_in at_start = None
+heading_in (in_records first) = Some first
 
 -- the bytes that were taken, behind those that were read
 abbrev pub reader_rest : CaptureReader → List ℕ

@@ -57,7 +57,8 @@ impl CaptureReader {
     ghost use Rattle.capture_reader.specs.Captures.{Item};
     ghost use Rattle.capture_reader.specs.Classic.{packet_of};
     ghost use Rattle.capture_reader.specs.Readers.{AdvancesTo, Answers, IsInRecords, Passes, Reads, Waits};
-    ghost use Rattle.capture_reader.specs.Readers.{most_held, reader_left, reader_offset, reader_packet, refused_at};
+    ghost use Rattle.capture_reader.specs.Readers.{heading_in, most_held, reader_left, reader_offset};
+    ghost use Rattle.capture_reader.specs.Readers.{reader_packet, reader_stage, refused_at};
 
     /// A reader that took nothing yet.
     pub fn new(alloc: Global) -> CaptureReader
@@ -166,6 +167,16 @@ impl CaptureReader {
         match refusal {
             Refusal::Cut { .. } => Ok(Advance::Cut(error)),
             _ => Err(error),
+        }
+    }
+
+    /// The heading of the capture, once it was read.
+    pub fn heading(&self) -> Option<Heading>
+        ensures { result ≡ heading_in (reader_stage self.now) }
+    {
+        match self.state {
+            State::Start => None,
+            State::Records(heading) => Some(heading),
         }
     }
 
