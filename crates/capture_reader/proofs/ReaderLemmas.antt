@@ -164,6 +164,14 @@ keeps_total reader next (Ok MayEnd) step = (unmoved_left reader next step.0).0
 keeps_total reader next (Ok (Cut error)) step = (unmoved_left reader next step.0).0
 keeps_total reader next (Err error) step = (unmoved_left reader next step.0).0
 
+pub never_back : (reader next : CaptureReader) (answer : Result Advance CaptureError) → Answers reader next answer
+    → reader_offset reader ≤ reader_offset next
+never_back reader next (Ok Packet) step = omega (arith, step.offset)
+never_back reader next (Ok Other) step = omega (arith, step.2.offset)
+never_back reader next (Ok MayEnd) step = omega (arith, step.0.offset)
+never_back reader next (Ok (Cut error)) step = omega (arith, step.0.offset)
+never_back reader next (Err error) step = omega (arith, step.0.offset)
+
 pub reads_some : (reader next : CaptureReader) (answer : Result Advance CaptureError) → Answers reader next answer
     → Passes answer → reader_left next < reader_left reader
 reads_some reader next (Ok Packet) step passes = (step_left reader next (packet (reader_packet next)) step).1

@@ -110,6 +110,7 @@ impl CaptureReader {
         ensures reads { (taken : List ℕ) (items : List Item) → Reads self.old taken items →
             AdvancesTo self.new taken items result }
         ensures total { reader_offset self.new + reader_left self.new ≡ reader_offset self.old + reader_left self.old }
+        ensures grows { reader_offset self.old ≤ reader_offset self.new }
         ensures less { Passes result → reader_left self.new < reader_left self.old }
         ensures memory { Waits result → reader_left self.new < most_held }
     {
