@@ -1,0 +1,26 @@
+# Writes small.pcap, a capture of six packets: python3 captures.py data/small.pcap
+import struct,sys
+def ck(b):
+    s=sum((b[i]<<8)+(b[i+1] if i+1<len(b) else 0) for i in range(0,len(b),2))
+    while s>>16: s=(s&0xffff)+(s>>16)
+    return 0xffff-s
+def ip4(proto,pl,frag=0,src=b"\xc0\xa8\x01\x01",dst=b"\xc0\xa8\x01\x02",ident=1):
+    h=struct.pack("!BBHHHBBH4s4s",0x45,0,20+len(pl),ident,frag,64,proto,0,src,dst)
+    return h[:10]+struct.pack("!H",ck(h))+h[12:]+pl
+def eth(t,pl,vlan=None):
+    b=bytes.fromhex("ffffffffffff020000000001")
+    if vlan is not None: b+=struct.pack("!HH",0x8100,vlan)
+    return b+struct.pack("!H",t)+pl
+udp=lambda s,d,p: struct.pack("!HHHH",s,d,8+len(p),0)+p
+tcp=lambda s,d,p: struct.pack("!HHIIBBHHH",s,d,1,2,0x50,0x12,1000,0,0)+p
+packets=[(1600000000,100,eth(0x800,ip4(17,udp(21,1234,b"12345678")),5),None),
+(1600000000,4311,eth(0x800,ip4(6,tcp(80,4000,b"hello"))),None),
+(1599999999,999999,eth(0x806,bytes.fromhex("0001080006040001020000000001c0a80101000000000000c0a80102")),None),
+(1600000001,50,eth(0x800,ip4(17,udp(21,1234,b"12345678")))[:30],70),
+(1600000002,0,b"\x01\x02",None),
+(1600000002,5,eth(0x86dd,bytes.fromhex("6000000000083a40")+bytes(15)+b"\1"+bytes(15)+b"\2"+bytes.fromhex("8000000000010001")),None)]
+def pcap(order="<",nano=False,link=1):
+    out=struct.pack(order+"IHHIIII",0xa1b23c4d if nano else 0xa1b2c3d4,2,4,0,0,65535,link)
+    for s,f,b,o in packets: out+=struct.pack(order+"IIII",s,f*(1000 if nano else 1),len(b),o or len(b))+b
+    return out
+open(sys.argv[1],"wb").write(pcap())

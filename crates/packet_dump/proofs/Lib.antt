@@ -1,0 +1,4 @@
+pub mod DecimalLemmas
+pub mod SessionLemmas
+pub mod DumpLemmas
+pub mod LineLemmas

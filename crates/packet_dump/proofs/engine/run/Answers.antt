@@ -1,0 +1,97 @@
+use Rattle.std.proofs.Common.{subst, sym, take, arith}
+use Rattle.std.proofs.lemmas.Grind.{common_steps}
+use Rattle.std.specs.Io.KnownBytes.{Appends}
+use Rattle.packet_dump.specs.Dumps.{IsDump}
+use Rattle.packet_dump.specs.Sessions.{Moves}
+use Rattle.packet_dump.specs.WatchedWords.{AppendsFront, inner_of}
+use Rattle.packet_dump.proofs.DumpLemmas.{Moves-begun, Moves-drained, Moves-ended, Moves-front, Moves-kept, Moves-piece}
+use Rattle.packet_dump.proofs.DumpLemmas.{Moves-taken, at_exit}
+use Rattle.packet_dump.proofs.engine.run.Goals as goal
+
+pub returns-in_err-write_all-clause-err : goal.returns-in_err-write_all-clause-err
+returns-in_err-write_all-clause-err g c =
+    let remaining = g.R.Read.remaining in
+    let contents = g.W.Write.contents in
+    let holds = contents (inner_of c.pieces.writer) in
+    let then_holds = contents (inner_of c.write_all.new.self) in
+    at_exit c.from_residual-in_err-write_all.result
+    (Moves-front c.pieces.session c.drain.new.self c.in_ok-standing.standing (remaining (inner_of c.args.reader.now))
+    (remaining (inner_of c.pieces.reader)) (contents (inner_of c.args.writer.now)) holds then_holds
+    c.pieces.invariant.0 c.in_ok-standing.ensures.drains
+    (subst (AppendsFront holds then_holds) c.as_slice.ensures.value c.in_err-write_all.ensures.front))
+
+pub returns-then-ended-clause-ok : goal.returns-then-ended-clause-ok
+returns-then-ended-clause-ok g c =
+    let remaining = g.R.Read.remaining in
+    let contents = g.W.Write.contents in
+    let had = remaining (inner_of c.args.reader.now) in
+    let has = remaining (inner_of c.pieces.reader) in
+    let held = contents (inner_of c.args.writer.now) in
+    let holds = contents (inner_of c.pieces.writer) in
+    let then_holds = contents (inner_of c.write_all.new.self) in
+    subst (λ e. Moves (IsDump e) had has held then_holds) (sym c.error.ensures)
+    (Moves-ended c.pieces.session c.drain.new.self c.in_ok-standing.standing had has held holds then_holds
+    c.pieces.invariant.0 c.in_ok-standing.ensures.drains
+    (subst (Appends holds then_holds) c.as_slice.ensures.value c.in_ok-write_all.ensures.all))
+
+pub returns-in_err-count-clause-err : goal.returns-in_err-count-clause-err
+returns-in_err-count-clause-err g c =
+    let remaining = g.R.Read.remaining in
+    let contents = g.W.Write.contents in
+    let had = remaining (inner_of c.args.reader.now) in
+    let has = remaining (inner_of c.pieces.reader) in
+    let then_has = remaining (inner_of c.read.new.self) in
+    let held = contents (inner_of c.args.writer.now) in
+    let holds = contents (inner_of c.pieces.writer) in
+    let then_holds = contents (inner_of c.write_all.new.self) in
+    at_exit c.from_residual-in_err-count.result
+    (Moves-begun c.drain.new.self had then_has held then_holds
+    (Moves-kept c.drain.new.self had has then_has held then_holds
+    (Moves-drained c.pieces.session c.drain.new.self c.in_ok-standing.standing had has held holds then_holds
+    c.pieces.invariant.0 c.in_ok-standing.ensures.drains
+    (subst (Appends holds then_holds) c.as_slice.ensures.value c.in_ok-write_all.ensures.all))
+    c.in_err-count.ensures.bytes))
+
+pub returns-in_err-take-clause-err : goal.returns-in_err-take-clause-err
+returns-in_err-take-clause-err g c =
+    let remaining = g.R.Read.remaining in
+    let contents = g.W.Write.contents in
+    let had = remaining (inner_of c.args.reader.now) in
+    let has = remaining (inner_of c.pieces.reader) in
+    let then_has = remaining (inner_of c.read.new.self) in
+    let held = contents (inner_of c.args.writer.now) in
+    let holds = contents (inner_of c.pieces.writer) in
+    let then_holds = contents (inner_of c.write_all.new.self) in
+    at_exit c.from_residual-in_err-take.result
+    (Moves-piece c.drain.new.self (take c.in_ok-count.count c.read.new.piece) had has then_has held then_holds
+    (Moves-drained c.pieces.session c.drain.new.self c.in_ok-standing.standing had has held holds then_holds
+    c.pieces.invariant.0 c.in_ok-standing.ensures.drains
+    (subst (Appends holds then_holds) c.as_slice.ensures.value c.in_ok-write_all.ensures.all))
+    c.in_ok-count.ensures.bytes.0)
+
+pub pieces-preserved : goal.pieces-preserved
+pieces-preserved g c =
+    let remaining = g.R.Read.remaining in
+    let contents = g.W.Write.contents in
+    let had = remaining (inner_of c.args.reader.now) in
+    let has = remaining (inner_of c.pieces.reader) in
+    let then_has = remaining (inner_of c.read.new.self) in
+    let held = contents (inner_of c.args.writer.now) in
+    let holds = contents (inner_of c.pieces.writer) in
+    let then_holds = contents (inner_of c.write_all.new.self) in
+    let drained = c.in_ok-standing.ensures in
+    let taken = c.in_ok-take.ensures in
+    let counted = c.in_ok-count.ensures.counted in
+    let before = c.pieces.invariant.5 in (
+      Moves-taken c.drain.new.self c.take.new.self (take c.in_ok-count.count c.read.new.piece) had has then_has held
+          then_holds
+          (Moves-drained c.pieces.session c.drain.new.self c.in_ok-standing.standing had has held holds then_holds
+          c.pieces.invariant.0 drained.drains
+          (subst (Appends holds then_holds) c.as_slice.ensures.value c.in_ok-write_all.ensures.all))
+          c.in_ok-count.ensures.bytes.0 taken.stands,
+      c.in_ok-count.ensures.failed,
+      c.in_ok-write_all.ensures.failed,
+      grind (arith, common_steps),
+      taken.counts drained.counts,
+      grind (arith, common_steps, taken.taken, drained.taken, counted, before),
+    )

@@ -1,0 +1,16 @@
+use Rattle.std.proofs.Common.{◌≡◌, ◌≤◌, ◌*◌, ◌+◌, ◌^◌, false, length}
+use Rattle.packet_dump.specs.Sessions.{Counts, Moves, taken_by}
+use Rattle.packet_dump.specs.WatchedWords.{has_failed, inner_of, reads_left}
+use Rattle.packet_dump.proofs.DumpLemmas.{Told}
+use Rattle.packet_dump.proofs.engine.run.Given as goal
+
+abbrev pub invariant-pieces : goal.invariant-pieces
+invariant-pieces g l =
+    Moves (Told l.session)
+    (g.R.Read.remaining (inner_of l.initial.reader)) (g.R.Read.remaining (inner_of l.reader))
+    (g.W.Write.contents (inner_of l.initial.writer)) (g.W.Write.contents (inner_of l.writer))
+    × (has_failed l.reader ≡ false) × (has_failed l.writer ≡ false) × (length l.piece ≡ 65536)
+    × Counts l.session × (taken_by l.session + 65536 * reads_left l.reader ≤ 2 ^ 63)
+
+abbrev pub decreases-pieces : goal.decreases-pieces
+decreases-pieces g l = reads_left l.reader

@@ -1,0 +1,13 @@
+use Rattle.std.proofs.Common.{◌≡◌, ◌++◌, List, ℕ, length, false}
+use Rattle.std.specs.Io.KnownBytes.{Appends}
+use Rattle.packet_dump.specs.WatchedWords.{KeepsReads, has_failed, inner_of}
+use Rattle.packet_dump.proofs.watched.Watched.write_all.Given as goal
+
+abbrev pub invariant-parts : goal.invariant-parts
+invariant-parts g l =
+    (front : List ℕ)
+    × Appends (g.W.Write.contents (inner_of l.initial.self)) (g.W.Write.contents (inner_of l.self)) front
+    × (l.fn.bytes ≡ front ++ l.rest) × (has_failed l.self ≡ false) × KeepsReads l.initial.self l.self
+
+abbrev pub decreases-parts : goal.decreases-parts
+decreases-parts g l = length l.rest

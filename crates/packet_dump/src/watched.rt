@@ -1,0 +1,127 @@
+//! A reader or a writer that remembers how its calls went.
+
+ghost use Rattle.std.specs.Prelude.{◌≡◌, ◌==◌, ◌+◌, ◌-◌, ◌^◌, ◌<◌, ◌≤◌, length, true};
+ghost use Rattle.std.specs.Prelude.{false, is_err, IfOk, IfErr, MatchResult, OnOk, OnErr};
+ghost use Rattle.std.specs.Io.KnownBytes.{Appends, IsAtEnd, ReadConsumes, WriteAppends};
+ghost use Rattle.packet_dump.specs.WatchedWords.{AppendsFront, KeepsReads, has_ended};
+ghost use Rattle.packet_dump.specs.WatchedWords.{has_failed, inner_of, is_at_end, reads_left};
+
+use crate::run_error::RunError;
+use std::io::{Read, Write};
+
+/// How many reads are made at most: of 64 KiB each, so that the number of bytes fits in 64 bits.
+const MOST_READS: u64 = 0x8000_0000_0000;
+
+/// A reader or a writer that remembers whether a call failed, and of a reader whether it came to its end.
+#[derive(Drop)]
+pub struct Watched<T> {
+    inner: T,
+    /// Whether a call failed, or a write took none of a nonempty part.
+    failed: bool,
+    /// Whether a read into a nonempty part gave no byte.
+    at_end: bool,
+    /// How many more reads may be made, so that a reader without an end is left at last.
+    reads_left: u64,
+}
+
+impl<T> Watched<T> {
+    /// Watches a reader or a writer from here on.
+    pub fn new(inner: T) -> Watched<T>
+        ensures inner { inner_of result ≡ inner }
+        ensures failed { has_failed result ≡ false }
+        ensures at_end { is_at_end result ≡ false }
+        ensures reads_left { reads_left result ≡ 2 ^ 47 }
+    {
+        Watched {
+            inner,
+            failed: false,
+            at_end: false,
+            reads_left: MOST_READS,
+        }
+    }
+
+    /// Whether a call failed, or a write took none of a nonempty part.
+    pub fn failed(&self) -> bool
+        ensures { result ≡ has_failed self.now }
+    {
+        self.failed
+    }
+}
+
+impl<R: Read> Watched<R> {
+    /// Whether a read into a nonempty part gave no byte, or 2^47 reads were made. Nothing more is read then.
+    pub fn ended(&self) -> bool
+        ensures { result ≡ has_ended self.now }
+    {
+        self.at_end || self.reads_left == 0
+    }
+
+    /// Reads once, and tells how many bytes came to the front of `piece`.
+    pub(crate) fn read(&mut self, piece: &mut [u8]) -> Result<usize, RunError>
+        requires sound { has_failed self.old ≡ false }
+        requires open { has_ended self.old ≡ false }
+        requires room { 0 < length piece.old }
+        ensures bound { IfOk result (λ count. count ≤ length piece.new) }
+        ensures bytes { ReadConsumes (R.remaining (inner_of self.old)) (R.remaining (inner_of self.new)) result
+            piece.new }
+        ensures failed { has_failed self.new ≡ is_err result }
+        ensures error { IfErr result (λ error. error ≡ RunError.Read) }
+        ensures at_end { MatchResult result (λ count. is_at_end self.new ≡ (count == 0))
+            (λ _. is_at_end self.new ≡ false) }
+        ensures end { is_at_end self.new ≡ true → IsAtEnd (R.remaining (inner_of self.new)) }
+        ensures counted { reads_left self.old ≡ reads_left self.new + 1 }
+    {
+        self.reads_left -= 1;
+        match self.inner.read(piece) {
+            Ok(count) => {
+                self.at_end = count == 0;
+                Ok(count)
+            }
+            Err(_) => {
+                self.failed = true;
+                Err(RunError::Read)
+            }
+        }
+    }
+}
+
+impl<W: Write> Watched<W> {
+    /// Writes once, and tells how many bytes were taken of the front of `part`, at least one.
+    fn write(&mut self, part: &[u8]) -> Result<usize, RunError>
+        requires sound { has_failed self.old ≡ false }
+        requires some { 0 < length part.now }
+        ensures count { IfOk result (λ count. (0 < count) × (count ≤ length part.now)) }
+        ensures bytes { WriteAppends (W.contents (inner_of self.old)) (W.contents (inner_of self.new)) result
+            part.now }
+        ensures reads { KeepsReads self.old self.new }
+        ensures failed { has_failed self.new ≡ is_err result }
+        ensures error { IfErr result (λ error. error ≡ RunError.Write) }
+    {
+        match self.inner.write(part) {
+            Ok(count) if count > 0 => Ok(count),
+            _ => {
+                self.failed = true;
+                Err(RunError::Write)
+            }
+        }
+    }
+
+    /// Writes all bytes, in as many writes as it takes. At an error a front of them was written.
+    pub(crate) fn write_all(&mut self, bytes: &[u8]) -> Result<(), RunError>
+        requires { has_failed self.old ≡ false }
+        ensures all { OnOk result (Appends (W.contents (inner_of self.old)) (W.contents (inner_of self.new))
+            bytes.now) }
+        ensures front { OnErr result (AppendsFront (W.contents (inner_of self.old)) (W.contents (inner_of self.new))
+            bytes.now) }
+        ensures reads { KeepsReads self.old self.new }
+        ensures failed { has_failed self.new ≡ is_err result }
+        ensures error { IfErr result (λ error. error ≡ RunError.Write) }
+    {
+        let mut rest = bytes;
+        'parts: while !rest.is_empty() {
+            let count = self.write(rest)?;
+            rest = &rest[count..];
+        }
+        Ok(())
+    }
+}
