@@ -1,0 +1,92 @@
+#!/usr/bin/env python3
+"""Says what the documents name that is not there: python3 docs/check_names.py
+
+A name in backticks has to stand somewhere in the code, a link has to lead to a file, and to a heading where it names one,
+and each public call with a contract and each law of a library has to be named in the README of its crate. Its status is 0
+where nothing is wrong.
+"""
+import os
+import re
+import sys
+from glob import glob
+
+# Names of the Rust crate, of Rust and of the toolchain, which no file of the repository has.
+OTHERS = {"TryFrom", "Seek", "to_packet", "splice", "in_lanes", "rattle", "kit", "crates", "txt", "antt", "edit", "sh"}
+LIBRARIES = "ep_base ep_link ep_ext ep_ip ep_transport ep_packet ep_build ep_defrag etherparse_c capture_reader".split()
+CODE = ["crates/*/src/**/*.rt", "crates/*/specs/**/*.antt", "crates/*/proofs/**/*.antt", "crates/*/*.py"]
+CODE += ["crates/*/compare/*", "crates/*/must-fail/*", "include/*", "rust/**/*.rs", "examples/**/*", "docs/*.*", ".ci/*"]
+
+
+def read(path):
+    with open(path, errors="replace") as file:
+        return file.read()
+
+
+def files(patterns):
+    found = (path for pattern in patterns for path in glob(pattern, recursive=True))
+    return [path for path in found if os.path.isfile(path) and not path.endswith(".md")]
+
+
+def plain(text):
+    """A document without its blocks of code."""
+    return re.sub(r"```.*?```", "", text, flags=re.S)
+
+
+def anchors(path):
+    """The headings of a document, as links name them."""
+    titles = re.findall(r"^#+ (.*)$", plain(read(path)), re.M)
+    return {re.sub(r"[^\w\- ]", "", title.lower()).replace(" ", "-") for title in titles}
+
+
+def names_in(text):
+    """The names in backticks, without what is no single name."""
+    for token in re.findall(r"`([^`]+)`", plain(text)):
+        if not re.search(r"[ ≡+=<>?|\"#{}\[\]]", token):
+            for name in re.split(r"::|[/().,:*-]+", token):
+                if re.fullmatch(r"[A-Za-z_]\w*", name):
+                    yield token, name
+
+
+def calls_of(crate):
+    """The public functions of a crate that have a contract."""
+    for path in files([f"crates/{crate}/src/**/*.rt"]):
+        if "/tests" not in path:
+            # a signature goes up to the line with which the body begins, or to `{}`
+            for name, rest in re.findall(r"^ *pub (?:const |extern \"C\" )*fn (\w+)(.*?)^ *\{\}?$", read(path), re.M | re.S):
+                if "ensures" in rest.split("\n    }\n")[0]:
+                    yield name
+
+
+def main():
+    os.chdir(os.path.join(os.path.dirname(os.path.abspath(__file__)), ".."))
+    words = {word for path in files(CODE) for word in re.findall(r"\w+", read(path))}
+    for folder, folders, names in os.walk("."):
+        folders[:] = [name for name in folders if name not in (".git", "out")]
+        words.update(os.path.splitext(name)[0] for name in folders + names)
+    fronts = {word[:length] for word in words for length in range(3, len(word))}
+    backs = {word[length:] for word in words for length in range(len(word)) if word[length] == "_"}
+    wrong = []
+    for path in ["README.md", "CHANGELOG.md"] + glob("docs/*.md") + glob("crates/*/README.md"):
+        text = read(path)
+        for token, name in names_in(text):
+            if not any(name in known for known in (words, fronts, backs, OTHERS)):
+                wrong.append(f"{path}: `{token}` names {name}, which is nowhere")
+        for link in re.findall(r"\]\(([^)]+)\)", plain(text)):
+            target, _, anchor = link.partition("#")
+            target = os.path.normpath(os.path.join(os.path.dirname(path), target)) if target else path
+            if link.startswith("http"):
+                continue
+            if not os.path.exists(target):
+                wrong.append(f"{path}: {link} leads nowhere")
+                continue
+            page = os.path.join(target, "README.md") if os.path.isdir(target) else target
+            if anchor and anchor not in anchors(page):
+                wrong.append(f"{path}: {link} names no heading")
+    for crate in LIBRARIES:
+        named = set(re.findall(r"\w+", read(f"crates/{crate}/README.md")))
+        wrong += [f"crates/{crate}/README.md: {call} has no row" for call in calls_of(crate) if call not in named]
+    print("\n".join(wrong) if wrong else "check_names: nothing is wrong")
+    sys.exit(bool(wrong))
+
+
+main()
