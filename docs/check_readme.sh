@@ -1,0 +1,44 @@
+#!/usr/bin/env bash
+# Runs every command of the README in a fresh clone: docs/check_readme.sh [--long] [--root]
+#
+# Commands are the lines of the README's blocks ```sh. Each block is run from the top of the clone, in one shell, up to
+# its first failure. A line whose comment begins with `long:` or `root:` takes minutes or needs root, and is skipped
+# unless it is asked for. What is committed is what is checked. The status is 0 where no command failed.
+set -uo pipefail
+cd "$(dirname "$0")/.."
+skipped='long|root'
+for argument in "$@"; do
+    case $argument in
+        --long) skipped=${skipped/long/-} ;;
+        --root) skipped=${skipped/root/-} ;;
+        *) sed -n '2,6s/^# //p' "$0"; exit 2 ;;
+    esac
+done
+work=$(mktemp -d)
+trap 'rm -rf "$work"' EXIT
+git clone --quiet . "$work/clone" || exit 1
+
+# A file for each block, block.1, block.2 and so on.
+awk -v name="$work/block." '/^```sh$/ { open = 1; blocks++; next } /^```/ { open = 0 } open { print > (name blocks) }' \
+    "$work/clone/README.md"
+status=0
+ran=0
+left_out=0
+for block in $(ls "$work"/block.* | sort -V); do
+    # The lines that are run, each behind one that prints it.
+    while IFS= read -r line; do
+        if [[ $line =~ \#\ ($skipped): ]]; then
+            echo "skipped: $line" >&2
+            left_out=$((left_out + 1))
+        elif [[ -n $line ]]; then
+            printf 'echo %q >&2\n%s\n' "runs: $line" "$line"
+            ran=$((ran + 1))
+        fi
+    done < "$block" > "$block.sh"
+    if ! (cd "$work/clone" && bash -e "$block.sh" < /dev/null); then
+        echo "check_readme: the last command failed" >&2
+        status=1
+    fi
+done
+echo "check_readme: $ran commands, $left_out skipped, status $status"
+exit $status
