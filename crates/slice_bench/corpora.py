@@ -17,6 +17,7 @@ descending   the same fragments, from the last to the first
 shuffled     the same in random order
 alternating  the same, every second one first
 """
+import os
 import random
 import struct
 import sys
@@ -163,6 +164,7 @@ def main(arguments):
     fragments = int(arguments[2]) if len(arguments) > 2 else 1000
     if not 1 <= fragments <= 1023:
         sys.exit("a stream has 1 to 1,023 fragments of 64 bytes")
+    os.makedirs(folder, exist_ok=True)
     rng = random.Random(seed)
     write(folder, "udp64", [udp_frame(rng, 64) for _ in range(FRAMES)])
     write(folder, "udp1400", [udp_frame(rng, 1400) for _ in range(FRAMES)])
