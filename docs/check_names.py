@@ -2,7 +2,7 @@
 """Says what the documents name that is not there: python3 docs/check_names.py
 
 A name in backticks has to stand somewhere in the code, a link has to lead to a file, and to a heading where it names one,
-and each public call with a contract and each law of a library has to be named in the README of its crate. Its status is 0
+a definition has to stand in the file that its link leads to, and each public call with a contract and each law of a library has to be named in the README of its crate. Its status is 0
 where nothing is wrong.
 """
 import os
@@ -71,7 +71,7 @@ def main():
         for token, name in names_in(text):
             if not any(name in known for known in (words, fronts, backs, OTHERS)):
                 wrong.append(f"{path}: `{token}` names {name}, which is nowhere")
-        for link in re.findall(r"\]\(([^)]+)\)", plain(text)):
+        for shown, link in re.findall(r"\[([^]]*)\]\(([^)]+)\)", plain(text)):
             target, _, anchor = link.partition("#")
             target = os.path.normpath(os.path.join(os.path.dirname(path), target)) if target else path
             if link.startswith("http"):
@@ -80,6 +80,9 @@ def main():
                 wrong.append(f"{path}: {link} leads nowhere")
                 continue
             page = os.path.join(target, "README.md") if os.path.isdir(target) else target
+            if re.fullmatch(r"`\w+`", shown) and target.endswith(".antt") and shown.strip("`") not in target:
+                if not re.search(rf"^(pub |abbrev |data |record |unfoldable )+{shown.strip('`')}\b", read(target), re.M):
+                    wrong.append(f"{path}: {shown} is not defined in {target}")
             if anchor and anchor not in anchors(page):
                 wrong.append(f"{path}: {link} names no heading")
     for crate in LIBRARIES:
