@@ -2,8 +2,8 @@
 """Says what the documents name that is not there: python3 docs/check_names.py
 
 A name in backticks has to stand somewhere in the code, a link has to lead to a file, and to a heading where it names one,
-a definition has to stand in the file that its link leads to, and each public call with a contract and each law of a library has to be named in the README of its crate. Its status is 0
-where nothing is wrong.
+a definition has to stand in the file that its link leads to, and each public call with a contract and each law of a
+library has to be named in the README of its crate. Its status is 0 where nothing is wrong.
 """
 import os
 import re
