@@ -1,5 +1,5 @@
 -- That a table refuses the front of bytes that it does not refuse for want of what the cut took.
-use Rattle.std.proofs.Common.{◌≡◌, ℕ, ◌+◌, ◌≤◌, ◌==◌, if◌then◌else◌, Bool, true, false, List, [], ◌∷◌, ◌++◌, get_or, length, Option, Some, None, refl, sym, ap, subst, ◌∙◌, arith, length-append}
+use Rattle.std.proofs.Common.{◌≡◌, ℕ, ◌+◌, ◌≤◌, if◌then◌else◌, Bool, true, false, List, [], ◌∷◌, ◌++◌, get_or, length, Option, Some, None, refl, sym, ap, subst, ◌∙◌, arith}
 use Rattle.std.specs.Prelude.{nat_lt}
 use Rattle.std.proofs.lemmas.Grind.{common_steps}
 use Rattle.std.proofs.lemmas.List.{append-nil, append_assoc, get_or_append_left}
@@ -26,14 +26,16 @@ pub refused_beside : {E : Type 0} (Such : E → Type 0) (rows whole : List (Bool
     → first_row whole ≡ None → (error : E) → first_row rows ≡ Some error → Such error
 refused_beside Such [] whole beside none error refused = absurd (none-some error refused)
 refused_beside Such (row ∷ rows) [] beside none error refused = absurd beside
-refused_beside Such (row ∷ rows) ((true, other) ∷ others) beside none error refused = absurd (none-some other (sym none))
+refused_beside Such (row ∷ rows) ((true, other) ∷ others) beside none error refused = absurd
+    (none-some other (sym none))
 refused_beside Such ((true, row_error) ∷ rows) ((false, other) ∷ others) beside none error refused =
     let same : row_error ≡ error = cc in subst Such same ((beside refl).0 refl)
 refused_beside Such ((false, row_error) ∷ rows) ((false, other) ∷ others) beside none error refused =
     refused_beside Such rows others ((beside refl).1 refl) none error refused
 
 -- of two tables, of which a condition takes one
-pub either_beside : {E : Type 0} (Such : E → Type 0) (condition : Bool) (rows others whole whole_others : List (Bool × E))
+pub either_beside : {E : Type 0} (Such : E → Type 0) (condition : Bool)
+    (rows others whole whole_others : List (Bool × E))
     → BesideRows Such rows whole → BesideRows Such others whole_others
     → BesideRows Such (if condition then rows else others) (if condition then whole else whole_others)
 either_beside Such true rows others whole whole_others beside also = beside
@@ -47,10 +49,22 @@ named_beside Such name (row ∷ rows) [] beside = beside
 named_beside Such name (row ∷ rows) (other ∷ others) beside =
     λ long. ((beside long).0, λ enough. named_beside Such name rows others ((beside long).1 enough))
 
+-- rows whose errors are such in another sense too
+pub mapped_beside : {E : Type 0} (Such Other : E → Type 0) → ((error : E) → Such error → Other error)
+    → (rows whole : List (Bool × E)) → BesideRows Such rows whole → BesideRows Other rows whole
+mapped_beside Such Other also [] whole beside = tt
+mapped_beside Such Other also (row ∷ rows) [] beside = beside
+mapped_beside Such Other also (row ∷ rows) (other ∷ others) beside =
+    λ long. (
+      λ holds. also row.1 ((beside long).0 holds),
+      λ there. mapped_beside Such Other also rows others ((beside long).1 there),
+    )
+
 -- a table does not refuse what stands
 pub stands_unrefused : {V E : Type 0} {Is : V → Type 0} (rows : List (Bool × E)) → IsDecided Is (Refuses rows)
     → (value : V) → Is value → first_row rows ≡ None
-stands_unrefused rows decided value is = unrefused (first_row rows) (λ error refused. decided.not_both value error is refused)
+stands_unrefused rows decided value is = unrefused (first_row rows)
+    (λ error refused. decided.not_both value error is refused)
   where
     unrefused : {E : Type 0} (answer : Option E) → ((error : E) → answer ≡ Some error → ⊥) → answer ≡ None
     unrefused None never = refl

@@ -1,5 +1,5 @@
 -- What a refusal by a length says of the bytes that are missing.
-use Rattle.std.specs.Prelude.{◌≡◌, ◌<◌, ◌≤◌, ◌⊎◌, ⊤, ℕ, ◌+◌, List, ◌++◌, length}
+use Rattle.std.specs.Prelude.{◌≡◌, ◌<◌, ◌≤◌, ◌⊎◌, ℕ, ◌+◌, List, ◌++◌, length}
 use Rattle.ep_base.specs.Bytes.{AreBytes}
 use Rattle.ep_base.specs.declared.err.len_error.LenError.{LenError}
 use Rattle.ep_base.specs.declared.err.layer.Layer.{Layer}
@@ -37,8 +37,8 @@ pub record TellsMissing (Refuses : List ℕ → LenError → Type 0) : Type 0 wh
       → IsOfBytesAtHand error.len_source → (¬ HasExactLength error.layer)
       → error.required_len ≤ error.len + length more → Refuses (bytes ++ more) (that_row error len) → ⊥
 
--- The refusal of bytes of which only so many were left by a cut, of the whole: a layer needs more bytes than there are from
--- its start up to the cut, and no more than there were before it.
+-- The refusal of bytes of which only so many were left by a cut, of the whole: a layer needs more bytes than there are
+-- from its start up to the cut, and no more than there were before it.
 pub record IsCutShort (cut whole : ℕ) (error : LenError) : Type 0 where
   pub there : error.layer_start_offset + error.len ≡ cut
   pub needed : error.len < error.required_len

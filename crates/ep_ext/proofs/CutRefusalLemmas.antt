@@ -1,26 +1,31 @@
--- That the front of an extension header, or of a chain, is refused for want of what the cut took, and that what stands on the
--- front also stands on the whole.
-use Rattle.std.proofs.Common.{◌≡◌, ℕ, ◌+◌, ◌*◌, ◌==◌, if◌then◌else◌, Bool, true, false, List, [], ◌∷◌, ◌++◌, length, Some, None, refl, sym, ap, subst, ◌∙◌, inl, inr, arith, length-append}
+-- That the front of an extension header, or of a chain, is refused for want of what the cut took, and that what stands
+-- on the front also stands on the whole.
+use Rattle.std.proofs.Common.{◌≡◌, ℕ, ◌+◌, ◌*◌, ◌==◌, List, [], ◌∷◌, ◌++◌, length, refl, sym, ap, subst, ◌∙◌, inl, inr, arith, length-append}
 use Rattle.ep_base.specs.Bytes.{AreBytes}
 use Rattle.ep_base.specs.IpNumbers.{authentication_number, fragment_number}
 use Rattle.ep_base.specs.Layer.{Reading}
 use Rattle.ep_base.specs.Missing.{IsCutRefusal, TellsCut, slice_end}
 use Rattle.ep_base.specs.Tables.{rows_as}
-use Rattle.ep_base.proofs.CutRefusalLemmas.{BesideRows, byte_beside, cut_row, either_beside, enough, further_short, longer_rest, refused_beside, same_row, stands_unrefused}
+use Rattle.ep_base.proofs.CutRefusalLemmas.{BesideRows, byte_beside, cut_row, either_beside, enough, further_short, longer_rest, mapped_beside, named_beside, refused_beside, renamed_cut, same_row, stands_unrefused}
 use Rattle.ep_base.specs.declared.err.len_error.LenError.{LenError}
 use Rattle.ep_base.specs.declared.err.layer.Layer.TheVariants as layer
 use Rattle.ep_base.specs.declared.len_source.LenSource.TheVariants as source
+use Rattle.ep_base.specs.declared.err.ip_auth.HeaderSliceError.{HeaderSliceError as AuthSliceError}
+use Rattle.ep_base.specs.declared.err.ip_auth.HeaderSliceError.TheVariants as auth_error
 use Rattle.ep_base.specs.declared.err.ipv6_exts.HeaderSliceError.{HeaderSliceError}
 use Rattle.ep_base.specs.declared.err.ipv6_exts.HeaderSliceError.TheVariants as header_error
-use Rattle.ep_ext.specs.Chains.{ExtensionChain, IpVersion, IsChainBehind, IsExtensionChain, RefusesChainBehind, RefusesExtensionChain, demand_of, ends, further_in, misplaced, takes}
-use Rattle.ep_ext.specs.ExtensionParts.{ExtensionPart, IsExtensionPart, RefusesExtensionPart, authentication, auth_refusal, destination_options, extension_part_rows, fragment, hop_by_hop, part_len, part_next, routing}
-use Rattle.ep_ext.specs.FragmentHeader.{fragment_header_rows}
-use Rattle.ep_ext.specs.IpAuth.{ip_auth_len_of, ip_auth_rows}
-use Rattle.ep_ext.specs.RawExtension.{IsRawExtension, raw_extension_bytes, raw_extension_len_of, raw_extension_rows}
+use Rattle.ep_ext.specs.Chains.{ExtensionChain, IpVersion, IsChainBehind, IsExtensionChain, RefusesChainBehind, RefusesExtensionChain, ends, further_in, misplaced, takes}
+use Rattle.ep_ext.specs.ExtensionParts.{ExtensionPart, IsExtensionPart, authentication, auth_refusal, destination_options, extension_part_rows, fragment, hop_by_hop, part_len, part_next, routing}
+use Rattle.ep_ext.specs.FragmentHeader.{IsFragmentHeader, RefusesFragmentHeader, fragment_header_rows}
+use Rattle.ep_ext.specs.IpAuth.{IsIpAuth, RefusesIpAuth, ip_auth_len_of, ip_auth_rows}
+use Rattle.ep_ext.specs.RawExtension.{IsRawExtension, RefusesRawExtension, raw_extension_bytes, raw_extension_len_of, raw_extension_rows}
 use Rattle.ep_ext.specs.declared.ipv6_raw_ext_header.Ipv6RawExtHeader.{Ipv6RawExtHeader}
 use Rattle.ep_ext.proofs.ChainLemmas.{taken_is_kind}
+use Rattle.ep_ext.proofs.FragmentHeaderLemmas.{fragment_header_is_read}
+use Rattle.ep_ext.proofs.IpAuthLemmas.{ip_auth_is_read}
+use Rattle.ep_ext.proofs.RawExtensionLemmas.{raw_extension_is_read}
 use Rattle.ep_ext.proofs.HeaderLaws.{header_laws}
-use Rattle.ep_ext.proofs.PartLemmas.{IsReadPart, ReadPart, part_behind_fits, part_decided, part_lens}
+use Rattle.ep_ext.proofs.PartLemmas.{ReadPart, part_behind_fits, part_decided, part_lens}
 
 -- a refusal for want of what the cut took, of which the end of the bytes at hand is the limit
 abbrev pub IsCut : ℕ → ℕ → HeaderSliceError → Type 0
@@ -31,51 +36,91 @@ IsCut = IsCutRefusal header_error.Len slice_end
 abbrev Beside : List ℕ → List ℕ → HeaderSliceError → Type 0
 Beside front back = IsCut (length front) (length (front ++ back))
 
-auth_beside : (front back : List ℕ) → BesideRows (Beside front back) (rows_as auth_refusal (ip_auth_rows front))
-    (rows_as auth_refusal (ip_auth_rows (front ++ back)))
-auth_beside front back long = (
-  cut_row header_error.Len slice_end front back 12 12 source.Slice layer.IpAuthHeader refl refl long,
+auth_rows_beside : (front back : List ℕ)
+    → BesideRows (IsCutRefusal auth_error.Len slice_end (length front) (length (front ++ back))) (ip_auth_rows front)
+    (ip_auth_rows (front ++ back))
+auth_rows_beside front back long = (
+  cut_row auth_error.Len slice_end front back 12 12 source.Slice layer.IpAuthHeader refl refl long,
   λ short.
-  let there = enough (length front) 12 short in
-  let field = byte_beside front back 1 (omega (arith, there)) in
-  λ some. (
-    same_row (Beside front back) _ _ _ (ap (λ (b : ℕ). b == 0) field) some,
-    λ also.
-    λ whole. (
-      cut_row header_error.Len slice_end front back (ip_auth_len_of front) (ip_auth_len_of (front ++ back)) source.Slice
-          layer.IpAuthHeader refl (ap (λ (b : ℕ). 4 * (b + 2)) field) whole,
-      λ last. tt,
-    ),
-  ),
+      let there = enough (length front) 12 short in
+      let field = byte_beside front back 1 (omega (arith, there)) in
+      λ some. (
+        same_row (IsCutRefusal auth_error.Len slice_end (length front) (length (front ++ back))) _ _ _
+            (ap (λ (b : ℕ). b == 0) field) some,
+        λ also.
+            λ whole. (
+              cut_row auth_error.Len slice_end front back (ip_auth_len_of front) (ip_auth_len_of (front ++ back)) source.Slice
+                  layer.IpAuthHeader refl (ap (λ (b : ℕ). 4 * (b + 2)) field) whole,
+              λ last. tt,
+            ),
+      ),
 )
 
-fragment_beside : (front back : List ℕ) → BesideRows (Beside front back)
-    (rows_as header_error.Len (fragment_header_rows front)) (rows_as header_error.Len (fragment_header_rows (front ++ back)))
-fragment_beside front back long = (
-  cut_row header_error.Len slice_end front back 8 8 source.Slice layer.Ipv6FragHeader refl refl long,
+auth_beside : (front back : List ℕ) → BesideRows (Beside front back) (rows_as auth_refusal (ip_auth_rows front))
+    (rows_as auth_refusal (ip_auth_rows (front ++ back)))
+auth_beside front back =
+    named_beside (Beside front back) auth_refusal (ip_auth_rows front) (ip_auth_rows (front ++ back))
+    (mapped_beside (IsCutRefusal auth_error.Len slice_end (length front) (length (front ++ back)))
+    (λ (error : AuthSliceError). Beside front back (auth_refusal error))
+    (λ error is. renamed_cut auth_refusal auth_error.Len slice_end (length front) (length (front ++ back)) error
+    (auth_refusal error) is refl)
+    (ip_auth_rows front) (ip_auth_rows (front ++ back)) (auth_rows_beside front back))
+
+-- a refusal under this name
+abbrev BesideAs : {E : Type 0} → (LenError → E) → List ℕ → List ℕ → LenError → Type 0
+BesideAs named front back error = IsCutRefusal named slice_end (length front) (length (front ++ back)) (named error)
+
+fragment_beside : {E : Type 0} (named : LenError → E) (front back : List ℕ)
+    → BesideRows (BesideAs named front back) (fragment_header_rows front) (fragment_header_rows (front ++ back))
+fragment_beside named front back long = (
+  cut_row named slice_end front back 8 8 source.Slice layer.Ipv6FragHeader refl refl long,
   λ short. tt,
 )
 
-raw_beside : (front back : List ℕ) → BesideRows (Beside front back)
-    (rows_as header_error.Len (raw_extension_rows front)) (rows_as header_error.Len (raw_extension_rows (front ++ back)))
-raw_beside front back long = (
-  cut_row header_error.Len slice_end front back 8 8 source.Slice layer.Ipv6ExtHeader refl refl long,
+raw_beside : {E : Type 0} (named : LenError → E) (front back : List ℕ)
+    → BesideRows (BesideAs named front back) (raw_extension_rows front) (raw_extension_rows (front ++ back))
+raw_beside named front back long = (
+  cut_row named slice_end front back 8 8 source.Slice layer.Ipv6ExtHeader refl refl long,
   λ short.
-  let there = enough (length front) 8 short in
-  let field = byte_beside front back 1 (omega (arith, there)) in
-  λ whole. (
-    cut_row header_error.Len slice_end front back (raw_extension_len_of front) (raw_extension_len_of (front ++ back))
-        source.Slice layer.Ipv6ExtHeader refl (ap (λ (b : ℕ). 8 * (b + 1)) field) whole,
-    λ last. tt,
-  ),
+      let there = enough (length front) 8 short in
+      let field = byte_beside front back 1 (omega (arith, there)) in
+      λ whole. (
+        cut_row named slice_end front back (raw_extension_len_of front) (raw_extension_len_of (front ++ back)) source.Slice
+            layer.Ipv6ExtHeader refl (ap (λ (b : ℕ). 8 * (b + 1)) field) whole,
+        λ last. tt,
+      ),
 )
+
+pub ip_auth_cut : TellsCut IsIpAuth RefusesIpAuth auth_error.Len (λ read. slice_end)
+ip_auth_cut front back fits read is error refused =
+    refused_beside (IsCutRefusal auth_error.Len slice_end (length front) (length (front ++ back))) (ip_auth_rows front)
+    (ip_auth_rows (front ++ back)) (auth_rows_beside front back) (ip_auth_is_read.is_read (front ++ back) read is).0
+    error
+    refused
+
+pub fragment_header_cut : TellsCut IsFragmentHeader RefusesFragmentHeader (λ (error : LenError). error)
+    (λ read. slice_end)
+fragment_header_cut front back fits read is error refused =
+    refused_beside (BesideAs (λ (e : LenError). e) front back) (fragment_header_rows front)
+    (fragment_header_rows (front ++ back)) (fragment_beside (λ (e : LenError). e) front back)
+    (fragment_header_is_read.is_read (front ++ back) read is).0 error refused
+
+pub raw_extension_cut : TellsCut IsRawExtension RefusesRawExtension (λ (error : LenError). error) (λ read. slice_end)
+raw_extension_cut front back fits read is error refused =
+    refused_beside (BesideAs (λ (e : LenError). e) front back) (raw_extension_rows front)
+    (raw_extension_rows (front ++ back)) (raw_beside (λ (e : LenError). e) front back)
+    (raw_extension_is_read.is_read (front ++ back) read is).0 error refused
 
 part_beside : (number : ℕ) (front back : List ℕ) → BesideRows (Beside front back) (extension_part_rows number front)
     (extension_part_rows number (front ++ back))
 part_beside number front back =
     either_beside (Beside front back) (number == authentication_number) _ _ _ _ (auth_beside front back)
-    (either_beside (Beside front back) (number == fragment_number) _ _ _ _ (fragment_beside front back)
-    (raw_beside front back))
+    (either_beside (Beside front back) (number == fragment_number) _ _ _ _
+    (named_beside (Beside front back) header_error.Len (fragment_header_rows front)
+    (fragment_header_rows (front ++ back))
+    (fragment_beside header_error.Len front back))
+    (named_beside (Beside front back) header_error.Len (raw_extension_rows front) (raw_extension_rows (front ++ back))
+    (raw_beside header_error.Len front back)))
 
 -- a header stands with any bytes behind it
 longer_raw : (bytes more : List ℕ) (header : Ipv6RawExtHeader) (behind : List ℕ) → IsRawExtension bytes (header, behind)
@@ -168,13 +213,16 @@ cut_behind version reading taken offset number front back fits (next ∷ stand) 
     (further_cut offset (length front) (length (front ++ back)) refused.1.0
     (refused_beside (Beside front back) (extension_part_rows number front) (extension_part_rows number (front ++ back))
     (part_beside number front back) none refused.1.0 refused.1.1))
-cut_behind version reading taken offset number front back fits (next ∷ stand) last rest is (part ∷ parts) error refused =
+cut_behind version reading taken offset number front back fits (next ∷ stand) last rest is (part ∷ parts) error refused
+    =
     let behind = refused.1.0 in
     let kind = taken_is_kind version reading taken number refused.0 in
     let longer = longer_part number front back part behind refused.1.1 in
-    let same = (part_decided header_laws number (front ++ back) fits kind).one_value (next, is.1.0) (part, behind ++ back)
+    let same = (part_decided header_laws number (front ++ back) fits kind).one_value (next, is.1.0)
+    (part, behind ++ back)
     is.1.1 longer in
-    let stands = subst (λ (read : ReadPart). IsChainBehind version reading (number ∷ taken) (part_next read.0) read.1 stand
+    let stands = subst (λ (read : ReadPart). IsChainBehind version reading (number ∷ taken) (part_next read.0) read.1
+    stand
     last rest) same is.1.2 in
     let len = part_lens number front part behind refused.1.1 in
     let cut : offset + part_len part + length behind ≡ offset + length front = omega (arith, len.0) in
@@ -194,4 +242,5 @@ chain_cut version reading number front back fits chain is error refused =
     let whole : 0 + length (front ++ back) ≡ length (front ++ back) = omega arith in
     subst (λ (n : ℕ). IsCut n (length (front ++ back)) error) cut
     (subst (λ (n : ℕ). IsCut (0 + length front) n error) whole
-    (cut_behind version reading [] 0 number front back fits chain.parts chain.last chain.rest is refused.0 error refused.1))
+    (cut_behind version reading [] 0 number front back fits chain.parts chain.last chain.rest is refused.0 error
+    refused.1))

@@ -63,11 +63,16 @@ pub fn tell_missing()
         → IsShortAt (length bytes) error × (error.len_source ≡ source.Slice) }
 {}
 
-/// Where the front of bytes that are a chain is refused, it is for want of the bytes that the cut took: the offset plus `len`
-/// is the number of bytes up to the cut, `required_len` is more than `len`, and the offset plus `required_len` at most the
-/// number of all bytes. The limit is the end of the bytes at hand.
+/// Where the front of bytes that are a header, or a chain, is refused, it is for want of the bytes that the cut took:
+/// the offset plus `len` is the number of bytes up to the cut, `required_len` is more than `len`, and the offset plus
+/// `required_len` at most the number of all bytes. The limit is the end of the bytes at hand.
 pub fn tell_cut()
-    ensures { (version : IpVersion) (reading : Reading) (number : ℕ)
+    ensures ip_auth { TellsCut IsIpAuth RefusesIpAuth auth_error.Len (λ read. slice_end) }
+    ensures raw_extension { TellsCut IsRawExtension RefusesRawExtension (λ (error : LenError). error)
+        (λ read. slice_end) }
+    ensures fragment_header { TellsCut IsFragmentHeader RefusesFragmentHeader (λ (error : LenError). error)
+        (λ read. slice_end) }
+    ensures chain { (version : IpVersion) (reading : Reading) (number : ℕ)
         → TellsCut (IsExtensionChain version reading number) (RefusesExtensionChain version reading number)
         exts_error.Len (λ chain. slice_end) }
 {}

@@ -1,11 +1,10 @@
--- That the front of an IP packet is refused for want of what the cut took, and that what stands on the front also stands on
--- the whole.
-use Rattle.std.proofs.Common.{◌≡◌, ◌⊎◌, ℕ, zero, suc, ◌+◌, ◌*◌, ◌/◌, ◌%◌, ◌<◌, ◌≤◌, ◌==◌, if◌then◌else◌, Bool, true, false, not, List, [], ◌∷◌, ◌++◌, length, None, refl, sym, ap, subst, ◌∙◌, inl, inr, arith, length-append}
+-- That the front of an IP packet is refused for want of what the cut took, and that what stands on the front also
+-- stands on the whole.
+use Rattle.std.proofs.Common.{◌≡◌, ◌⊎◌, ℕ, ◌+◌, ◌*◌, ◌/◌, ◌%◌, ◌<◌, ◌≤◌, ◌==◌, if◌then◌else◌, true, false, not, List, [], ◌∷◌, ◌++◌, length, None, refl, sym, ap, subst, ◌∙◌, inl, inr, arith, length-append}
 use Rattle.std.specs.Prelude.{◌&&◌, ◌||◌, nat_lt}
 use Rattle.std.proofs.lemmas.Grind.{common_steps}
-use Rattle.ep_base.specs.Bytes.{AreBytes, word_at}
-use Rattle.ep_base.specs.IpPayload.{IpPayload}
-use Rattle.ep_base.specs.Layer.{Reading, behind_header, cut_by, len_error}
+use Rattle.ep_base.specs.Bytes.{word_at}
+use Rattle.ep_base.specs.Layer.{Reading, cut_by, len_error}
 use Rattle.ep_base.specs.Missing.{IsCutRefusal, IsCutShort, TellsCut, slice_end}
 use Rattle.ep_base.specs.Tables.{Parts, Refuses, first_row, parts_of}
 use Rattle.ep_base.proofs.BytesLemmas.{AreBytes-payload}
@@ -17,22 +16,23 @@ use Rattle.ep_base.specs.declared.len_source.LenSource.{LenSource}
 use Rattle.ep_base.specs.declared.len_source.LenSource.TheVariants as source
 use Rattle.ep_base.specs.declared.err.ip.SliceError.{SliceError as IpSliceError}
 use Rattle.ep_base.specs.declared.err.ip.SliceError.TheVariants as ip_error
+use Rattle.ep_base.specs.declared.err.ipv4.HeaderSliceError.TheVariants as ipv4_header_error
+use Rattle.ep_base.specs.declared.err.ipv6.HeaderSliceError.TheVariants as ipv6_header_error
 use Rattle.ep_base.specs.declared.err.ipv4.SliceError.{SliceError as Ipv4SliceError}
 use Rattle.ep_base.specs.declared.err.ipv4.SliceError.TheVariants as ipv4_error
 use Rattle.ep_base.specs.declared.err.ipv6.SliceError.{SliceError as Ipv6SliceError}
 use Rattle.ep_base.specs.declared.err.ipv6.SliceError.TheVariants as ipv6_error
 use Rattle.ep_base.specs.declared.err.ipv6_exts.HeaderSliceError.{HeaderSliceError as ExtsSliceError}
-use Rattle.ep_base.specs.declared.err.ipv6_exts.HeaderSliceError.TheVariants as exts_error
-use Rattle.ep_ext.specs.Chains.{ExtensionChain, ipv6, chain_of, IsExtensionChain}
+use Rattle.ep_ext.specs.Chains.{ipv6, chain_of, IsExtensionChain}
 use Rattle.ep_ext.proofs.CutRefusalLemmas.{IsCut, chain_cut, longer_chain}
 use Rattle.ep_ip.specs.declared.ipv4_header.Ipv4Header.{Ipv4Header}
 use Rattle.ep_ip.specs.declared.ipv6_header.Ipv6Header.{Ipv6Header}
 use Rattle.ep_ip.specs.Ip.{version_of}
-use Rattle.ep_ip.specs.Ipv4.{IsIpv4Packet, RefusesIpv4Packet, ihl_of, ipv4_packet_rows}
-use Rattle.ep_ip.specs.Ipv6.{IsIpv6Packet, RefusesIpv6Packet, ipv6_bytes, ipv6_cut_limit, ipv6_packet_rows, ipv6_payload_source}
-use Rattle.ep_ip.specs.IpPackets.{IpPacket, IpPart, IsIp, IsIpv4, IsIpv6, RefusesIp, RefusesIpv4, RefusesIpv6, ip_cut_limit, ip_version_rows, ipv4_part, ipv6_chain_refusal, ipv6_part, of_ipv4_error, of_ipv6_error}
-use Rattle.ep_ip.proofs.Ipv4Lemmas.{ipv4_packet_is_read}
-use Rattle.ep_ip.proofs.Ipv6Lemmas.{ipv6_packet_is_read}
+use Rattle.ep_ip.specs.Ipv4.{IsIpv4Header, IsIpv4Packet, RefusesIpv4Header, RefusesIpv4Packet, ihl_of, ipv4_header_rows, ipv4_packet_rows}
+use Rattle.ep_ip.specs.Ipv6.{IsIpv6Header, IsIpv6Packet, RefusesIpv6Header, RefusesIpv6Packet, ipv6_bytes, ipv6_cut_limit, ipv6_header_rows, ipv6_packet_rows, ipv6_payload_source}
+use Rattle.ep_ip.specs.IpPackets.{IpPacket, IsIp, IsIpv4, IsIpv6, RefusesIp, RefusesIpv4, RefusesIpv6, ip_cut_limit, ip_version_rows, ipv4_part, ipv6_chain_refusal, ipv6_part, of_ipv4_error, of_ipv6_error}
+use Rattle.ep_ip.proofs.Ipv4Lemmas.{ipv4_header_is_read, ipv4_packet_is_read}
+use Rattle.ep_ip.proofs.Ipv6Lemmas.{ipv6_header_is_read, ipv6_packet_is_read}
 use Rattle.ep_ip.proofs.IpBytesLemmas.{ipv6_len}
 use Rattle.ep_ip.proofs.PacketLemmas.{ipv4_decided, ipv4_version, ipv6_decided, ipv6_version, version_rows_none}
 
@@ -48,34 +48,60 @@ ipv4_packet_cut front back fits packet is error refused =
     (λ long. (
       cut_row ipv4_error.Len slice_end front back 20 20 source.Slice layer.Ipv4Header refl refl long,
       λ short.
-      let there = enough (length front) 20 short in
-      let first = byte_beside front back 0 (omega (arith, there)) in
-      let total = word_beside front back 2 (omega (arith, there)) in
-      let header = ap (λ (b : ℕ). 4 * (b % 16)) first in
-      λ version. (
-        same_row Such _ _ _ (ap (λ (b : ℕ). not (b / 16 == 4)) first) version,
-        λ known.
-        λ words. (
-          same_row Such _ _ _ (ap (λ (b : ℕ). nat_lt (b % 16) 5) first) words,
-          λ also.
-          λ options. (
-            cut_row ipv4_error.Len slice_end front back (4 * ihl_of front) (4 * ihl_of (front ++ back)) source.Slice
-                layer.Ipv4Header refl header options,
-            λ stands.
-            λ least. (
-              same_row Such _ _ _ (λ i. nat_lt (total i) (header i)) least,
-              λ holds.
-              λ whole. (
-                cut_row ipv4_error.Len slice_end front back (word_at front 2) (word_at (front ++ back) 2) source.Slice
-                    layer.Ipv4Packet refl total whole,
-                λ last. tt,
-              ),
-            ),
+          let there = enough (length front) 20 short in
+          let first = byte_beside front back 0 (omega (arith, there)) in
+          let total = word_beside front back 2 (omega (arith, there)) in
+          let header = ap (λ (b : ℕ). 4 * (b % 16)) first in
+          λ version. (
+            same_row Such _ _ _ (ap (λ (b : ℕ). not (b / 16 == 4)) first) version,
+            λ known.
+                λ words. (
+                  same_row Such _ _ _ (ap (λ (b : ℕ). nat_lt (b % 16) 5) first) words,
+                  λ also.
+                      λ options. (
+                        cut_row ipv4_error.Len slice_end front back (4 * ihl_of front) (4 * ihl_of (front ++ back)) source.Slice
+                            layer.Ipv4Header refl header options,
+                        λ stands.
+                            λ least. (
+                              same_row Such _ _ _ (λ i. nat_lt (total i) (header i)) least,
+                              λ holds.
+                                  λ whole. (
+                                    cut_row ipv4_error.Len slice_end front back (word_at front 2) (word_at (front ++ back) 2) source.Slice
+                                        layer.Ipv4Packet refl total whole,
+                                    λ last. tt,
+                                  ),
+                            ),
+                      ),
+                ),
           ),
-        ),
-      ),
     ))
     (ipv4_packet_is_read.is_read (front ++ back) packet is).0 error refused
+
+pub ipv4_header_cut : TellsCut IsIpv4Header RefusesIpv4Header ipv4_header_error.Len (λ read. slice_end)
+ipv4_header_cut front back fits read is error refused =
+    let Such = IsCutRefusal ipv4_header_error.Len slice_end (length front) (length (front ++ back)) in
+    refused_beside Such (ipv4_header_rows front) (ipv4_header_rows (front ++ back))
+    (λ long. (
+      cut_row ipv4_header_error.Len slice_end front back 20 20 source.Slice layer.Ipv4Header refl refl long,
+      λ short.
+          let there = enough (length front) 20 short in
+          let first = byte_beside front back 0 (omega (arith, there)) in
+          λ version. (
+            same_row Such _ _ _ (ap (λ (b : ℕ). not (b / 16 == 4)) first) version,
+            λ known.
+                λ words. (
+                  same_row Such _ _ _ (ap (λ (b : ℕ). nat_lt (b % 16) 5) first) words,
+                  λ also.
+                      λ options. (
+                        cut_row ipv4_header_error.Len slice_end front back (4 * ihl_of front) (4 * ihl_of (front ++ back))
+                            source.Slice
+                            layer.Ipv4Header refl (ap (λ (b : ℕ). 4 * (b % 16)) first) options,
+                        λ last. tt,
+                      ),
+                ),
+          ),
+    ))
+    (ipv4_header_is_read.is_read (front ++ back) read is).0 error refused
 
 -- a packet stands with any bytes behind it
 longer_ipv4_packet : (bytes more : List ℕ) (packet : Parts Ipv4Header) → IsIpv4Packet bytes packet
@@ -101,7 +127,8 @@ longer_ipv4 reading bytes more packet is = record {
   source = is.source;
 }
 
-pub ipv4_cut : (reading : Reading) → TellsCut (IsIpv4 reading) (RefusesIpv4 reading) ipv4_error.Len (λ packet. slice_end)
+pub ipv4_cut : (reading : Reading) → TellsCut (IsIpv4 reading) (RefusesIpv4 reading) ipv4_error.Len
+    (λ packet. slice_end)
 ipv4_cut reading front back fits packet is error (inl refused) =
     ipv4_packet_cut front back fits (parts_of packet.header is.content packet.left) is.cut error refused
 ipv4_cut reading front back fits packet is error (inr (cut, cut_is, why)) =
@@ -112,7 +139,8 @@ ipv4_cut reading front back fits packet is error (inr (cut, cut_is, why)) =
 -- ---- IPv6
 
 abbrev Ipv6Cut : Ipv6Header → List ℕ → List ℕ → Ipv6SliceError → Type 0
-Ipv6Cut header front back = IsCutRefusal ipv6_error.Len (ipv6_cut_limit 0 header) (length front) (length (front ++ back))
+Ipv6Cut header front back = IsCutRefusal ipv6_error.Len (ipv6_cut_limit 0 header) (length front)
+    (length (front ++ back))
 
 pub ipv6_packet_cut : TellsCut IsIpv6Packet RefusesIpv6Packet ipv6_error.Len (λ packet. ipv6_cut_limit 0 packet.header)
 ipv6_packet_cut front back fits packet is error refused =
@@ -122,20 +150,33 @@ ipv6_packet_cut front back fits packet is error refused =
     (λ long. (
       cut_row ipv6_error.Len limit front back 40 40 source.Slice layer.Ipv6Header refl refl long,
       λ short.
-      let there = enough (length front) 40 short in
-      let first = byte_beside front back 0 (omega (arith, there)) in
-      let field = word_beside front back 4 (omega (arith, there)) in
-      λ version. (
-        same_row Such _ _ _ (ap (λ (b : ℕ). not (b / 16 == 6)) first) version,
-        λ known.
-        λ whole. (
-          cut_row ipv6_error.Len limit front back (40 + word_at front 4) (40 + word_at (front ++ back) 4) source.Slice
-              layer.Ipv6Packet refl (ap (λ (n : ℕ). 40 + n) field) whole,
-          λ last. tt,
-        ),
-      ),
+          let there = enough (length front) 40 short in
+          let first = byte_beside front back 0 (omega (arith, there)) in
+          let field = word_beside front back 4 (omega (arith, there)) in
+          λ version. (
+            same_row Such _ _ _ (ap (λ (b : ℕ). not (b / 16 == 6)) first) version,
+            λ known.
+                λ whole. (
+                  cut_row ipv6_error.Len limit front back (40 + word_at front 4) (40 + word_at (front ++ back) 4) source.Slice
+                      layer.Ipv6Packet refl (ap (λ (n : ℕ). 40 + n) field) whole,
+                  λ last. tt,
+                ),
+          ),
     ))
     (ipv6_packet_is_read.is_read (front ++ back) packet is).0 error refused
+
+pub ipv6_header_cut : TellsCut IsIpv6Header RefusesIpv6Header ipv6_header_error.Len (λ read. slice_end)
+ipv6_header_cut front back fits read is error refused =
+    let Such = IsCutRefusal ipv6_header_error.Len slice_end (length front) (length (front ++ back)) in
+    refused_beside Such (ipv6_header_rows front) (ipv6_header_rows (front ++ back))
+    (λ long. (
+      cut_row ipv6_header_error.Len slice_end front back 40 40 source.Slice layer.Ipv6Header refl refl long,
+      λ short.
+          let there = enough (length front) 40 short in
+          let first = byte_beside front back 0 (omega (arith, there)) in
+          λ version. (same_row Such _ _ _ (ap (λ (b : ℕ). not (b / 16 == 6)) first) version, λ last. tt),
+    ))
+    (ipv6_header_is_read.is_read (front ++ back) read is).0 error refused
 
 -- a packet whose payload length cuts stands with any bytes behind it, which are left
 longer_counted : (bytes more : List ℕ) (packet : Parts Ipv6Header) → IsIpv6Packet bytes packet
@@ -221,7 +262,8 @@ ipv6_cut reading front back fits packet is error (inr (cut, cut_is, why)) =
           is.chain in
           let content_fits = AreBytes-payload (front ++ back) (ipv6_bytes cut.header) content [] fits stands.parts in
           subst (Ipv6Cut packet.header front back) (sym why.2)
-          (open_cut front back packet.header cut cut_is (ap (λ (p : Parts Ipv6Header). p.header) same) zero_length.0 zero_length.1 why.0
+          (open_cut front back packet.header cut cut_is (ap (λ (p : Parts Ipv6Header). p.header) same) zero_length.0
+          zero_length.1 why.0
           (chain_cut ipv6 reading cut.header.next_header.0 cut.payload back content_fits chain chain_is why.0 why.1))
     ]
 
@@ -240,7 +282,8 @@ with_more packet content more = record {
 }
 
 -- a packet stands with any bytes behind it, which are left, or belong to the payload where the payload length is 0
-pub longer_ipv6 : (reading : Reading) (bytes more : List ℕ) (packet : IpPacket Ipv6Header) (is : IsIpv6 reading bytes packet)
+pub longer_ipv6 : (reading : Reading) (bytes more : List ℕ) (packet : IpPacket Ipv6Header)
+    (is : IsIpv6 reading bytes packet)
     → IsIpv6 reading (bytes ++ more) (with_left packet more)
     ⊎ ((packet.header.payload_length ≡ 0) × (packet.left ≡ [])
     × IsIpv6 reading (bytes ++ more) (with_more packet is.content more))
@@ -298,12 +341,12 @@ version_cut limit front back by none error refused =
     (λ some. (
       no_byte limit front back by some,
       λ byte.
-      let there : 1 ≤ length front = grind (arith, common_steps) in
-      let first = byte_beside front back 0 (omega (arith, there)) in
-      λ version. (
-        same_row (IpCut limit front back) _ _ _ (ap (λ (b : ℕ). not (b / 16 == 4 || b / 16 == 6)) first) version,
-        λ last. tt,
-      ),
+          let there : 1 ≤ length front = grind (arith, common_steps) in
+          let first = byte_beside front back 0 (omega (arith, there)) in
+          λ version. (
+            same_row (IpCut limit front back) _ _ _ (ap (λ (b : ℕ). not (b / 16 == 4 || b / 16 == 6)) first) version,
+            λ last. tt,
+          ),
     ))
     none error refused
 

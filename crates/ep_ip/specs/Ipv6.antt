@@ -99,8 +99,8 @@ abbrev pub ipv6_payload_source : Ipv6Header → List ℕ → LenSource
 ipv6_payload_source header payload =
     if (header.payload_length == 0) && nat_lt 0 (length payload) then source.Slice else source.Ipv6HeaderPayloadLen
 
--- what sets the limit where a cut left too few bytes of a packet that starts here: the end of the bytes at hand, but the
--- payload length, which is 0, where the cut ends with the header
+-- what sets the limit where a cut left too few bytes of a packet that starts here: the end of the bytes at hand, but
+-- the payload length, which is 0, where the cut ends with the header
 abbrev pub ipv6_cut_limit : ℕ → Ipv6Header → LenError → LenSource
 ipv6_cut_limit start header error =
     if (error.layer_start_offset == start + 40) && ((error.len == 0) && (header.payload_length == 0))

@@ -96,11 +96,13 @@ pub fn tell_missing()
         → IsOfBytesAtHand packet.payload.source → packet.left ≡ [] }
 {}
 
-/// Where the front of bytes that are a packet is refused, it is for want of the bytes that the cut took: the offset plus `len`
-/// is the number of bytes up to the cut, `required_len` is more than `len`, and the offset plus `required_len` at most the
-/// number of all bytes. The limit is the end of the bytes at hand, but the payload length of IPv6, where it is 0 and the cut
-/// ends with the header.
+/// Where the front of bytes that are a header, or a packet, is refused, it is for want of the bytes that the cut took:
+/// the offset plus `len` is the number of bytes up to the cut, `required_len` is more than `len`, and the offset plus
+/// `required_len` at most the number of all bytes. The limit is the end of the bytes at hand, but the payload length of
+/// IPv6, where it is 0 and the cut ends with the header.
 pub fn tell_cut()
+    ensures ipv4_header { TellsCut IsIpv4Header RefusesIpv4Header ipv4_header_error.Len (λ read. slice_end) }
+    ensures ipv6_header { TellsCut IsIpv6Header RefusesIpv6Header ipv6_header_error.Len (λ read. slice_end) }
     ensures ipv4_packet { TellsCut IsIpv4Packet RefusesIpv4Packet ipv4_error.Len (λ packet. slice_end) }
     ensures ipv6_packet { TellsCut IsIpv6Packet RefusesIpv6Packet ipv6_error.Len
         (λ packet. ipv6_cut_limit 0 packet.header) }

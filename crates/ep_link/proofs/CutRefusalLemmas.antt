@@ -1,5 +1,5 @@
 -- That the front of a link layer, of a link extension or of an ARP packet is refused for want of what the cut took.
-use Rattle.std.proofs.Common.{◌≡◌, ℕ, ◌+◌, ◌*◌, ◌-◌, ◌/◌, ◌%◌, ◌==◌, if◌then◌else◌, Bool, true, false, not, List, [], ◌++◌, length, Some, refl, sym, ap, ◌∙◌, inl, inr, arith}
+use Rattle.std.proofs.Common.{◌≡◌, ℕ, ◌+◌, ◌*◌, ◌-◌, ◌/◌, ◌%◌, ◌==◌, if◌then◌else◌, Bool, true, false, not, List, ◌++◌, length, Some, refl, sym, ap, ◌∙◌, inl, inr, arith}
 use Rattle.std.specs.Prelude.{◌&&◌, nat_le, nat_lt}
 use Rattle.std.proofs.lemmas.Grind.{common_steps}
 use Rattle.ep_base.specs.Layer.{len_error}
@@ -20,13 +20,13 @@ use Rattle.ep_link.specs.Arp.{IsArp, RefusesArp, arp_cut_limit, arp_len_of, arp_
 use Rattle.ep_link.specs.Ethernet2.{IsEthernet2, RefusesEthernet2, ethernet2_rows}
 use Rattle.ep_link.specs.LinkExtensions.{IsLinkExtension, RefusesLinkExtension, macsec, vlan}
 use Rattle.ep_link.specs.LinuxSll.{IsLinuxSll, RefusesLinuxSll, knows_hardware, linux_sll_rows}
-use Rattle.ep_link.specs.Macsec.{IsMacsec, RefusesMacsec, macsec_len_of, macsec_payload_bytes, macsec_rows, modification_of, short_len_of, tag_len_of, type_len_by}
+use Rattle.ep_link.specs.Macsec.{IsMacsec, IsMacsecHeader, RefusesMacsec, RefusesMacsecHeader, macsec_header_rows, macsec_len_of, macsec_payload_bytes, macsec_rows, modification_of, short_len_of, tag_len_of, type_len_by}
 use Rattle.ep_link.specs.Vlan.{IsVlan, RefusesVlan, vlan_rows}
 use Rattle.ep_link.proofs.ArpLemmas.{arp_is_read}
 use Rattle.ep_link.proofs.Ethernet2Lemmas.{ethernet2_is_read}
 use Rattle.ep_link.proofs.LinkExtensionLemmas.{vlan_not_macsec}
 use Rattle.ep_link.proofs.LinuxSllLemmas.{linux_sll_is_read}
-use Rattle.ep_link.proofs.MacsecLemmas.{macsec_is_read}
+use Rattle.ep_link.proofs.MacsecLemmas.{macsec_header_is_read, macsec_is_read}
 use Rattle.ep_link.proofs.VlanLemmas.{vlan_is_read}
 
 -- ---- layers whose length is fixed
@@ -50,16 +50,16 @@ linux_sll_cut front back fits packet is error refused =
     (λ long. (
       cut_row sll_error.Len slice_end front back 16 16 source.Slice layer.LinuxSllHeader refl refl long,
       λ short.
-      let there = enough (length front) 16 short in
-      λ known. (
-        same_row (SllCut front back) _ _ _ (ap (nat_lt 7) (word_beside front back 0 (omega (arith, there)))) known,
-        λ type.
-        λ hardware. (
-          same_row (SllCut front back) _ _ _
-              (ap (λ (n : ℕ). not (knows_hardware n)) (word_beside front back 2 (omega (arith, there)))) hardware,
-          λ last. tt,
-        ),
-      ),
+          let there = enough (length front) 16 short in
+          λ known. (
+            same_row (SllCut front back) _ _ _ (ap (nat_lt 7) (word_beside front back 0 (omega (arith, there)))) known,
+            λ type.
+                λ hardware. (
+                  same_row (SllCut front back) _ _ _
+                      (ap (λ (n : ℕ). not (knows_hardware n)) (word_beside front back 2 (omega (arith, there)))) hardware,
+                  λ last. tt,
+                ),
+          ),
     ))
     (linux_sll_is_read.is_read (front ++ back) packet is).0 error refused
 
@@ -99,14 +99,15 @@ arp_cut front back fits read is error refused =
     refused_beside (ArpCut front back) (arp_rows front) (arp_rows (front ++ back))
     (λ long. (
       λ short.
-      cut_row (λ (e : LenError). e) (arp_cut_limit 0) front back 8 8 source.Slice layer.Arp
-      (before_lengths (length front) short) refl long short,
+          cut_row (λ (e : LenError). e) (arp_cut_limit 0) front back 8 8 source.Slice layer.Arp
+          (before_lengths (length front) short) refl long short,
       λ there.
-      λ whole. (
-        cut_row (λ (e : LenError). e) (arp_cut_limit 0) front back (arp_len_of front) (arp_len_of (front ++ back))
-            source.ArpAddrLengths layer.Arp (behind_lengths (length front) there) (arp_len_beside front back there) whole,
-        λ last. tt,
-      ),
+          λ whole. (
+            cut_row (λ (e : LenError). e) (arp_cut_limit 0) front back (arp_len_of front) (arp_len_of (front ++ back))
+                source.ArpAddrLengths layer.Arp (behind_lengths (length front) there) (arp_len_beside front back there)
+                whole,
+            λ last. tt,
+          ),
     ))
     (arp_is_read.is_read (front ++ back) read is).0 error refused
 
@@ -114,6 +115,32 @@ arp_cut front back fits read is error refused =
 
 abbrev MacsecCut : List ℕ → List ℕ → MacsecError → Type 0
 MacsecCut front back = IsCutRefusal macsec_error.Len slice_end (length front) (length (front ++ back))
+
+pub macsec_header_cut : TellsCut IsMacsecHeader RefusesMacsecHeader macsec_error.Len (λ read. slice_end)
+macsec_header_cut front back fits read is error refused =
+    refused_beside (MacsecCut front back) (macsec_header_rows front) (macsec_header_rows (front ++ back))
+    (λ long. (
+      cut_row macsec_error.Len slice_end front back 6 6 source.Slice layer.MacsecHeader refl refl long,
+      λ short.
+          let there = enough (length front) 6 short in
+          let first = byte_beside front back 0 (omega (arith, there)) in
+          let second = byte_beside front back 1 (omega (arith, there)) in
+          λ version. (
+            same_row (MacsecCut front back) _ _ _ (ap (nat_le 128) first) version,
+            λ known.
+                λ room. (
+                  same_row (MacsecCut front back) _ _ _ (λ i. (first i / 4 % 4 == 0) && (second i % 64 == 1)) room,
+                  λ also.
+                      λ tag. (
+                        cut_row macsec_error.Len slice_end front back (tag_len_of front) (tag_len_of (front ++ back)) source.Slice
+                            layer.MacsecHeader refl
+                            (ap (λ (b : ℕ). 6 + 8 * (b / 32 % 2) + type_len_by (b / 4 % 4)) first) tag,
+                        λ last. tt,
+                      ),
+                ),
+          ),
+    ))
+    (macsec_header_is_read.is_read (front ++ back) read is).0 error refused
 
 -- the row of the short length, which demands all bytes where it is 0
 short_len_row : (front back : List ℕ) (zero : Bool) (demanded : ℕ) (here whole : ℕ)
@@ -138,37 +165,38 @@ macsec_cut front back fits packet is error refused =
     (λ long. (
       cut_row macsec_error.Len slice_end front back 6 6 source.Slice layer.MacsecHeader refl refl long,
       λ short.
-      let there = enough (length front) 6 short in
-      let first = byte_beside front back 0 (omega (arith, there)) in
-      let second = byte_beside front back 1 (omega (arith, there)) in
-      λ version. (
-        same_row (MacsecCut front back) _ _ _ (ap (nat_le 128) first) version,
-        λ known.
-        λ room. (
-          same_row (MacsecCut front back) _ _ _ (λ i. (first i / 4 % 4 == 0) && (second i % 64 == 1)) room,
-          λ also.
-          λ tag. (
-            cut_row macsec_error.Len slice_end front back (tag_len_of front) (tag_len_of (front ++ back)) source.Slice
-                layer.MacsecHeader refl
-                (ap (λ (b : ℕ). 6 + 8 * (b / 32 % 2) + type_len_by (b / 4 % 4)) first) tag,
-            λ stands.
-            λ whole. (
-              short_len_row front back (short_len_of front == 0)
-                  (tag_len_of front + (short_len_of front - type_len_by (modification_of front)))
-                  (macsec_len_of front) (macsec_len_of (front ++ back)) refl
-                  (λ i. len_by (sym first i) (sym second i) (length (front ++ back))) whole,
-              λ last. tt,
-            ),
+          let there = enough (length front) 6 short in
+          let first = byte_beside front back 0 (omega (arith, there)) in
+          let second = byte_beside front back 1 (omega (arith, there)) in
+          λ version. (
+            same_row (MacsecCut front back) _ _ _ (ap (nat_le 128) first) version,
+            λ known.
+                λ room. (
+                  same_row (MacsecCut front back) _ _ _ (λ i. (first i / 4 % 4 == 0) && (second i % 64 == 1)) room,
+                  λ also.
+                      λ tag. (
+                        cut_row macsec_error.Len slice_end front back (tag_len_of front) (tag_len_of (front ++ back)) source.Slice
+                            layer.MacsecHeader refl
+                            (ap (λ (b : ℕ). 6 + 8 * (b / 32 % 2) + type_len_by (b / 4 % 4)) first) tag,
+                        λ stands.
+                            λ whole. (
+                              short_len_row front back (short_len_of front == 0)
+                                  (tag_len_of front + (short_len_of front - type_len_by (modification_of front)))
+                                  (macsec_len_of front) (macsec_len_of (front ++ back)) refl
+                                  (λ i. len_by (sym first i) (sym second i) (length (front ++ back))) whole,
+                              λ last. tt,
+                            ),
+                      ),
+                ),
           ),
-        ),
-      ),
     ))
     (macsec_is_read.is_read (front ++ back) packet is).0 error refused
 
 -- ---- link extensions
 
 -- what refuses a VLAN tag refuses it under another name
-vlan_named : (front back : List ℕ) (tagged : Parts SingleVlanHeader) → IsVlan (front ++ back) tagged → (error : MacsecError)
+vlan_named : (front back : List ℕ) (tagged : Parts SingleVlanHeader) → IsVlan (front ++ back) tagged
+    → (error : MacsecError)
     → first_row (rows_as macsec_error.Len (vlan_rows front)) ≡ Some error → MacsecCut front back error
 vlan_named front back tagged is error refused =
     refused_beside (MacsecCut front back) (rows_as macsec_error.Len (vlan_rows front))

@@ -73,7 +73,8 @@ arp_rows bytes =
 abbrev pub RefusesArp : List ℕ → LenError → Type 0
 RefusesArp bytes = Refuses (arp_rows bytes)
 
--- what sets the limit where a cut left too few bytes of the packet that starts here: the address lengths, once they are there
+-- what sets the limit where a cut left too few bytes of the packet that starts here: the address lengths, once they are
+-- there
 abbrev pub arp_cut_limit : ℕ → LenError → LenSource
 arp_cut_limit start error =
     if (error.layer_start_offset == start) && nat_le 8 error.len then source.ArpAddrLengths else source.Slice

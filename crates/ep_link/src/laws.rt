@@ -119,13 +119,15 @@ pub fn tell_missing()
         → TellsMissing (λ bytes error. RefusesLinkExtension type bytes (macsec_error.Len error)) }
 {}
 
-/// Where the front of bytes that are a layer is refused, it is for want of the bytes that the cut took: the offset plus `len`
-/// is the number of bytes up to the cut, `required_len` is more than `len`, and the offset plus `required_len` at most the
-/// number of all bytes. The limit is the end of the bytes at hand, but the address lengths of ARP, once they are there.
+/// Where the front of bytes that are a layer is refused, it is for want of the bytes that the cut took: the offset plus
+/// `len` is the number of bytes up to the cut, `required_len` is more than `len`, and the offset plus `required_len` at
+/// most the number of all bytes. The limit is the end of the bytes at hand, but the address lengths of ARP, once they
+/// are there.
 pub fn tell_cut()
     ensures ethernet2 { TellsCut IsEthernet2 RefusesEthernet2 (λ (error : LenError). error) (λ frame. slice_end) }
     ensures linux_sll { TellsCut IsLinuxSll RefusesLinuxSll sll_error.Len (λ packet. slice_end) }
     ensures vlan { TellsCut IsVlan RefusesVlan (λ (error : LenError). error) (λ tagged. slice_end) }
+    ensures macsec_header { TellsCut IsMacsecHeader RefusesMacsecHeader macsec_error.Len (λ read. slice_end) }
     ensures macsec { TellsCut IsMacsec RefusesMacsec macsec_error.Len (λ packet. slice_end) }
     ensures arp { TellsCut IsArp RefusesArp (λ (error : LenError). error) (λ read. arp_cut_limit 0) }
     ensures link_extension { (type : EtherType)

@@ -1,5 +1,5 @@
 -- That the cut of a frame is refused for want of what the cut took.
-use Rattle.std.proofs.Common.{◌≡◌, ◌⊎◌, ℕ, zero, suc, ◌+◌, ◌<◌, ◌≤◌, ◌==◌, if◌then◌else◌, ◌-◌, Bool, true, false, List, [], ◌∷◌, ◌++◌, length, Option, Some, None, refl, sym, ap, subst, ◌∙◌, inl, inr, arith, length-append}
+use Rattle.std.proofs.Common.{◌≡◌, ◌⊎◌, ℕ, zero, suc, ◌+◌, ◌<◌, ◌≤◌, ◌==◌, if◌then◌else◌, ◌-◌, Bool, false, List, [], ◌∷◌, ◌++◌, length, Option, Some, None, refl, sym, ap, subst, ◌∙◌, inl, inr, arith, length-append}
 use Rattle.std.specs.Prelude.{◌&&◌, nat_le}
 use Rattle.std.proofs.lemmas.Grind.{common_steps}
 use Rattle.ep_base.specs.Bytes.{AreBytes}
@@ -17,45 +17,41 @@ use Rattle.ep_base.specs.declared.len_source.LenSource.TheVariants as source
 use Rattle.ep_base.specs.declared.err.ip.SliceError.TheVariants as ip_error
 use Rattle.ep_base.specs.declared.err.ipv4.SliceError.TheVariants as ipv4_error
 use Rattle.ep_base.specs.declared.err.ipv6.SliceError.TheVariants as ipv6_error
-use Rattle.ep_base.specs.declared.err.linux_sll.HeaderSliceError.{HeaderSliceError as SllError}
 use Rattle.ep_base.specs.declared.err.linux_sll.HeaderSliceError.TheVariants as sll_error
-use Rattle.ep_base.specs.declared.err.macsec.HeaderSliceError.{HeaderSliceError as ExtensionError}
 use Rattle.ep_base.specs.declared.err.macsec.HeaderSliceError.TheVariants as extension_error
-use Rattle.ep_base.specs.declared.err.tcp.HeaderSliceError.{HeaderSliceError as TransportError}
-use Rattle.ep_base.specs.declared.err.tcp.HeaderSliceError.TheVariants as transport_error
 use Rattle.ep_link.specs.declared.link.ethernet2_header.Ethernet2Header.{Ethernet2Header}
 use Rattle.ep_link.specs.declared.link.linux_sll_header.LinuxSllHeader.{LinuxSllHeader}
 use Rattle.ep_link.specs.declared.link_ext.link_ext_header.LinkExtHeader.{LinkExtHeader}
 use Rattle.ep_link.specs.Arp.{arp_cut_limit}
-use Rattle.ep_link.specs.Ethernet2.{IsEthernet2, ethernet2_bytes, ethernet2_header_len}
-use Rattle.ep_link.specs.LinuxSll.{IsLinuxSll, linux_sll_bytes, linux_sll_header_len, protocol_ether_type}
-use Rattle.ep_link.specs.LinkExtensions.{BeginsLinkExtension, IsLinkExtension, LinkExtension, extension_header, extension_payload, extension_type, link_ext_header_len, macsec, vlan}
+use Rattle.ep_link.specs.Ethernet2.{ethernet2_bytes, ethernet2_header_len}
+use Rattle.ep_link.specs.LinuxSll.{linux_sll_bytes, linux_sll_header_len, protocol_ether_type}
+use Rattle.ep_link.specs.LinkExtensions.{IsLinkExtension, LinkExtension, extension_header, extension_payload, extension_type, link_ext_header_len, macsec, vlan}
 use Rattle.ep_link.specs.Macsec.{macsec_payload_bytes}
 use Rattle.ep_link.proofs.CutRefusalLemmas.{arp_cut, ethernet2_cut, extension_cut, linux_sll_cut}
 use Rattle.ep_link.proofs.LinkExtensionLemmas.{extension_len}
 use Rattle.ep_ip.specs.declared.ipv4_header.Ipv4Header.{Ipv4Header}
 use Rattle.ep_ip.specs.declared.ipv6_header.Ipv6Header.{Ipv6Header}
 use Rattle.ep_ip.specs.IpBytes.{ipv4_headers_len, ipv6_headers_len}
-use Rattle.ep_ip.specs.Ipv6.{ipv6_bytes, ipv6_cut_limit, ipv6_payload_source}
-use Rattle.ep_ip.specs.IpPackets.{IpPacket, IpPart, IsIpv4, IsIpv6, ip_cut_limit, ipv4_part, ipv6_part}
+use Rattle.ep_ip.specs.Ipv6.{ipv6_bytes, ipv6_cut_limit}
+use Rattle.ep_ip.specs.IpPackets.{IpPacket, IpPart, IsIpv6, ip_cut_limit, ipv4_part, ipv6_part}
 use Rattle.ep_ip.proofs.CutRefusalLemmas.{ip_cut, ipv4_cut, ipv6_cut, longer_ipv4, longer_ipv6, open_limit, with_left, with_more}
 use Rattle.ep_ip.proofs.IpBytesLemmas.{ipv6_len, ipv6_packet_bytes}
-use Rattle.ep_transport.specs.TransportParts.{IsTransportPart, RefusesTransportPart, TransportLayer}
+use Rattle.ep_transport.specs.TransportParts.{TransportLayer}
 use Rattle.ep_transport.proofs.CutRefusalLemmas.{transport_cut}
 use Rattle.ep_transport.proofs.TransportLemmas.{transport_is_read}
 use Rattle.ep_packet.specs.declared.entry.Entry.{Entry}
 use Rattle.ep_packet.specs.declared.entry.Entry.TheVariants.{Ethernet as ethernet, LinuxSll as linux_sll, EtherType as ether_type, Ip as ip}
 use Rattle.ep_packet.specs.declared.err.slice_error.SliceError.{SliceError}
 use Rattle.ep_packet.specs.declared.err.slice_error.SliceError.TheVariants as slice_error
-use Rattle.ep_packet.specs.Cuts.{frame_cut_limit, inside_start, net_cut_limit, net_start}
-use Rattle.ep_packet.specs.Layers.{Layers, NetLayer, arp, ip_layer, ipv4, ipv4_layer, ipv6, ipv6_layer, net_payload}
+use Rattle.ep_packet.specs.Cuts.{frame_cut_limit, net_cut_limit, net_start}
+use Rattle.ep_packet.specs.Layers.{NetLayer, arp, ip_layer, ipv4, ipv4_layer, ipv6, ipv6_layer, net_payload}
 use Rattle.ep_packet.specs.Frame.{IsFrameIn, IsInside, IsNetLayer, IsNetPart, IsTransportBehind, NetKind, any_ip, most_link_exts, net_kind, only_arp, only_ipv4, only_ipv6}
-use Rattle.ep_packet.specs.Refusals.{RefusesExtensionAt, RefusesFrameIn, RefusesInside, RefusesNetLayer, RefusesNetPart, RefusesTransportBehind, RefusesTransportIn, extension_refusal, further_behind, ip_refusal, ipv4_refusal, ipv6_refusal, len_refusal, linux_sll_refusal, net_header_len, transport_refusal}
+use Rattle.ep_packet.specs.Refusals.{RefusesExtensionAt, RefusesFrameIn, RefusesInside, RefusesNetLayer, RefusesNetPart, RefusesTransportIn, extension_refusal, further_behind, ip_refusal, ipv4_refusal, ipv6_refusal, len_refusal, linux_sll_refusal, transport_refusal}
 use Rattle.ep_packet.specs.UncutTags.{CutsNothing}
 use Rattle.ep_packet.proofs.Deciders.{ExtensionPart}
 use Rattle.ep_packet.proofs.InsideLemmas.{inside_decided}
 use Rattle.ep_packet.proofs.LayerLaws.{layer_laws}
-use Rattle.ep_packet.proofs.MissingLemmas.{ExtensionStart, SllStart, ethernet2_len, ethernet2_start, extension_at_start, linux_sll_len, longer_ethernet2, longer_extension, longer_linux_sll, sll_at_start, tag_len, uncut_left, whole_len}
+use Rattle.ep_packet.proofs.MissingLemmas.{ExtensionStart, RefusesBehind, SllStart, ethernet2_len, ethernet2_start, extension_at_start, linux_sll_len, longer_ethernet2, longer_extension, longer_linux_sll, sll_at_start, tag_len, uncut_left, whole_len}
 use Rattle.ep_packet.proofs.NetLemmas.{layer_decided}
 
 -- a refusal of a frame for want of what the cut took
@@ -68,7 +64,8 @@ NetCut net start offset front back =
     IsCut (net_cut_limit net start) (offset + length front) (offset + length (front ++ back))
 
 -- a layer's refusal as one of the frame
-placed : {E : Type 0} (named : LenError → E) (place : E → SliceError) (offset : ℕ) (limit in_frame : LenError → LenSource)
+placed : {E : Type 0} (named : LenError → E) (place : E → SliceError) (offset : ℕ)
+    (limit in_frame : LenError → LenSource)
     → ((missing : LenError) → place (named missing) ≡ slice_error.Len (further_behind offset missing))
     → (cut whole : ℕ) (refusal : E) (is : IsCutRefusal named limit cut whole refusal)
     → limit is.missing ≡ in_frame (further_behind offset is.missing)
@@ -90,7 +87,8 @@ moved_ipv6 start header missing =
     ap (λ (b : Bool). if b && ((missing.len == 0) && (header.payload_length == 0)) then source.Ipv6HeaderPayloadLen
     else source.Slice) test
 
-moved_arp : (start : ℕ) (missing : LenError) → arp_cut_limit 0 missing ≡ arp_cut_limit start (further_behind start missing)
+moved_arp : (start : ℕ) (missing : LenError) → arp_cut_limit 0 missing ≡ arp_cut_limit start
+    (further_behind start missing)
 moved_arp start missing =
     let test : (missing.layer_start_offset == 0) ≡ (missing.layer_start_offset + start == start) =
     grind (arith, common_steps) in
@@ -113,7 +111,8 @@ layer_cut reading only_ipv6 start front back fits layer is error refused =
     let known = ipv6_cut reading front back fits is.0 is.1 refused.0 refused.1 in
     subst (λ (l : NetLayer). NetCut (Some l) start start front back error) (sym is.2)
     (placed ipv6_error.Len (ipv6_refusal start) start (ipv6_cut_limit 0 is.0.header)
-    (net_cut_limit (Some (ipv6_layer is.0)) start) (λ missing. refl) (length front) (length (front ++ back)) refused.0 known
+    (net_cut_limit (Some (ipv6_layer is.0)) start) (λ missing. refl) (length front) (length (front ++ back)) refused.0
+    known
     (moved_ipv6 start is.0.header known.missing) error refused.2)
 layer_cut reading only_arp start front back fits layer is error refused =
     let known = arp_cut front back fits is.0 is.1 refused.0 refused.1 in
@@ -135,16 +134,13 @@ no_refusal : (reading : Reading) (offset : ℕ) (payload : IpPayload) (transport
     → IsTransportBehind reading (Some payload) transport → (error : SliceError)
     → RefusesTransportIn reading offset payload error → ⊥
 no_refusal reading offset payload transport is error refused =
-    refused_is_not (transport_is_read reading payload.number payload.fragmented) payload.bytes transport refused.0 refused.1
+    refused_is_not (transport_is_read reading payload.number payload.fragmented) payload.bytes transport refused.0
+    refused.1
     is
 
--- what refuses behind a net layer
-abbrev RefusesBehind : Reading → ℕ → SliceError → NetLayer → Type 0
-RefusesBehind reading start error layer =
-    RefusesTransportBehind reading (start + net_header_len layer) (net_payload layer) error
-
 -- a packet of IPv4 that stands on the front has all of its payload
-ipv4_behind : (reading : Reading) (start : ℕ) (front back : List ℕ) (layer : NetLayer) (transport : Option TransportLayer)
+ipv4_behind : (reading : Reading) (start : ℕ) (front back : List ℕ) (layer : NetLayer)
+    (transport : Option TransportLayer)
     → IsTransportBehind reading (net_payload layer) transport → (packet : IpPacket Ipv4Header)
     → layer ≡ ipv4_layer packet → (error : SliceError) → RefusesBehind reading start error (ipv4_layer packet) → ⊥
 ipv4_behind reading start front back layer transport is packet same error refused =
@@ -195,7 +191,8 @@ open_behind reading start front back fits transport packet is none nothing longe
     let lens = counted reading front packet is nothing in
     let bytes = ipv6_packet_bytes reading (front ++ back) (with_more packet is.content back) longer in
     let payload_fits = AreBytes-payload (front ++ back) bytes.headers (payload ++ back) [] fits bytes.parts in
-    let known = transport_cut reading packet.payload.number packet.payload.fragmented payload back payload_fits transport
+    let known = transport_cut reading packet.payload.number packet.payload.fragmented payload back payload_fits
+    transport
     transport_is refused.0 refused.1 in
     let missing = known.missing in
     let moved = record missing {
@@ -241,7 +238,8 @@ ipv6_behind reading start front back fits layer one transport transport_is packe
           let same = one (with_more packet is.content back) stands in
           subst (λ (l : NetLayer). NetCut (Some l) start start front back error) (sym same)
           (open_behind reading start front back fits transport packet is none nothing stands
-          (subst (λ (l : NetLayer). IsTransportBehind reading (net_payload l) transport) same transport_is) error refused)
+          (subst (λ (l : NetLayer). IsTransportBehind reading (net_payload l) transport) same transport_is) error
+          refused)
     ]
 
 behind_cut : (reading : Reading) (kind : NetKind) (start : ℕ) (front back : List ℕ) → AreBytes (front ++ back)
@@ -249,27 +247,32 @@ behind_cut : (reading : Reading) (kind : NetKind) (start : ℕ) (front back : Li
     → (transport : Option TransportLayer) → IsTransportBehind reading (net_payload layer) transport
     → (here : NetLayer) → IsNetLayer reading kind front here
     → (error : SliceError) → RefusesBehind reading start error here → NetCut (Some layer) start start front back error
-behind_cut reading only_ipv4 start front back fits layer layer_is transport is here (packet, packet_is, same) error refused =
+behind_cut reading only_ipv4 start front back fits layer layer_is transport is here (packet, packet_is, same) error
+    refused =
     let longer = with_left packet back in
-    let one = (layer_decided layer_laws reading only_ipv4 start (front ++ back) fits).one_value layer (ipv4_layer longer)
+    let one = (layer_decided layer_laws reading only_ipv4 start (front ++ back) fits).one_value layer
+    (ipv4_layer longer)
     layer_is (longer, longer_ipv4 reading front back packet packet_is, refl) in
     absurd (ipv4_behind reading start front back layer transport is packet one error
     (subst (RefusesBehind reading start error) same refused))
-behind_cut reading only_ipv6 start front back fits layer layer_is transport is here (packet, packet_is, same) error refused =
+behind_cut reading only_ipv6 start front back fits layer layer_is transport is here (packet, packet_is, same) error
+    refused =
     ipv6_behind reading start front back fits layer
     (λ longer stands. (layer_decided layer_laws reading only_ipv6 start (front ++ back) fits).one_value layer
     (ipv6_layer longer) layer_is (longer, stands, refl))
     transport is packet packet_is error (subst (RefusesBehind reading start error) same refused)
 behind_cut reading only_arp start front back fits layer layer_is transport is here here_is error refused =
     absurd (subst (RefusesBehind reading start error) here_is.2 refused)
-behind_cut reading any_ip start front back fits layer layer_is transport is here (ipv4_part packet, packet_is, same) error
+behind_cut reading any_ip start front back fits layer layer_is transport is here (ipv4_part packet, packet_is, same)
+    error
     refused =
     let longer = with_left packet back in
     let one = (layer_decided layer_laws reading any_ip start (front ++ back) fits).one_value layer (ipv4_layer longer)
     layer_is (ipv4_part longer, longer_ipv4 reading front back packet packet_is, refl) in
     absurd (ipv4_behind reading start front back layer transport is packet one error
     (subst (RefusesBehind reading start error) same refused))
-behind_cut reading any_ip start front back fits layer layer_is transport is here (ipv6_part packet, packet_is, same) error
+behind_cut reading any_ip start front back fits layer layer_is transport is here (ipv6_part packet, packet_is, same)
+    error
     refused =
     ipv6_behind reading start front back fits layer
     (λ longer stands. (layer_decided layer_laws reading any_ip start (front ++ back) fits).one_value layer
@@ -281,10 +284,12 @@ net_cut : (reading : Reading) (start : ℕ) (kind : Option NetKind) (front back 
     → (net : Option NetLayer) (transport : Option TransportLayer) → IsNetPart reading kind (front ++ back) net transport
     → (error : SliceError) → RefusesNetPart reading start kind front error → NetCut net start start front back error
 net_cut reading start None front back fits net transport is error refused = absurd refused
-net_cut reading start (Some kind) front back fits net transport (layer, layer_is, same, transport_is) error (inl refused) =
+net_cut reading start (Some kind) front back fits net transport (layer, layer_is, same, transport_is) error
+    (inl refused) =
     subst (λ (n : Option NetLayer). NetCut n start start front back error) (sym same)
     (layer_cut reading kind start front back fits layer layer_is error refused)
-net_cut reading start (Some kind) front back fits net transport (layer, layer_is, same, transport_is) error (inr refused) =
+net_cut reading start (Some kind) front back fits net transport (layer, layer_is, same, transport_is) error
+    (inr refused) =
     subst (λ (n : Option NetLayer). NetCut n start start front back error) (sym same)
     (behind_cut reading kind start front back fits layer layer_is transport transport_is refused.0 refused.1 error
     refused.2)
@@ -355,7 +360,8 @@ inside_cut : (reading : Reading) (room offset : ℕ) (type : Option EtherType) (
 inside_cut reading room offset None front back fits extensions net transport is error refused = absurd refused
 inside_cut reading zero offset (Some type) front back fits [] net transport is error refused =
     net_cut reading offset (net_kind type) front back fits net transport is error refused
-inside_cut reading zero offset (Some type) front back fits (extension ∷ others) net transport is error refused = absurd is
+inside_cut reading zero offset (Some type) front back fits (extension ∷ others) net transport is error refused = absurd
+    is
 inside_cut reading (suc room) offset (Some type) front back fits [] net transport is error (inl refused) =
     net_cut reading offset (net_kind type) front back fits net transport is.1 error refused.1
 inside_cut reading (suc room) offset (Some type) front back fits [] net transport is error (inr (inl refused)) =
@@ -404,7 +410,8 @@ inside_cut reading (suc room) offset (Some type) front back fits (extension ∷ 
           omega (arith, extension_len type front (here, left) here_is, ap length nothing) in
           let whole : offset + header + length (payload ++ back) ≡ offset + length (front ++ back) =
           omega (arith, cut, length-append payload back, length-append front back) in
-          let behind = inside_cut reading room (offset + header) (extension_type here) payload back payload_fits others net
+          let behind = inside_cut reading room (offset + header) (extension_type here) payload back payload_fits others
+          net
           transport inside error refused in
           let at_start = subst (λ (h : LinkExtHeader). IsCut (net_cut_limit net (net_start
           (offset + link_ext_header_len h) others)) (offset + header + length payload)
@@ -445,7 +452,8 @@ pub frame_cut : (reading : Reading) (entry : Entry)
     → TellsCut (IsFrameIn reading entry) (RefusesFrameIn reading entry) slice_error.Len (frame_cut_limit entry)
 frame_cut reading ethernet front back fits layers is error (inl refused) =
     let known = ethernet2_cut front back fits is.0 is.1 refused.0 refused.1 in
-    let at_start = ap (λ (e : LenError). e.layer_start_offset) (sym known.is) ∙ ethernet2_start front refused.0 refused.1 in
+    let at_start = ap (λ (e : LenError). e.layer_start_offset) (sym known.is) ∙ ethernet2_start front refused.0
+    refused.1 in
     let behind = start_behind ethernet2_header_len layers.link_exts in
     at_front (λ (e : LenError). e) slice_error.Len front back refused.0 (λ missing. refl) known at_start layers.net
     (net_start ethernet2_header_len layers.link_exts) (omega (arith, behind)) error refused.2
@@ -453,14 +461,16 @@ frame_cut reading ethernet front back fits layers is error (inr (frame, frame_is
     let longer = parts_of frame.header (frame.payload ++ back) [] in
     let stands = longer_ethernet2 front back frame frame_is in
     let same = (layer_laws.ethernet2 (front ++ back) fits).one_value is.0 longer is.1 stands in
-    let inside = subst (λ (f : Parts Ethernet2Header). IsInside reading most_link_exts (Some f.header.ether_type) f.payload
+    let inside = subst (λ (f : Parts Ethernet2Header). IsInside reading most_link_exts (Some f.header.ether_type)
+    f.payload
     layers.link_exts layers.net layers.transport) same is.3 in
     let payload_fits = AreBytes-payload (front ++ back) (ethernet2_bytes frame.header) (frame.payload ++ back) [] fits
     stands.parts in
     let len = whole_len front (ethernet2_bytes frame.header) frame.payload frame.left frame_is.parts frame_is.cut in
     from_start (frame_cut_limit ethernet layers) ethernet2_header_len front frame.payload back error
     (omega (arith, len, ethernet2_len frame.header frame_is.fits))
-    (inside_cut reading most_link_exts ethernet2_header_len (Some frame.header.ether_type) frame.payload back payload_fits
+    (inside_cut reading most_link_exts ethernet2_header_len (Some frame.header.ether_type) frame.payload back
+    payload_fits
     layers.link_exts layers.net layers.transport inside error refused)
 frame_cut reading linux_sll front back fits layers is error (inl refused) =
     let known = linux_sll_cut front back fits is.0 is.1 refused.0 refused.1 in
@@ -480,7 +490,8 @@ frame_cut reading linux_sll front back fits layers is error (inr (frame, frame_i
     let len = whole_len front (linux_sll_bytes frame.header) frame.payload frame.left frame_is.parts frame_is.cut in
     from_start (frame_cut_limit linux_sll layers) linux_sll_header_len front frame.payload back error
     (omega (arith, len, linux_sll_len frame.header frame_is.fits))
-    (inside_cut reading most_link_exts linux_sll_header_len (protocol_ether_type frame.header.protocol_type) frame.payload
+    (inside_cut reading most_link_exts linux_sll_header_len (protocol_ether_type frame.header.protocol_type)
+    frame.payload
     back payload_fits layers.link_exts layers.net layers.transport inside error refused)
 frame_cut reading (ether_type type) front back fits layers is error refused =
     from_start (frame_cut_limit (ether_type type) layers) 0 front front back error (omega arith)

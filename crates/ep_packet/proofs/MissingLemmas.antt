@@ -1,14 +1,14 @@
 -- What refusals of frames say of the bytes that are missing.
-use Rattle.std.proofs.Common.{◌≡◌, ◌⊎◌, ℕ, zero, suc, ◌+◌, ◌<◌, ◌≤◌, List, [], ◌∷◌, ◌++◌, length, Option, Some, None, refl, sym, ap, subst, ◌∙◌, inl, inr, arith, length-append}
+use Rattle.std.proofs.Common.{◌≡◌, ◌⊎◌, ℕ, zero, suc, ◌+◌, ◌<◌, ◌≤◌, List, [], ◌++◌, length, Option, Some, None, refl, sym, ap, subst, ◌∙◌, inl, inr, arith, length-append}
 use Rattle.std.specs.Prelude.{⊤}
 use Rattle.std.specs.Int.{w16, to_be_bytes}
-use Rattle.std.proofs.lemmas.List.{append-nil, append_assoc}
 use Rattle.ep_base.specs.Bytes.{AreBytes}
 use Rattle.ep_base.specs.IpPayload.{IpPayload}
-use Rattle.ep_base.specs.Layer.{Reading, behind_header, cut_by}
-use Rattle.ep_base.specs.Missing.{CountsMissing, HasExactLength, IsOfBytesAtHand, IsShortAt, that_row}
+use Rattle.ep_base.specs.Layer.{Reading, cut_by}
+use Rattle.ep_base.specs.Missing.{CountsMissing, HasExactLength, IsOfBytesAtHand, that_row}
 use Rattle.ep_base.specs.Tables.{Parts, parts_of, rows_as}
 use Rattle.ep_base.proofs.BytesLemmas.{AreBytes-payload}
+use Rattle.ep_base.proofs.CutRefusalLemmas.{longer_payload}
 use Rattle.ep_base.proofs.MissingLemmas.{not_total, not_udp, short_once}
 use Rattle.ep_base.proofs.TableLemmas.{refusal_is}
 use Rattle.ep_base.specs.declared.ether_type.EtherType.{EtherType}
@@ -35,10 +35,9 @@ use Rattle.ep_link.specs.declared.link_ext.link_ext_header.LinkExtHeader.{LinkEx
 use Rattle.ep_link.specs.declared.link_ext.link_ext_header.LinkExtHeader.TheVariants as tag_header
 use Rattle.ep_link.specs.declared.link_ext.macsec_ptype.MacsecPType.{MacsecPType}
 use Rattle.ep_link.specs.declared.link_ext.macsec_ptype.MacsecPType.TheVariants as ptype
-use Rattle.ep_link.specs.Arp.{RefusesArp}
 use Rattle.ep_link.specs.Ethernet2.{FitsEthernet2, IsEthernet2, RefusesEthernet2, ethernet2_bytes, ethernet2_header_len, ethernet2_rows}
 use Rattle.ep_link.specs.LinuxSll.{FitsLinuxSll, IsLinuxSll, RefusesLinuxSll, linux_sll_bytes, linux_sll_header_len, linux_sll_rows, protocol_ether_type, protocol_number}
-use Rattle.ep_link.specs.LinkExtensions.{LinkExtension, vlan, macsec, BeginsLinkExtension, IsLinkExtension, RefusesLinkExtension, extension_header, extension_payload, extension_type, link_ext_header_len}
+use Rattle.ep_link.specs.LinkExtensions.{LinkExtension, vlan, macsec, IsLinkExtension, RefusesLinkExtension, extension_header, extension_payload, extension_type, link_ext_header_len}
 use Rattle.ep_link.specs.Macsec.{macsec_len_source, macsec_payload, macsec_payload_bytes, macsec_payload_type, macsec_rows, payload_by, ptype_type}
 use Rattle.ep_link.specs.Vlan.{vlan_bytes, vlan_rows}
 use Rattle.ep_link.proofs.LinkExtensionLemmas.{extension_len}
@@ -56,7 +55,7 @@ use Rattle.ep_packet.specs.declared.entry.Entry.{Entry}
 use Rattle.ep_packet.specs.declared.entry.Entry.TheVariants.{Ethernet as ethernet, LinuxSll as linux_sll, EtherType as ether_type, Ip as ip}
 use Rattle.ep_packet.specs.declared.err.slice_error.SliceError.{SliceError}
 use Rattle.ep_packet.specs.declared.err.slice_error.SliceError.TheVariants as slice_error
-use Rattle.ep_packet.specs.Layers.{NetLayer, ipv4_layer, ipv6_layer, arp, net_payload}
+use Rattle.ep_packet.specs.Layers.{NetLayer, ipv4_layer, ipv6_layer, net_payload}
 use Rattle.ep_packet.specs.Frame.{NetKind, only_ipv4, only_ipv6, only_arp, any_ip, net_kind, most_link_exts, IsNetLayer}
 use Rattle.ep_packet.specs.Refusals.{RefusesExtensionAt, RefusesFrameIn, RefusesInside, RefusesNetLayer, RefusesNetPart, RefusesTransportBehind, RefusesTransportIn, extension_refusal, further_behind, ip_content_refusal, ip_refusal, ipv4_refusal, ipv6_refusal, linux_sll_refusal, net_header_len, transport_refusal}
 use Rattle.ep_packet.specs.UncutTags.{AreUncut, CutsNothing, HasNoShortLength}
@@ -180,7 +179,7 @@ ipv6_ends reading bytes packet is at_hand =
     )
 
 -- what refuses behind a net layer
-abbrev RefusesBehind : Reading → ℕ → SliceError → NetLayer → Type 0
+abbrev pub RefusesBehind : Reading → ℕ → SliceError → NetLayer → Type 0
 RefusesBehind reading offset error layer =
     RefusesTransportBehind reading (offset + net_header_len layer) (net_payload layer) error
 
@@ -345,15 +344,6 @@ inside_starts reading (suc room) offset (Some type) bytes error (inr (inr refuse
 
 -- ---- bytes behind layers that stand
 
--- bytes behind a payload that leaves nothing belong to it
-longer_parts : (bytes header payload left more : List ℕ) → bytes ≡ (header ++ payload) ++ left → left ≡ []
-    → bytes ++ more ≡ (header ++ (payload ++ more)) ++ []
-longer_parts bytes header payload left more parts nothing =
-    let whole : bytes ≡ header ++ payload =
-    parts ∙ ap (λ (l : List ℕ). (header ++ payload) ++ l) nothing ∙ append-nil (header ++ payload) in
-    ap (λ (l : List ℕ). l ++ more) whole ∙ append_assoc header payload more
-    ∙ sym (append-nil (header ++ (payload ++ more)))
-
 -- the same extension with these bytes behind its payload
 pub record IsLonger (extension longer : LinkExtension) (more : List ℕ) : Type 0 where
   pub header : extension_header longer ≡ extension_header extension
@@ -377,7 +367,7 @@ longer_extension type bytes more (vlan tag payload) left is uncut = (
     is.0,
     record {
       fits = is.1.fits;
-      parts = longer_parts bytes (vlan_bytes tag) payload left more is.1.parts is.1.cut;
+      parts = longer_payload bytes (vlan_bytes tag) payload left more is.1.parts is.1.cut;
       cut = refl;
     },
   ),
@@ -394,7 +384,7 @@ longer_extension type bytes more (macsec tag payload) left is uncut =
         record {
           encoded = is.1.encoded;
           encodes = is.1.encodes;
-          parts = longer_parts bytes is.1.encoded inner left more is.1.parts nothing
+          parts = longer_payload bytes is.1.encoded inner left more is.1.parts nothing
               ∙ ap (λ (l : List ℕ). (is.1.encoded ++ l) ++ []) (sym same);
           cut = inr (uncut, refl);
         },
@@ -576,7 +566,7 @@ pub longer_ethernet2 : (bytes more : List ℕ) (frame : Parts Ethernet2Header) �
     → IsEthernet2 (bytes ++ more) (parts_of frame.header (frame.payload ++ more) [])
 longer_ethernet2 bytes more frame is = record {
   fits = is.fits;
-  parts = longer_parts bytes (ethernet2_bytes frame.header) frame.payload frame.left more is.parts is.cut;
+  parts = longer_payload bytes (ethernet2_bytes frame.header) frame.payload frame.left more is.parts is.cut;
   cut = refl;
 }
 
@@ -584,7 +574,7 @@ pub longer_linux_sll : (bytes more : List ℕ) (frame : Parts LinuxSllHeader) �
     → IsLinuxSll (bytes ++ more) (parts_of frame.header (frame.payload ++ more) [])
 longer_linux_sll bytes more frame is = record {
   fits = is.fits;
-  parts = longer_parts bytes (linux_sll_bytes frame.header) frame.payload frame.left more is.parts is.cut;
+  parts = longer_payload bytes (linux_sll_bytes frame.header) frame.payload frame.left more is.parts is.cut;
   cut = refl;
 }
 

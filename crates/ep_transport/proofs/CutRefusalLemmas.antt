@@ -1,5 +1,5 @@
 -- That the front of a transport layer is refused for want of what the cut took.
-use Rattle.std.proofs.Common.{◌≡◌, ℕ, ◌+◌, ◌*◌, ◌/◌, ◌<◌, ◌==◌, if◌then◌else◌, Bool, true, false, not, List, [], ◌∷◌, ◌++◌, length, Option, Some, None, refl, sym, ap, subst, ◌∙◌, inl, inr, arith, length-append}
+use Rattle.std.proofs.Common.{◌≡◌, ℕ, ◌*◌, ◌/◌, ◌<◌, ◌==◌, Bool, true, false, not, List, [], ◌++◌, length, Option, Some, None, refl, ap, subst, arith, length-append}
 use Rattle.std.specs.Prelude.{◌&&◌, nat_lt}
 use Rattle.std.proofs.lemmas.Grind.{common_steps}
 use Rattle.ep_base.specs.Bytes.{word_at}
@@ -13,74 +13,81 @@ use Rattle.ep_base.specs.declared.err.layer.Layer.{Layer}
 use Rattle.ep_base.specs.declared.err.layer.Layer.TheVariants as layer
 use Rattle.ep_base.specs.declared.len_source.LenSource.TheVariants as source
 use Rattle.ep_base.specs.declared.err.tcp.HeaderSliceError.{HeaderSliceError}
-use Rattle.ep_base.specs.declared.err.tcp.HeaderSliceError.TheVariants.{Len, Content}
+use Rattle.ep_base.specs.declared.err.tcp.HeaderSliceError.TheVariants.{Len}
 use Rattle.ep_transport.specs.declared.icmpv4.kind.Icmpv4Kind.{Icmpv4Kind}
 use Rattle.ep_transport.specs.declared.icmpv4.kind.Icmpv4Kind.TheVariants as kind
-use Rattle.ep_transport.specs.Icmpv4.{icmpv4_kind_at, icmpv4_kind_of, icmpv4_rows, icmpv4_timestamp_rows}
-use Rattle.ep_transport.specs.Icmpv6.{icmpv6_rows}
-use Rattle.ep_transport.specs.Tcp.{data_offset_of, tcp_rows}
+use Rattle.ep_transport.specs.Icmpv4.{IsIcmpv4, RefusesIcmpv4, icmpv4_kind_at, icmpv4_kind_of, icmpv4_rows, icmpv4_timestamp_rows}
+use Rattle.ep_transport.specs.Icmpv6.{IsIcmpv6, RefusesIcmpv6, icmpv6_rows}
+use Rattle.ep_transport.specs.Tcp.{IsTcp, RefusesTcp, data_offset_of, tcp_rows}
 use Rattle.ep_transport.specs.TransportParts.{IsTransportPart, RefusesTransportPart, transport_part_rows, transport_rows, udp_part_rows}
-use Rattle.ep_transport.specs.Udp.{udp_header_rows, udp_rows}
+use Rattle.ep_transport.specs.Udp.{IsUdp, IsUdpHeader, RefusesUdp, RefusesUdpHeader, udp_header_rows, udp_rows}
+use Rattle.ep_transport.proofs.Icmpv4Lemmas.{icmpv4_is_read}
+use Rattle.ep_transport.proofs.Icmpv6Lemmas.{icmpv6_is_read}
+use Rattle.ep_transport.proofs.TcpLemmas.{tcp_is_read}
 use Rattle.ep_transport.proofs.TransportLemmas.{transport_is_read}
+use Rattle.ep_transport.proofs.UdpLemmas.{udp_header_is_read, udp_is_read}
 
 -- a refusal for want of what the cut took
 abbrev Beside : List ℕ → List ℕ → HeaderSliceError → Type 0
 Beside front back = IsCutRefusal Len slice_end (length front) (length (front ++ back))
 
--- the same of an error that has no other name yet
-abbrev LenBeside : List ℕ → List ℕ → LenError → Type 0
-LenBeside front back error = Beside front back (Len error)
+-- the same of an error that has this name
+abbrev BesideAs : {E : Type 0} → (LenError → E) → List ℕ → List ℕ → LenError → Type 0
+BesideAs named front back error = IsCutRefusal named slice_end (length front) (length (front ++ back)) (named error)
 
 -- ---- the tables
 
-udp_header_beside : (front back : List ℕ)
-    → BesideRows (LenBeside front back) (udp_header_rows front) (udp_header_rows (front ++ back))
-udp_header_beside front back long =
-    (cut_row Len slice_end front back 8 8 source.Slice layer.UdpHeader refl refl long, λ there. tt)
+udp_header_beside : {E : Type 0} (named : LenError → E) (front back : List ℕ)
+    → BesideRows (BesideAs named front back) (udp_header_rows front) (udp_header_rows (front ++ back))
+udp_header_beside named front back long =
+    (cut_row named slice_end front back 8 8 source.Slice layer.UdpHeader refl refl long, λ there. tt)
 
-udp_beside : (front back : List ℕ) → BesideRows (LenBeside front back) (udp_rows front) (udp_rows (front ++ back))
-udp_beside front back long = (
-  cut_row Len slice_end front back 8 8 source.Slice layer.UdpHeader refl refl long,
+udp_beside : {E : Type 0} (named : LenError → E) (front back : List ℕ)
+    → BesideRows (BesideAs named front back) (udp_rows front) (udp_rows (front ++ back))
+udp_beside named front back long = (
+  cut_row named slice_end front back 8 8 source.Slice layer.UdpHeader refl refl long,
   λ short.
-  let there = enough (length front) 8 short in
-  let field = word_beside front back 4 (omega (arith, there)) in
-  λ least. (
-    same_row (LenBeside front back) _ _ _ (ap (λ (n : ℕ). nat_lt 0 n && nat_lt n 8) field) least,
-    λ also.
-    λ whole. (
-      cut_row Len slice_end front back (word_at front 4) (word_at (front ++ back) 4) source.Slice layer.UdpPayload refl field
-          whole,
-      λ last. tt,
-    ),
-  ),
+      let there = enough (length front) 8 short in
+      let field = word_beside front back 4 (omega (arith, there)) in
+      λ least. (
+        same_row (BesideAs named front back) _ _ _ (ap (λ (n : ℕ). nat_lt 0 n && nat_lt n 8) field) least,
+        λ also.
+            λ whole. (
+              cut_row named slice_end front back (word_at front 4) (word_at (front ++ back) 4) source.Slice layer.UdpPayload
+                  refl field
+                  whole,
+              λ last. tt,
+            ),
+      ),
 )
 
-udp_part_beside : (reading : Reading) (front back : List ℕ)
-    → BesideRows (LenBeside front back) (udp_part_rows reading front) (udp_part_rows reading (front ++ back))
-udp_part_beside slices front back = udp_beside front back
-udp_part_beside headers front back = udp_header_beside front back
+udp_part_beside : {E : Type 0} (named : LenError → E) (reading : Reading) (front back : List ℕ)
+    → BesideRows (BesideAs named front back) (udp_part_rows reading front) (udp_part_rows reading (front ++ back))
+udp_part_beside named slices front back = udp_beside named front back
+udp_part_beside named headers front back = udp_header_beside named front back
 
 tcp_beside : (front back : List ℕ) → BesideRows (Beside front back) (tcp_rows front) (tcp_rows (front ++ back))
 tcp_beside front back long = (
   cut_row Len slice_end front back 20 20 source.Slice layer.TcpHeader refl refl long,
   λ short.
-  let there = enough (length front) 20 short in
-  let field = byte_beside front back 12 (omega (arith, there)) in
-  λ least. (
-    same_row (Beside front back) _ _ _ (ap (λ (b : ℕ). nat_lt (b / 16) 5) field) least,
-    λ also.
-    λ whole. (
-      cut_row Len slice_end front back (4 * data_offset_of front) (4 * data_offset_of (front ++ back)) source.Slice
-          layer.TcpHeader refl (ap (λ (b : ℕ). 4 * (b / 16)) field) whole,
-      λ last. tt,
-    ),
-  ),
+      let there = enough (length front) 20 short in
+      let field = byte_beside front back 12 (omega (arith, there)) in
+      λ least. (
+        same_row (Beside front back) _ _ _ (ap (λ (b : ℕ). nat_lt (b / 16) 5) field) least,
+        λ also.
+            λ whole. (
+              cut_row Len slice_end front back (4 * data_offset_of front) (4 * data_offset_of (front ++ back)) source.Slice
+                  layer.TcpHeader refl (ap (λ (b : ℕ). 4 * (b / 16)) field) whole,
+              λ last. tt,
+            ),
+      ),
 )
 
 -- a message that must have exactly 20 bytes
-exact_row : (front back : List ℕ) (place : Layer) → not (length (front ++ back) == 20) ≡ false
-    → not (length front == 20) ≡ true → LenBeside front back (len_error 20 (length front) source.Slice place)
-exact_row front back place exact other =
+exact_row : {E : Type 0} (named : LenError → E) (front back : List ℕ) (place : Layer)
+    → not (length (front ++ back) == 20) ≡ false
+    → not (length front == 20) ≡ true → BesideAs named front back (len_error 20 (length front) source.Slice place)
+exact_row named front back place exact other =
     let whole : length (front ++ back) ≡ 20 = grind (arith, common_steps) in
     let below : length front < 20 = grind (arith, common_steps, whole, other, length-append front back) in
     record {
@@ -90,52 +97,55 @@ exact_row front back place exact other =
       source = refl;
     }
 
-timestamp_beside : (front back : List ℕ) (of : Option Icmpv4Kind) → BesideRows (LenBeside front back)
+timestamp_beside : {E : Type 0} (named : LenError → E) (front back : List ℕ) (of : Option Icmpv4Kind)
+    → BesideRows (BesideAs named front back)
     (icmpv4_timestamp_rows of (length front)) (icmpv4_timestamp_rows of (length (front ++ back)))
-timestamp_beside front back None = tt
-timestamp_beside front back (Some kind.EchoReply) = tt
-timestamp_beside front back (Some kind.DestinationUnreachable) = tt
-timestamp_beside front back (Some kind.Redirect) = tt
-timestamp_beside front back (Some kind.EchoRequest) = tt
-timestamp_beside front back (Some kind.TimeExceeded) = tt
-timestamp_beside front back (Some kind.ParameterProblem) = tt
-timestamp_beside front back (Some kind.TimestampRequest) =
-    λ exact. (exact_row front back layer.Icmpv4Timestamp exact, λ last. tt)
-timestamp_beside front back (Some kind.TimestampReply) =
-    λ exact. (exact_row front back layer.Icmpv4TimestampReply exact, λ last. tt)
+timestamp_beside named front back None = tt
+timestamp_beside named front back (Some kind.EchoReply) = tt
+timestamp_beside named front back (Some kind.DestinationUnreachable) = tt
+timestamp_beside named front back (Some kind.Redirect) = tt
+timestamp_beside named front back (Some kind.EchoRequest) = tt
+timestamp_beside named front back (Some kind.TimeExceeded) = tt
+timestamp_beside named front back (Some kind.ParameterProblem) = tt
+timestamp_beside named front back (Some kind.TimestampRequest) =
+    λ exact. (exact_row named front back layer.Icmpv4Timestamp exact, λ last. tt)
+timestamp_beside named front back (Some kind.TimestampReply) =
+    λ exact. (exact_row named front back layer.Icmpv4TimestampReply exact, λ last. tt)
 
-icmpv4_beside : (front back : List ℕ)
-    → BesideRows (LenBeside front back) (icmpv4_rows front) (icmpv4_rows (front ++ back))
-icmpv4_beside front back long = (
-  cut_row Len slice_end front back 8 8 source.Slice layer.Icmpv4 refl refl long,
+icmpv4_beside : {E : Type 0} (named : LenError → E) (front back : List ℕ)
+    → BesideRows (BesideAs named front back) (icmpv4_rows front) (icmpv4_rows (front ++ back))
+icmpv4_beside named front back long = (
+  cut_row named slice_end front back 8 8 source.Slice layer.Icmpv4 refl refl long,
   λ short.
-  let there = enough (length front) 8 short in
-  let type = byte_beside front back 0 (omega (arith, there)) in
-  let code = byte_beside front back 1 (omega (arith, there)) in
-  let same : icmpv4_kind_at front ≡ icmpv4_kind_at (front ++ back) = λ i. icmpv4_kind_of (type i) (code i) in
-  subst (λ (of : Option Icmpv4Kind). BesideRows (LenBeside front back) (icmpv4_timestamp_rows (icmpv4_kind_at front)
-  (length front)) (icmpv4_timestamp_rows of (length (front ++ back)))) same
-  (timestamp_beside front back (icmpv4_kind_at front)),
+      let there = enough (length front) 8 short in
+      let type = byte_beside front back 0 (omega (arith, there)) in
+      let code = byte_beside front back 1 (omega (arith, there)) in
+      let same : icmpv4_kind_at front ≡ icmpv4_kind_at (front ++ back) = λ i. icmpv4_kind_of (type i) (code i) in
+      subst (λ (of : Option Icmpv4Kind). BesideRows (BesideAs named front back)
+      (icmpv4_timestamp_rows (icmpv4_kind_at front)
+      (length front)) (icmpv4_timestamp_rows of (length (front ++ back)))) same
+      (timestamp_beside named front back (icmpv4_kind_at front)),
 )
 
-icmpv6_beside : (front back : List ℕ)
-    → BesideRows (LenBeside front back) (icmpv6_rows front) (icmpv6_rows (front ++ back))
-icmpv6_beside front back long =
-    (cut_row Len slice_end front back 8 8 source.Slice layer.Icmpv6 refl refl long, λ there. tt)
+icmpv6_beside : {E : Type 0} (named : LenError → E) (front back : List ℕ)
+    → BesideRows (BesideAs named front back) (icmpv6_rows front) (icmpv6_rows (front ++ back))
+icmpv6_beside named front back long =
+    (cut_row named slice_end front back 8 8 source.Slice layer.Icmpv6 refl refl long, λ there. tt)
 
 transport_beside : (reading : Reading) (number : ℕ) (front back : List ℕ)
-    → BesideRows (Beside front back) (transport_rows reading number front) (transport_rows reading number (front ++ back))
+    → BesideRows (Beside front back) (transport_rows reading number front)
+    (transport_rows reading number (front ++ back))
 transport_beside reading number front back =
     let Such = Beside front back in
     either_beside Such (number == udp_number) _ _ _ _
     (named_beside Such Len (udp_part_rows reading front) (udp_part_rows reading (front ++ back))
-    (udp_part_beside reading front back))
+    (udp_part_beside Len reading front back))
     (either_beside Such (number == tcp_number) _ _ _ _ (tcp_beside front back)
     (either_beside Such (number == icmpv4_number) _ _ _ _
-    (named_beside Such Len (icmpv4_rows front) (icmpv4_rows (front ++ back)) (icmpv4_beside front back))
+    (named_beside Such Len (icmpv4_rows front) (icmpv4_rows (front ++ back)) (icmpv4_beside Len front back))
     (either_beside Such (number == icmpv6_number) (rows_as Len (icmpv6_rows front)) []
     (rows_as Len (icmpv6_rows (front ++ back))) []
-    (named_beside Such Len (icmpv6_rows front) (icmpv6_rows (front ++ back)) (icmpv6_beside front back)) tt)))
+    (named_beside Such Len (icmpv6_rows front) (icmpv6_rows (front ++ back)) (icmpv6_beside Len front back)) tt)))
 
 part_beside : (reading : Reading) (number : ℕ) (fragmented : Bool) (front back : List ℕ)
     → BesideRows (Beside front back) (transport_part_rows reading number fragmented front)
@@ -150,3 +160,31 @@ transport_cut reading number fragmented front back fits part is error refused =
     refused_beside (Beside front back) (transport_part_rows reading number fragmented front)
     (transport_part_rows reading number fragmented (front ++ back)) (part_beside reading number fragmented front back)
     ((transport_is_read reading number fragmented).is_read (front ++ back) part is).0 error refused
+
+-- ---- each layer alone
+
+pub udp_header_cut : TellsCut IsUdpHeader RefusesUdpHeader (λ (error : LenError). error) (λ read. slice_end)
+udp_header_cut front back fits read is error refused =
+    refused_beside (BesideAs (λ (e : LenError). e) front back) (udp_header_rows front) (udp_header_rows (front ++ back))
+    (udp_header_beside (λ (e : LenError). e) front back) (udp_header_is_read.is_read (front ++ back) read is).0 error
+    refused
+
+pub udp_cut : TellsCut IsUdp RefusesUdp (λ (error : LenError). error) (λ datagram. slice_end)
+udp_cut front back fits datagram is error refused =
+    refused_beside (BesideAs (λ (e : LenError). e) front back) (udp_rows front) (udp_rows (front ++ back))
+    (udp_beside (λ (e : LenError). e) front back) (udp_is_read.is_read (front ++ back) datagram is).0 error refused
+
+pub tcp_cut : TellsCut IsTcp RefusesTcp Len (λ segment. slice_end)
+tcp_cut front back fits segment is error refused =
+    refused_beside (Beside front back) (tcp_rows front) (tcp_rows (front ++ back)) (tcp_beside front back)
+    (tcp_is_read.is_read (front ++ back) segment is).0 error refused
+
+pub icmpv4_cut : TellsCut IsIcmpv4 RefusesIcmpv4 (λ (error : LenError). error) (λ message. slice_end)
+icmpv4_cut front back fits message is error refused =
+    refused_beside (BesideAs (λ (e : LenError). e) front back) (icmpv4_rows front) (icmpv4_rows (front ++ back))
+    (icmpv4_beside (λ (e : LenError). e) front back) (icmpv4_is_read.is_read (front ++ back) message is).0 error refused
+
+pub icmpv6_cut : TellsCut IsIcmpv6 RefusesIcmpv6 (λ (error : LenError). error) (λ message. slice_end)
+icmpv6_cut front back fits message is error refused =
+    refused_beside (BesideAs (λ (e : LenError). e) front back) (icmpv6_rows front) (icmpv6_rows (front ++ back))
+    (icmpv6_beside (λ (e : LenError). e) front back) (icmpv6_is_read.is_read (front ++ back) message is).0 error refused

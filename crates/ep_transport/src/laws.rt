@@ -15,8 +15,8 @@ ghost use Rattle.ep_base.specs.declared.err.len_error.LenError.{LenError};
 ghost use Rattle.ep_base.specs.declared.err.tcp.HeaderSliceError.{HeaderSliceError};
 ghost use Rattle.ep_base.specs.declared.err.tcp.HeaderSliceError.TheVariants as header_error;
 ghost use Rattle.ep_transport.specs.Udp.{IsUdp, IsUdpHeader, RefusesUdp, RefusesUdpHeader, udp_bytes};
-ghost use Rattle.ep_transport.specs.Icmpv4.{RefusesIcmpv4};
-ghost use Rattle.ep_transport.specs.Icmpv6.{RefusesIcmpv6};
+ghost use Rattle.ep_transport.specs.Icmpv4.{IsIcmpv4, RefusesIcmpv4};
+ghost use Rattle.ep_transport.specs.Icmpv6.{IsIcmpv6, RefusesIcmpv6};
 ghost use Rattle.ep_transport.specs.Tcp.{IsTcp, RefusesTcp, tcp_bytes, default_tcp_header};
 ghost use Rattle.ep_transport.specs.TcpOptionBytes.{FitsOption, IsNextOption, RefusesOption, AreItems, as_read, in_words, options_bytes};
 ghost use Rattle.ep_transport.specs.PseudoHeaders.{pseudo_header_ipv4, pseudo_header_ipv6};
@@ -127,11 +127,17 @@ pub fn tell_missing()
         → (error.len_source ≡ source.Slice) ⊎ (error.len_source ≡ source.UdpHeaderLen) }
 {}
 
-/// Where the front of the bytes of a transport layer is refused, it is for want of the bytes that the cut took: the offset plus
-/// `len` is the number of bytes up to the cut, `required_len` is more than `len`, and the offset plus `required_len` at most
-/// the number of all bytes. The limit is the end of the bytes at hand.
+/// Where the front of the bytes of a transport layer is refused, it is for want of the bytes that the cut took: the
+/// offset plus `len` is the number of bytes up to the cut, `required_len` is more than `len`, and the offset plus
+/// `required_len` at most the number of all bytes. The limit is the end of the bytes at hand. So it is of timestamps of
+/// ICMP too, of which too many bytes are refused otherwise.
 pub fn tell_cut()
-    ensures { (reading : Reading) (number : ℕ) (fragmented : Bool)
+    ensures udp_header { TellsCut IsUdpHeader RefusesUdpHeader (λ (error : LenError). error) (λ read. slice_end) }
+    ensures udp { TellsCut IsUdp RefusesUdp (λ (error : LenError). error) (λ datagram. slice_end) }
+    ensures tcp { TellsCut IsTcp RefusesTcp header_error.Len (λ segment. slice_end) }
+    ensures icmpv4 { TellsCut IsIcmpv4 RefusesIcmpv4 (λ (error : LenError). error) (λ message. slice_end) }
+    ensures icmpv6 { TellsCut IsIcmpv6 RefusesIcmpv6 (λ (error : LenError). error) (λ message. slice_end) }
+    ensures transport { (reading : Reading) (number : ℕ) (fragmented : Bool)
         → TellsCut (IsTransportPart reading number fragmented) (RefusesTransportPart reading number fragmented)
         header_error.Len (λ part. slice_end) }
 {}

@@ -1,5 +1,10 @@
-use Rattle.ep_ext.proofs.CutRefusalLemmas.{chain_cut}
+use Rattle.ep_ext.proofs.CutRefusalLemmas.{chain_cut, fragment_header_cut, ip_auth_cut, raw_extension_cut}
 use Rattle.ep_ext.proofs.laws.tell_cut.Goals as goal
 
 pub returns : goal.returns
-returns c = chain_cut
+returns c = record {
+  ip_auth = ip_auth_cut;
+  raw_extension = raw_extension_cut;
+  fragment_header = fragment_header_cut;
+  chain = chain_cut;
+}
