@@ -3,7 +3,7 @@ use Rattle.std.proofs.Common.{◌≡◌, ℕ, ◌+◌, ◌==◌, Bool, true, fal
 use Rattle.std.specs.Prelude.{⊤, nat_lt}
 use Rattle.ep_base.specs.IpNumbers.{authentication_number, fragment_number}
 use Rattle.ep_base.specs.Layer.{Reading, len_error}
-use Rattle.ep_base.specs.Missing.{CountsMissing, IsShortAt, TellsMissing}
+use Rattle.ep_base.specs.Missing.{IsShortAt, TellsMissing}
 use Rattle.ep_base.specs.Tables.{rows_as}
 use Rattle.ep_base.proofs.MissingLemmas.{AllWhere, refusal_where, short_row, tells_missing}
 use Rattle.ep_base.specs.declared.err.len_error.LenError.{LenError}

@@ -1,5 +1,5 @@
 -- What a walk along the extension headers of IPv6 remembers.
-use Rattle.std.specs.Prelude.{ℕ, ◌==◌, ◌&&◌, not, Bool, true, false, if◌then◌else◌, Option, Some, None, option_map, is_some}
+use Rattle.std.specs.Prelude.{ℕ, ◌==◌, ◌&&◌, not, true, false, if◌then◌else◌, Option, Some, None, option_map, is_some}
 use Rattle.ep_base.specs.IpNumbers.{hop_by_hop_number, routing_number, fragment_number, authentication_number, destination_options_number}
 use Rattle.ep_ext.specs.declared.ipv6_exts.Ipv6Extensions.{Ipv6Extensions}
 use Rattle.ep_ext.specs.declared.ipv6_exts_walk.HeaderRef.{HeaderRef}

@@ -1,12 +1,11 @@
 -- What refusals of IP packets say of the bytes that are missing.
-use Rattle.std.proofs.Common.{◌≡◌, ◌⊎◌, ℕ, ◌+◌, ◌*◌, ◌<◌, ◌==◌, if◌then◌else◌, Bool, true, false, List, [], ◌∷◌, ◌++◌, length, refl, sym, ap, subst, inl, inr, arith, length-append}
+use Rattle.std.proofs.Common.{◌≡◌, ℕ, ◌+◌, ◌*◌, ◌==◌, if◌then◌else◌, Bool, true, false, List, [], ◌++◌, length, refl, sym, ap, subst, inl, inr, arith, length-append}
 use Rattle.std.specs.Prelude.{⊤, ◌&&◌, nat_lt}
 use Rattle.std.proofs.lemmas.Grind.{common_steps}
 use Rattle.ep_base.specs.Bytes.{word_at}
-use Rattle.ep_base.specs.Layer.{Reading, behind_header, cut_by, len_error}
+use Rattle.ep_base.specs.Layer.{Reading, cut_by, len_error}
 use Rattle.ep_base.specs.Missing.{CountsMissing, IsOfBytesAtHand, TellsMissing}
 use Rattle.ep_base.proofs.MissingLemmas.{counted, not_counted, not_payload, not_total, refusal_where, tells_missing}
-use Rattle.ep_base.specs.declared.err.len_error.LenError.{LenError}
 use Rattle.ep_base.specs.declared.err.layer.Layer.TheVariants as layer
 use Rattle.ep_base.specs.declared.len_source.LenSource.{LenSource}
 use Rattle.ep_base.specs.declared.len_source.LenSource.TheVariants as source

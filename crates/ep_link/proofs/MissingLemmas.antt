@@ -1,5 +1,5 @@
 -- What refusals of link layers, link extensions and ARP say of the bytes that are missing.
-use Rattle.std.proofs.Common.{◌≡◌, ℕ, List, length, Some, inl, inr}
+use Rattle.std.proofs.Common.{ℕ, List, length, inl, inr}
 use Rattle.std.specs.Prelude.{⊤}
 use Rattle.ep_base.specs.Missing.{CountsMissing, TellsMissing}
 use Rattle.ep_base.specs.Tables.{rows_as}

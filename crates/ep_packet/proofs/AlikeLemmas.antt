@@ -1,5 +1,5 @@
 -- That bytes which are refused as headers are read are refused alike as slices are read, and what slices alone refuse.
-use Rattle.std.proofs.Common.{◌≡◌, ◌⊎◌, ℕ, zero, suc, ◌+◌, Bool, true, List, [], ◌∷◌, Option, Some, None, refl, sym, ap, subst, ◌∙◌, inl, inr, arith}
+use Rattle.std.proofs.Common.{◌≡◌, ◌⊎◌, ℕ, zero, suc, ◌+◌, Bool, true, List, [], ◌∷◌, Option, Some, None, sym, ap, subst, inl, inr, arith}
 use Rattle.std.proofs.lemmas.Grind.{common_steps}
 use Rattle.ep_base.specs.Bytes.{AreBytes}
 use Rattle.ep_base.specs.IpPayload.{IpPayload}
@@ -28,7 +28,7 @@ use Rattle.ep_transport.specs.TransportParts.{TransportLayer, HasNoHeader, IsUdp
 use Rattle.ep_packet.specs.declared.entry.Entry.{Entry}
 use Rattle.ep_packet.specs.declared.entry.Entry.TheVariants.{Ethernet as ethernet, LinuxSll as linux_sll, EtherType as ether_type, Ip as ip}
 use Rattle.ep_packet.specs.declared.err.slice_error.SliceError.{SliceError}
-use Rattle.ep_packet.specs.Layers.{NetLayer, ipv4, ipv6, arp, Layers, ip_layer, ipv4_layer, ipv6_layer, net_payload}
+use Rattle.ep_packet.specs.Layers.{NetLayer, ipv4, ipv6, arp, Layers, ipv6_layer, net_payload}
 use Rattle.ep_packet.specs.Frame.{NetKind, only_ipv4, only_ipv6, only_arp, any_ip, net_kind, most_link_exts, IsFrameIn, IsInside, IsNetLayer, IsNetPart}
 use Rattle.ep_packet.specs.Refusals.{RefusesFrameIn, RefusesInside, RefusesNetLayer, RefusesNetPart, RefusesTransportBehind, net_header_len, transport_refusal}
 use Rattle.ep_packet.specs.TwoParsers.{IsUdpLengthRefusal, StopsAtSecondKind}

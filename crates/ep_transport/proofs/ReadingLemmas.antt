@@ -19,8 +19,8 @@ use Rattle.ep_transport.specs.declared.transport_header.TransportHeader.TheVaria
 use Rattle.ep_transport.specs.Icmpv4.{icmpv4_rows}
 use Rattle.ep_transport.specs.Icmpv6.{icmpv6_rows}
 use Rattle.ep_transport.specs.Tcp.{tcp_rows}
-use Rattle.ep_transport.specs.Udp.{IsUdp, udp_header_rows, udp_rows}
-use Rattle.ep_transport.specs.TransportParts.{TransportLayer, HasNoHeader, IsLeftBehind, IsLeftBy, IsTransportCut, IsTransportLayer, IsTransportPart, IsUdpLengthError, RefusesTransportPart, transport_rows, udp_part_rows}
+use Rattle.ep_transport.specs.Udp.{IsUdp, udp_header_rows}
+use Rattle.ep_transport.specs.TransportParts.{TransportLayer, HasNoHeader, IsLeftBehind, IsLeftBy, IsTransportCut, IsTransportLayer, IsTransportPart, IsUdpLengthError, RefusesTransportPart}
 use Rattle.ep_transport.proofs.TransportLemmas.{no_rows, transport_is_read}
 use Rattle.ep_transport.proofs.UdpLemmas.{udp_is_read}
 

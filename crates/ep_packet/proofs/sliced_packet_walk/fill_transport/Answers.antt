@@ -10,9 +10,7 @@ use Rattle.ep_ip.specs.declared.ipv4_slice.Ipv4Slice.{Ipv4Slice}
 use Rattle.ep_ip.specs.declared.ipv6_slice.Ipv6Slice.{Ipv6Slice}
 use Rattle.ep_ip.specs.Ipv4Slices.{ipv4_header_slice_bytes, ipv4_slice_bytes, ipv4_slice_content, ipv4_slice_payload}
 use Rattle.ep_ip.specs.Ipv6Slices.{ipv6_header_slice_bytes, ipv6_slice_bytes, ipv6_slice_content, ipv6_slice_payload}
-use Rattle.ep_transport.specs.declared.transport_slice.TransportSlice.{TransportSlice}
 use Rattle.ep_transport.specs.TransportParts.{TransportLayer, transport_layer_of}
-use Rattle.ep_packet.specs.declared.err.slice_error.SliceError.{SliceError}
 use Rattle.ep_packet.specs.declared.net_slice.NetSlice.{NetSlice}
 use Rattle.ep_packet.specs.declared.net_slice.NetSlice.TheVariants as slice
 use Rattle.ep_packet.specs.Layers.{net_layer_of, net_payload}
