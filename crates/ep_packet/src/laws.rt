@@ -85,8 +85,8 @@ pub fn tell_missing()
 /// Where a frame is cut, and the cut is refused, it is for want of the bytes that the cut took, in each reading by each
 /// entry: the error is one by length, the offset plus `len` is the number of bytes up to the cut, `required_len` is
 /// more than `len`, and the offset plus `required_len` is at most the number of the frame's bytes. Its source is
-/// `Slice`, but `ArpAddrLengths` where 8 bytes of an ARP packet are there, and `Ipv6HeaderPayloadLen` where the payload
-/// length is 0 and the cut ends with the header of IPv6.
+/// `Slice`, but `ArpAddrLengths` of an ARP packet of which 8 bytes are there, and `Ipv6HeaderPayloadLen` of a layer
+/// behind a header of IPv6 whose payload length is 0, of which the cut, which ends with that header, left no byte.
 pub fn tell_cut()
     ensures { (reading : Reading) (entry : Entry)
         → TellsCut (IsFrameIn reading entry) (RefusesFrameIn reading entry) slice_error.Len (frame_cut_limit entry) }
