@@ -1,13 +1,118 @@
-pub use Rattle.ep_defrag.specs.Calls
-pub use Rattle.ep_defrag.specs.FrameCalls
-pub use Rattle.ep_defrag.specs.Pools
-pub use Rattle.ep_packet.specs.Frame
-pub use Rattle.ep_packet.specs.Layers
-pub use Rattle.ep_packet.specs.Refusals
-pub use Rattle.ep_packet.specs.declared.entry.Entry
-pub use Rattle.ep_packet.specs.declared.sliced_packet.SlicedPacket
+-- The definitions that the library's contracts name, and those that they stand on, from the innermost crate to the
+-- outermost. A file whose name stands in two crates has a name of its own here.
+pub mod Types
+-- numbers, lengths and errors that every layer shares
+pub use Rattle.ep_base.specs.Bounded
+pub use Rattle.ep_base.specs.Bytes
+pub use Rattle.ep_base.specs.Checksum
+pub use Rattle.ep_base.specs.Comparisons as NumberComparisons
+pub use Rattle.ep_base.specs.EtherTypes
+pub use Rattle.ep_base.specs.IpNumbers
+pub use Rattle.ep_base.specs.IpPayload
+pub use Rattle.ep_base.specs.Layer
+pub use Rattle.ep_base.specs.Missing
+pub use Rattle.ep_base.specs.Names
+pub use Rattle.ep_base.specs.Padding
+pub use Rattle.ep_base.specs.Tables
+-- link layers, link extensions and ARP
+pub use Rattle.ep_link.specs.Arp
+pub use Rattle.ep_link.specs.ArpSlices
+pub use Rattle.ep_link.specs.EtherPayloads
+pub use Rattle.ep_link.specs.Ethernet2
+pub use Rattle.ep_link.specs.Ethernet2Slices
+pub use Rattle.ep_link.specs.LinkExtensions
+pub use Rattle.ep_link.specs.LinkSlices
+pub use Rattle.ep_link.specs.LinuxSll
+pub use Rattle.ep_link.specs.LinuxSllSlices
+pub use Rattle.ep_link.specs.Macsec
+pub use Rattle.ep_link.specs.MacsecSlices
+pub use Rattle.ep_link.specs.Vlan
+pub use Rattle.ep_link.specs.VlanSlices
+-- extension headers of IP
+pub use Rattle.ep_ext.specs.Chains
+pub use Rattle.ep_ext.specs.ExtensionParts
+pub use Rattle.ep_ext.specs.FragmentHeader
+pub use Rattle.ep_ext.specs.FragmentHeaderSlices
+pub use Rattle.ep_ext.specs.IpAuth
+pub use Rattle.ep_ext.specs.IpAuthSlices
+pub use Rattle.ep_ext.specs.Ipv4Chains
+pub use Rattle.ep_ext.specs.Ipv6Chains
+pub use Rattle.ep_ext.specs.Ipv6Slices as Ipv6ExtensionSlices
+pub use Rattle.ep_ext.specs.RawExtension
+pub use Rattle.ep_ext.specs.RawExtensionSlices
+pub use Rattle.ep_ext.specs.ShownChains
+pub use Rattle.ep_ext.specs.Walks
+-- IP
+pub use Rattle.ep_ip.specs.Ip
+pub use Rattle.ep_ip.specs.IpBytes
+pub use Rattle.ep_ip.specs.IpPackets
+pub use Rattle.ep_ip.specs.IpSlices
+pub use Rattle.ep_ip.specs.Ipv4
+pub use Rattle.ep_ip.specs.Ipv4Slices
+pub use Rattle.ep_ip.specs.Ipv6
+pub use Rattle.ep_ip.specs.Ipv6Slices
+-- transport layers
+pub use Rattle.ep_transport.specs.Icmp
+pub use Rattle.ep_transport.specs.Icmpv4
+pub use Rattle.ep_transport.specs.Icmpv4Slices
+pub use Rattle.ep_transport.specs.Icmpv6
+pub use Rattle.ep_transport.specs.Icmpv6Slices
+pub use Rattle.ep_transport.specs.PseudoHeaders
+pub use Rattle.ep_transport.specs.Tcp
+pub use Rattle.ep_transport.specs.TcpOptionBytes
+pub use Rattle.ep_transport.specs.TcpOptionSteps
+pub use Rattle.ep_transport.specs.TcpSlices
+pub use Rattle.ep_transport.specs.TransportHeaders
+pub use Rattle.ep_transport.specs.TransportNumbers
 pub use Rattle.ep_transport.specs.TransportParts
 pub use Rattle.ep_transport.specs.Udp
 pub use Rattle.ep_transport.specs.UdpSlices
-pub use Rattle.ep_transport.specs.declared.transport_slice.TransportSlice
-pub use Rattle.ep_transport.specs.declared.udp_slice.UdpSlice
+-- whole packets
+pub use Rattle.ep_packet.specs.Comparisons as PacketComparisons
+pub use Rattle.ep_packet.specs.Fragments as PacketFragments
+pub use Rattle.ep_packet.specs.Frame
+pub use Rattle.ep_packet.specs.FrameBytes
+pub use Rattle.ep_packet.specs.HeadersWalk
+pub use Rattle.ep_packet.specs.IpHeaders
+pub use Rattle.ep_packet.specs.Layers
+pub use Rattle.ep_packet.specs.NetHeaders
+pub use Rattle.ep_packet.specs.NetSlices
+pub use Rattle.ep_packet.specs.PacketHeaders
+pub use Rattle.ep_packet.specs.PayloadParts
+pub use Rattle.ep_packet.specs.Payloads
+pub use Rattle.ep_packet.specs.Refusals as FrameRefusals
+pub use Rattle.ep_packet.specs.ShownBytes
+pub use Rattle.ep_packet.specs.TwoParsers
+pub use Rattle.ep_packet.specs.UncutTags
+pub use Rattle.ep_packet.specs.VlanTags
+pub use Rattle.ep_packet.specs.Walk
+-- building
+pub use Rattle.ep_build.specs.BuildErrors
+pub use Rattle.ep_build.specs.BuiltFragments
+pub use Rattle.ep_build.specs.BuiltFrames
+pub use Rattle.ep_build.specs.Fits
+pub use Rattle.ep_build.specs.ReadBack
+pub use Rattle.ep_build.specs.Steps
+-- putting fragments together
+pub use Rattle.ep_defrag.specs.Buffers
+pub use Rattle.ep_defrag.specs.BuiltCuts
+pub use Rattle.ep_defrag.specs.Calls
+pub use Rattle.ep_defrag.specs.Comparisons as DefragComparisons
+pub use Rattle.ep_defrag.specs.Completing
+pub use Rattle.ep_defrag.specs.Cuts
+pub use Rattle.ep_defrag.specs.Fragments as DefragFragments
+pub use Rattle.ep_defrag.specs.FrameCalls
+pub use Rattle.ep_defrag.specs.Isolation
+pub use Rattle.ep_defrag.specs.Pools
+pub use Rattle.ep_defrag.specs.Ranges
+pub use Rattle.ep_defrag.specs.Refusals as DefragRefusals
+pub use Rattle.ep_defrag.specs.Rooms
+pub use Rattle.ep_defrag.specs.Runs
+pub use Rattle.ep_defrag.specs.Streams
+pub use Rattle.ep_defrag.specs.Texts
+-- the constants of modules
+pub use Rattle.ep_base.specs.declared.ether_type.TheConstants as EtherTypeConstants
+pub use Rattle.ep_base.specs.declared.ip_number.TheConstants as IpNumberConstants
+pub use Rattle.ep_transport.specs.declared.icmpv4.TheConstants as Icmpv4Constants
+pub use Rattle.ep_transport.specs.declared.icmpv6.TheConstants as Icmpv6Constants
+pub use Rattle.ep_defrag.specs.declared.TheConstants as DefragConstants

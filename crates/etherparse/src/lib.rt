@@ -6,12 +6,21 @@
 //! type or from the IP header on, and answers a slice for each layer: [`LinkSlice`], up to three [`LinkExtSlice`]
 //! (VLAN tags and MACsec), [`NetSlice`] (IPv4, IPv6 or ARP) and [`TransportSlice`] (UDP, TCP, ICMP). A slice
 //! copies nothing; its methods read single fields, and its `to_header` reads them all.
-//! [`PacketHeaders`] reads the same packets into headers: [`LinkHeader`], [`LinkExtHeader`], [`NetHeaders`] and
-//! [`TransportHeader`], and leaves the rest as a [`PayloadSlice`]. Where many packets are read, `slice_into`,
-//! `read_into` and [`Entry`] fill a value that is there already.
+//!
+//! ```text
+//! let packet = SlicedPacket::from_ethernet(frame)?;
+//! if let Some(TransportSlice::Udp(udp)) = &packet.transport {
+//!     if udp.destination_port() == 53 { .. udp.payload() .. }
+//! }
+//! ```
 //!
 //! What a packet says is bounded by its length fields; [`LenSource`] names the field that cut it. A packet that is
-//! none is refused by an [`err::packet::SliceError`], which names the layer and where it stands.
+//! none is refused by an [`err::packet::SliceError`], which names the layer, where it stands, and how many bytes are
+//! missing. No checksum is verified; `calc_checksum_ipv4` and its like compute what one should be.
+//!
+//! Where many packets are read, [`SlicedPacket::slice_into`] fills a packet that is there already; [`Entry`] says with
+//! what the bytes begin. [`PacketHeaders`] reads the same packets into headers by value ([`LinkHeader`],
+//! [`LinkExtHeader`], [`NetHeaders`], [`TransportHeader`]) and leaves the rest as a [`PayloadSlice`].
 //!
 //! # Single layers
 //!
@@ -19,17 +28,35 @@
 //! `from_slice`, `to_bytes`, `write`. [`IpSlice`] and [`IpHeaders`] are IP with its extension headers. Fields that
 //! are no whole number of bytes have types of their own, as [`VlanId`] and [`IpFragOffset`]; the numbers of the
 //! standards stand in [`ether_type`], [`ip_number`], [`icmpv4`] and [`icmpv6`]; [`checksum`] sums the words of
-//! any bytes.
+//! any bytes. The errors of a layer stand in its module of [`err`].
 //!
 //! # Building a packet
 //!
 //! [`PacketBuilder`] takes the headers from the outermost on, each step offering what may follow, and `write`
-//! appends the packet with its lengths and checksums to a vector.
+//! appends the packet with its types, lengths and checksums to a vector. A refusal leaves the vector as it was.
+//!
+//! ```text
+//! PacketBuilder::ethernet2(source, destination)
+//!     .ipv4([192, 0, 2, 1], [192, 0, 2, 2], 64)
+//!     .udp(4000, 53)
+//!     .write(&mut frame, payload)?;
+//! ```
 //!
 //! # Putting fragments together
 //!
-//! [`defrag::IpDefragPool`] takes sliced packets and hands out each payload that is complete;
-//! [`defrag::IpDefragBuf`] is one payload on its way, for callers who tell the streams apart themselves.
+//! [`defrag::IpDefragPool`] takes sliced packets and hands out each payload that is complete; a payload that is given
+//! back lends its memory to the next, and `retain` drops the streams of which nothing came for too long.
+//! [`defrag::IpDefragBuf`] is one payload on its way, for callers who tell the streams apart themselves, and
+//! [`defrag::run_frames`] makes a list of calls.
+//!
+//! # Contracts that cite the library
+//!
+//! The definitions that the contracts here name are all under `Rattle.etherparse.specs`: the types in `Types`
+//! (`Types.Entry`, `Types.UdpHeader`), and each other file under its name. `Frame.IsFrame entry bytes layers` says that
+//! bytes are a frame of these layers, and `FrameRefusals.RefusesFrame` why they are none; `Layers.layers_of` is what a
+//! sliced packet shows; `BuiltFrames.built_frame` is what the builder writes, `Pools` and `Calls` what a pool holds and
+//! answers. So a crate lists `etherparse` alone. The crates `example_filter`, `example_flows`, `example_generator` and
+//! `example_reader` are small programs with such contracts.
 #![tactic(auto)]
 
 #[cfg(test)]

@@ -1,7 +1,7 @@
 //! The example of the README.
 
 ghost use Rattle.std.specs.Prelude.{◌≡◌, IfSome, IfNone, Some, None};
-ghost use Rattle.etherparse.specs.Entry.TheVariants.{Ethernet as ethernet};
+ghost use Rattle.etherparse.specs.Types.Entry.TheVariants.{Ethernet as ethernet};
 ghost use Rattle.etherparse.specs.Frame.{IsFrame};
 ghost use Rattle.etherparse.specs.Layers.{Layers};
 ghost use Rattle.etherparse.specs.TransportParts.{TransportLayer, transport_payload};
