@@ -1,0 +1,55 @@
+//! Prints the lines of hexadecimal that are Ethernet frames of UDP from or to port 53 in VLAN 5.
+#![tactic(auto)]
+
+ghost use Rattle.std.specs.Prelude.{◌≡◌, ◌↔◌, IsTrue};
+ghost use Rattle.etherparse.specs.Types.Entry.TheVariants.{Ethernet as ethernet};
+ghost use Rattle.etherparse.specs.Frame.{IsFrame};
+ghost use Rattle.etherparse.specs.Layers.{Layers, layers_of};
+ghost use Rattle.example_filter.specs.Wanted.{is_wanted};
+
+use etherparse::{SlicedPacket, TransportSlice, VlanId};
+use std::io;
+
+const VLAN: u16 = 5;
+
+const PORT: u16 = 53;
+
+fn main(rt: HostRuntime) -> io::Result<()> {
+    let Ok(vlan) = VlanId::try_new(VLAN) else {
+        return rt.eprintln("no VLAN identifier");
+    };
+    for line in rt.lines(rt.alloc()) {
+        let line = line?;
+        let Ok(frame) = hex::decode(rt.alloc(), line.as_str()) else {
+            continue;
+        };
+        if keeps(frame.as_slice(), vlan, PORT) {
+            println!(rt; "{line}")?;
+        }
+    }
+    Ok(())
+}
+
+/// Whether bytes are an Ethernet frame of UDP from or to this port, with a tag of this VLAN.
+pub fn keeps(frame: &[u8], vlan: VlanId, port: u16) -> bool
+    ensures { IsTrue result ↔ ((layers : Layers) × IsFrame ethernet frame.now layers
+        × IsTrue (is_wanted vlan port layers)) }
+{
+    match SlicedPacket::from_ethernet(frame) {
+        Ok(packet) => wants(&packet, vlan, port),
+        Err(_) => false,
+    }
+}
+
+/// Whether a packet is of UDP from or to this port, with a tag of this VLAN.
+fn wants(packet: &SlicedPacket<'_>, vlan: VlanId, port: u16) -> bool
+    ensures { result ≡ is_wanted vlan port (layers_of packet.now) }
+{
+    match &packet.transport {
+        Some(TransportSlice::Udp(udp)) => {
+            (udp.source_port() == port || udp.destination_port() == port)
+                && packet.vlan_ids().as_slice().contains(&vlan)
+        }
+        _ => false,
+    }
+}
