@@ -9,7 +9,7 @@ use Rattle.std.proofs.lemmas.Option.{slice_get-map}
 use Rattle.ep_defrag.specs.declared.ip_defrag_error.IpDefragError.{IpDefragError}
 use Rattle.ep_defrag.specs.declared.ip_frag_id.IpFragId.{IpFragId}
 use Rattle.ep_defrag.specs.Fragments.{IpFragment, is_complete}
-use Rattle.ep_defrag.specs.Refusals.{refusal_of}
+use Rattle.ep_defrag.specs.Refusals.{refusal_within}
 use Rattle.ep_defrag.specs.Cuts.{IsCut}
 use Rattle.ep_defrag.specs.Streams.{name_of, same_stream}
 use Rattle.ep_defrag.specs.Calls.{Call, gives_frame, drops_streams, returns_buffer, Kept, accepted_in, kept_of, kept_by, kept_with, kept_after, kept_after_all, concerns, calls_of, table_after, Answer, answer_unless, answer_with, answer_to, answers_after, answers_to, accepted_at, IfHandedOut}
@@ -29,51 +29,51 @@ module _ (payload : List ℕ) where
     | inr partly ↦ rw partly tt
   ]
 
-  pub handed_at : {T C V : Type 0} (table : IpFragId C → Option (Kept T)) (call : Call T C V)
+  pub handed_at : {T C V : Type 0} (limit : ℕ) (table : IpFragId C → Option (Kept T)) (call : Call T C V)
       → AllByRecursion (IsCut payload) (accepted_at table call)
-      → IfHandedOut (answer_to table call) (λ handed. handed.bytes ≡ payload)
-  handed_at table (gives_frame None timestamp channel) cuts = tt
-  handed_at table (gives_frame (Some carried) timestamp channel) cuts =
-      handed_cuts (refusal_of (accepted_in (table (name_of carried channel))) carried.fragment)
+      → IfHandedOut (answer_to limit table call) (λ handed. handed.bytes ≡ payload)
+  handed_at limit table (gives_frame None timestamp channel) cuts = tt
+  handed_at limit table (gives_frame (Some carried) timestamp channel) cuts =
+      handed_cuts (refusal_within limit (accepted_in (table (name_of carried channel))) carried.fragment)
       (name_of carried channel) (accepted_in (table (name_of carried channel)) ++ carried.fragment ∷ []) cuts
-  handed_at table (drops_streams value) cuts = tt
-  handed_at table returns_buffer cuts = tt
+  handed_at limit table (drops_streams value) cuts = tt
+  handed_at limit table returns_buffer cuts = tt
 
-module _ {T C V : Type 0} (eq : C → C → Bool) (keep : V → T → Bool) where
+module _ {T C V : Type 0} (limit : ℕ) (eq : C → C → Bool) (keep : V → T → Bool) where
   -- the answer at a place is that to the call there
   answer_at : (earlier calls : List (Call T C V)) (at : ℕ) (call : Call T C V) (answer : Answer)
-      → slice_get calls at ≡ Some call → slice_get (answers_after eq keep earlier calls) at ≡ Some answer
-      → answer ≡ answer_to (table_after eq keep (earlier ++ take at calls)) call
+      → slice_get calls at ≡ Some call → slice_get (answers_after limit eq keep earlier calls) at ≡ Some answer
+      → answer ≡ answer_to limit (table_after limit eq keep (earlier ++ take at calls)) call
   answer_at earlier [] at call answer is_call is_answer = absurd (cc)
   answer_at earlier (first ∷ calls) zero call answer is_call is_answer =
       let same_call : first ≡ call = cc in
-      let same_answer : answer_to (table_after eq keep earlier) first ≡ answer = cc in
-      rw (append-nil earlier) (sym same_answer ∙ ap (answer_to (table_after eq keep earlier)) same_call)
+      let same_answer : answer_to limit (table_after limit eq keep earlier) first ≡ answer = cc in
+      rw (append-nil earlier) (sym same_answer ∙ ap (answer_to limit (table_after limit eq keep earlier)) same_call)
   answer_at earlier (first ∷ calls) (suc at) call answer is_call is_answer =
       answer_at (earlier ++ first ∷ []) calls at call answer is_call is_answer
-      ∙ ap (λ before. answer_to (table_after eq keep before) call) (append_assoc earlier (first ∷ []) (take at calls))
+      ∙ ap (λ before. answer_to limit (table_after limit eq keep before) call) (append_assoc earlier (first ∷ []) (take at calls))
 
   pub cuts_at : {X Y : Type 0} (shown : X → Call T C V) (said : Y → Answer) (calls : List X) (answers : List Y)
-      → map said answers ≡ answers_to eq keep (map shown calls) → (at : ℕ) (call : X) (answer : Y)
+      → map said answers ≡ answers_to limit eq keep (map shown calls) → (at : ℕ) (call : X) (answer : Y)
       → slice_get calls at ≡ Some call → slice_get answers at ≡ Some answer → (payload : List ℕ)
-      → All (IsCut payload) (accepted_at (table_after eq keep (map shown (take at calls))) (shown call))
+      → All (IsCut payload) (accepted_at (table_after limit eq keep (map shown (take at calls))) (shown call))
       → IfHandedOut (said answer) (λ handed. handed.bytes ≡ payload)
   cuts_at shown said calls answers same at call answer is_call is_answer payload cuts =
       let call_is : slice_get (map shown calls) at ≡ Some (shown call) =
       slice_get-map shown calls at ∙ ap (option_map shown) is_call in
-      let answer_is : slice_get (answers_to eq keep (map shown calls)) at ≡ Some (said answer) =
+      let answer_is : slice_get (answers_to limit eq keep (map shown calls)) at ≡ Some (said answer) =
       ap (λ xs. slice_get xs at) (sym same) ∙ slice_get-map said answers at ∙ ap (option_map said) is_answer in
-      let answered : said answer ≡ answer_to (table_after eq keep (take at (map shown calls))) (shown call) =
+      let answered : said answer ≡ answer_to limit (table_after limit eq keep (take at (map shown calls))) (shown call) =
       answer_at [] (map shown calls) at (shown call) (said answer) call_is answer_is in
       rw (answered, take-map shown at calls)
-      (handed_at payload (table_after eq keep (map shown (take at calls))) (shown call)
+      (handed_at payload limit (table_after limit eq keep (map shown (take at calls))) (shown call)
       (recursion_from_All (IsCut payload) _ cuts))
 
   -- the answers of a stream, by the calls that concern it alone
   abbrev pub answers_alone : Option (Kept T) → List (Call T C V) → List Answer
   answers_alone kept [] = []
   answers_alone kept (call ∷ calls) =
-      answer_to (λ name. kept) call ∷ answers_alone (kept_after keep kept call) calls
+      answer_to limit (λ name. kept) call ∷ answers_alone (kept_after limit keep kept call) calls
 
   module _ (laws : IsEquivalence eq) where
     -- names of one stream have one entry
@@ -88,49 +88,49 @@ module _ {T C V : Type 0} (eq : C → C → Bool) (keep : V → T → Bool) wher
     concerned_same a b alike returns_buffer = refl
 
     entries_same : (calls : List (Call T C V)) (a b : IpFragId C) → same_stream eq a b ≡ true
-        → table_after eq keep calls a ≡ table_after eq keep calls b
+        → table_after limit eq keep calls a ≡ table_after limit eq keep calls b
     entries_same calls a b alike =
-        ap (λ (test : Call T C V → Bool). kept_after_all keep None (filter test calls))
+        ap (λ (test : Call T C V → Bool). kept_after_all limit keep None (filter test calls))
         (λ i call. concerned_same a b alike call i)
 
     -- a call that concerns a stream is answered by what is kept of that stream
     pub answer_alone : (earlier : List (Call T C V)) (name : IpFragId C) (call : Call T C V)
         → concerns eq name call ≡ true
-        → answer_to (table_after eq keep earlier) call ≡ answer_to (λ other. table_after eq keep earlier name) call
+        → answer_to limit (table_after limit eq keep earlier) call ≡ answer_to limit (λ other. table_after limit eq keep earlier name) call
     answer_alone earlier name (gives_frame None timestamp channel) does = absurd (false≢true does)
     answer_alone earlier name (gives_frame (Some carried) timestamp channel) does =
-        ap (λ kept. answer_with (name_of carried channel) kept carried.fragment)
+        ap (λ kept. answer_with limit (name_of carried channel) kept carried.fragment)
         (entries_same earlier (name_of carried channel) name does)
     answer_alone earlier name (drops_streams value) does = refl
     answer_alone earlier name returns_buffer does = absurd (false≢true does)
 
     answers_by : (earlier : List (Call T C V)) (name : IpFragId C) (calls : List (Call T C V))
-        → answers_of eq name calls (answers_after eq keep earlier calls)
-        ≡ answers_alone (table_after eq keep earlier name) (calls_of eq name calls)
+        → answers_of eq name calls (answers_after limit eq keep earlier calls)
+        ≡ answers_alone (table_after limit eq keep earlier name) (calls_of eq name calls)
     answers_by earlier name [] = refl
     answers_by earlier name (call ∷ calls) = elim (cases_Bool (concerns eq name call)) [
       | inl does ↦
           let rest = answers_by (earlier ++ call ∷ []) name calls in
           let here = answer_alone earlier name call does in
-          let more = after_one_more eq keep earlier call name true does in
+          let more = after_one_more limit eq keep earlier call name true does in
           rw (does, here, rest, more) refl
       | inr not ↦
           let rest = answers_by (earlier ++ call ∷ []) name calls in
-          let same = after_one_more eq keep earlier call name false not in
+          let same = after_one_more limit eq keep earlier call name false not in
           rw (not, rest, same) refl
     ]
 
     pub answers_of_stream : (name : IpFragId C) (calls : List (Call T C V))
-        → answers_of eq name calls (answers_to eq keep calls) ≡ answers_alone None (calls_of eq name calls)
+        → answers_of eq name calls (answers_to limit eq keep calls) ≡ answers_alone None (calls_of eq name calls)
     answers_of_stream name calls = answers_by [] name calls
 
     pub alone : (name : IpFragId C) (a b : List (Call T C V)) → calls_of eq name a ≡ calls_of eq name b
-        → answers_of eq name a (answers_to eq keep a) ≡ answers_of eq name b (answers_to eq keep b)
+        → answers_of eq name a (answers_to limit eq keep a) ≡ answers_of eq name b (answers_to limit eq keep b)
     alone name a b same =
         answers_of_stream name a ∙ ap (answers_alone None) same ∙ sym (answers_of_stream name b)
 
   -- ---- a stream that is given cuts
-  module _ (payload : List ℕ) (short : length payload ≤ 65535) where
+  module _ (payload : List ℕ) (short : length payload ≤ limit) where
     pub all_more : {X : Type 0} (P : X → Type 0) (xs : List X) (x : X) → AllByRecursion P xs → P x
         → AllByRecursion P (xs ++ x ∷ [])
     all_more P [] x all last = (last, tt)
@@ -171,11 +171,11 @@ module _ {T C V : Type 0} (eq : C → C → Bool) (keep : V → T → Bool) wher
     only_alone (gives_frame None timestamp channel ∷ calls) kept cuts gives =
         (tt, only_alone calls kept cuts gives.1)
     only_alone (gives_frame (Some carried) timestamp channel ∷ calls) kept cuts gives =
-        let fits : refusal_of (accepted_in kept) carried.fragment ≡ None =
-        cut_fits_after payload (accepted_in kept) carried.fragment short cuts gives.0.0 gives.0.1 in
+        let fits : refusal_within limit (accepted_in kept) carried.fragment ≡ None =
+        cut_fits_after payload limit (accepted_in kept) carried.fragment short cuts gives.0.0 gives.0.1 in
         let more = all_more (IsCut payload) (accepted_in kept) carried.fragment cuts gives.0.0 in (
           answer_to_cut (name_of carried channel) (accepted_in kept ++ carried.fragment ∷ []) _ fits more,
-          only_alone calls (kept_with kept carried.fragment timestamp)
+          only_alone calls (kept_with limit kept carried.fragment timestamp)
               (rw fits (kept_cuts (accepted_in kept ++ carried.fragment ∷ []) timestamp more)) gives.1,
         )
     only_alone (drops_streams value ∷ calls) kept cuts gives =
@@ -192,14 +192,14 @@ module _ {T C V : Type 0} (eq : C → C → Bool) (keep : V → T → Bool) wher
     comes_alone (gives_frame None timestamp channel ∷ calls) kept cuts gives partly whole =
         any_later (HandsOut payload) _ _ (comes_alone calls kept cuts gives.1 partly whole)
     comes_alone (gives_frame (Some carried) timestamp channel ∷ calls) kept cuts gives partly whole =
-        let fits : refusal_of (accepted_in kept) carried.fragment ≡ None =
-        cut_fits_after payload (accepted_in kept) carried.fragment short cuts gives.0.0 gives.0.1 in
+        let fits : refusal_within limit (accepted_in kept) carried.fragment ≡ None =
+        cut_fits_after payload limit (accepted_in kept) carried.fragment short cuts gives.0.0 gives.0.1 in
         let after = accepted_in kept ++ carried.fragment ∷ [] in
         let more = all_more (IsCut payload) (accepted_in kept) carried.fragment cuts gives.0.0 in
         elim (cases_Bool (is_complete after)) [
           | inl now ↦ any_here (HandsOut payload) _ _ (rw (fits, now) (assembled-cuts payload after more now))
           | inr not_yet ↦
-              let same : kept_with kept carried.fragment timestamp
+              let same : kept_with limit kept carried.fragment timestamp
               ≡ Some (record { accepted = after; timestamp = timestamp }) =
               rw (fits, not_yet) refl in
               any_later (HandsOut payload) _ _
@@ -215,14 +215,14 @@ module _ {T C V : Type 0} (eq : C → C → Bool) (keep : V → T → Bool) wher
 
     module _ (laws : IsEquivalence eq) (name : IpFragId C) (calls : List (Call T C V))
         (gives : All (GivesCut keep payload) (calls_of eq name calls)) where
-      pub cuts_only : All (HandsOutAtMost payload) (answers_of eq name calls (answers_to eq keep calls))
+      pub cuts_only : All (HandsOutAtMost payload) (answers_of eq name calls (answers_to limit eq keep calls))
       cuts_only =
           All-from_recursion (HandsOutAtMost payload) _
           (rw (answers_of_stream laws name calls)
           (only_alone (calls_of eq name calls) None tt (recursion_from_All (GivesCut keep payload) _ gives)))
 
       pub cuts_come : is_complete (fragments_of (calls_of eq name calls)) ≡ true
-          → Any (HandsOut payload) (answers_of eq name calls (answers_to eq keep calls))
+          → Any (HandsOut payload) (answers_of eq name calls (answers_to limit eq keep calls))
       cuts_come whole =
           rw (answers_of_stream laws name calls)
           (comes_alone (calls_of eq name calls) None tt (recursion_from_All (GivesCut keep payload) _ gives) refl whole)

@@ -23,7 +23,7 @@ use Rattle.ep_defrag.specs.declared.ip_frag_id.IpFragId.{IpFragId}
 use Rattle.ep_defrag.specs.declared.ip_frag_id.IpFragVersionSpecId.{IpFragVersionSpecId}
 use Rattle.ep_defrag.specs.declared.ip_frag_id.IpFragVersionSpecId.TheVariants.{Ipv4, Ipv6}
 use Rattle.ep_defrag.specs.Fragments.{IpFragment, assembled, is_complete}
-use Rattle.ep_defrag.specs.Refusals.{refusal_of}
+use Rattle.ep_defrag.specs.Refusals.{refusal_within}
 use Rattle.ep_defrag.specs.Cuts.{IsCut}
 use Rattle.ep_defrag.specs.Streams.{PacketFragment, name_of, packet_fragment, same_stream, same_version, source_of}
 use Rattle.ep_defrag.specs.Calls.{Call, gives_frame, drops_streams, returns_buffer, Kept, accepted_in, kept_of, kept_unless, table_after, Payload, payload_of, payload_handed_out, nothing_handed_out, Answer, answer_unless, answer_to, answers_after}
@@ -93,7 +93,8 @@ module _ (read_back : AreReadBack) (have_bytes : HaveBytes) (decided : AreDecide
       (decided cut.entry (cut_frame cut) bytes).one_value cut.layers back.layers is.is back.is in
       ap fragment_of same ∙ back.carries
 
-  module _ {T C V : Type 0} (eq : C → C → Bool) (keep : V → T → Bool) (name : IpFragId C) (payload : List ℕ) where
+  module _ {T C V : Type 0} (limit : ℕ) (eq : C → C → Bool) (keep : V → T → Bool) (name : IpFragId C)
+      (payload : List ℕ) where
     abbrev call_of : BuiltCut T C → Call T C V
     call_of cut = gives_frame (Some (packet_fragment cut.found)) cut.timestamp cut.channel
 
@@ -117,14 +118,14 @@ module _ (read_back : AreReadBack) (have_bytes : HaveBytes) (decided : AreDecide
 
     pub answers_all : (earlier : List (Call T C V)) (cuts : List (BuiltCut T C))
         → AllByRecursion (IsBuiltCut payload) cuts → AllByRecursion (IsUnder eq name) cuts
-        → answers_to_frames {V = V} eq name (map cut_call cuts) (answers_after eq keep earlier (map cut_call cuts))
-        ≡ answers_after eq keep earlier (map cut_call cuts)
+        → answers_to_frames {V = V} eq name (map cut_call cuts) (answers_after limit eq keep earlier (map cut_call cuts))
+        ≡ answers_after limit eq keep earlier (map cut_call cuts)
     answers_all earlier [] is under = refl
     answers_all earlier (cut ∷ cuts) is under =
         let gives = gives_all cut is.0 under.0 in
         let call : Call T C V = cut_call cut in
         rw gives
-        (ap (λ (answers : List Answer). answer_to (table_after eq keep earlier) call ∷ answers)
+        (ap (λ (answers : List Answer). answer_to limit (table_after limit eq keep earlier) call ∷ answers)
         (answers_all (earlier ++ call ∷ []) cuts is.1 under.1))
 
     pub keeps_all : (cuts : List (BuiltCut T C)) → AllByRecursion (KeepsAll keep) (map cut_call cuts)
@@ -132,33 +133,33 @@ module _ (read_back : AreReadBack) (have_bytes : HaveBytes) (decided : AreDecide
     keeps_all (cut ∷ cuts) = (tt, keeps_all cuts)
 
     -- ---- other calls stand between them
-    module _ (laws : IsEquivalence eq) (short : length payload ≤ 65535) where
+    module _ (laws : IsEquivalence eq) (short : length payload ≤ limit) where
       -- what is expected behind calls that leave this of the stream
       abbrev expected : Option (Kept T) → List (BuiltCut T C) → List Answer
       expected kept cuts = cut_answers (whole_of name payload) (accepted_in kept) (map cut_fragment cuts)
 
       pub come : (earlier calls : List (Call T C V)) (cuts : List (BuiltCut T C))
-          → AllByRecursion (IsCut payload) (accepted_in (table_after eq keep earlier name))
+          → AllByRecursion (IsCut payload) (accepted_in (table_after limit eq keep earlier name))
           → AllByRecursion (IsBuiltCut payload) cuts → AllByRecursion (KeepsAll keep) calls
           → frames_to eq name calls ≡ map cut_call cuts
-          → answers_to_frames eq name calls (answers_after eq keep earlier calls)
-          ≡ expected (table_after eq keep earlier name) cuts
+          → answers_to_frames eq name calls (answers_after limit eq keep earlier calls)
+          ≡ expected (table_after limit eq keep earlier name) cuts
       come earlier [] [] kept built keeps same = refl
       come earlier [] (cut ∷ cuts) kept built keeps same = absurd (cc)
       come earlier (gives_frame None timestamp channel ∷ calls) cuts kept built keeps same =
           let call : Call T C V = gives_frame None timestamp channel in
-          let unchanged = after_one_more eq keep earlier call name false refl in
+          let unchanged = after_one_more limit eq keep earlier call name false refl in
           come (earlier ++ call ∷ []) calls cuts (rw unchanged kept) built keeps.1 same
           ∙ ap (λ (k : Option (Kept T)). expected k cuts) unchanged
       come earlier (drops_streams value ∷ calls) cuts kept built keeps same =
           let call : Call T C V = drops_streams value in
-          let unchanged = after_one_more eq keep earlier call name true refl
-          ∙ drop_keeps eq keep payload short (keep value) keeps.0 (table_after eq keep earlier name) in
+          let unchanged = after_one_more limit eq keep earlier call name true refl
+          ∙ drop_keeps limit eq keep payload short (keep value) keeps.0 (table_after limit eq keep earlier name) in
           come (earlier ++ call ∷ []) calls cuts (rw unchanged kept) built keeps.1 same
           ∙ ap (λ (k : Option (Kept T)). expected k cuts) unchanged
       come earlier (returns_buffer ∷ calls) cuts kept built keeps same =
           let call : Call T C V = returns_buffer in
-          let unchanged = after_one_more eq keep earlier call name false refl in
+          let unchanged = after_one_more limit eq keep earlier call name false refl in
           come (earlier ++ call ∷ []) calls cuts (rw unchanged kept) built keeps.1 same
           ∙ ap (λ (k : Option (Kept T)). expected k cuts) unchanged
       come earlier (gives_frame (Some carried) timestamp channel ∷ calls) [] kept built keeps same =
@@ -167,7 +168,7 @@ module _ (read_back : AreReadBack) (have_bytes : HaveBytes) (decided : AreDecide
             | inl does ↦
                 let never : call ∷ frames_to eq name calls ≡ [] = rw does at same in absurd (cc)
             | inr not ↦
-                let unchanged = after_one_more eq keep earlier call name false not in
+                let unchanged = after_one_more limit eq keep earlier call name false not in
                 rw not
                 (come (earlier ++ call ∷ []) calls [] (rw unchanged kept) built keeps.1 (rw not at same)
                 ∙ ap (λ (k : Option (Kept T)). expected k []) unchanged)
@@ -183,24 +184,24 @@ module _ (read_back : AreReadBack) (have_bytes : HaveBytes) (decided : AreDecide
                 let is_carried : carried ≡ packet_fragment cut.found = cc in
                 let part = carried.fragment in
                 let is_part : part ≡ cut_fragment cut = ap (λ (c : PacketFragment). c.fragment) is_carried in
-                let before = table_after eq keep earlier name in
+                let before = table_after limit eq keep earlier name in
                 let after = accepted_in before ++ part ∷ [] in
                 let part_cut : IsCut payload part = rw is_part built.0.is_cut in
-                let fits : refusal_of (accepted_in before) part ≡ None =
-                cut_fits_after payload (accepted_in before) part short kept part_cut (rw is_part built.0.shape) in
-                let more = all_more eq keep payload short (IsCut payload) (accepted_in before) part kept part_cut in
-                let table : table_after eq keep (earlier ++ call ∷ []) name ≡ kept_of after timestamp =
-                after_one_more eq keep earlier call name true does
+                let fits : refusal_within limit (accepted_in before) part ≡ None =
+                cut_fits_after payload limit (accepted_in before) part short kept part_cut (rw is_part built.0.shape) in
+                let more = all_more limit eq keep payload short (IsCut payload) (accepted_in before) part kept part_cut in
+                let table : table_after limit eq keep (earlier ++ call ∷ []) name ≡ kept_of after timestamp =
+                after_one_more limit eq keep earlier call name true does
                 ∙ ap (λ (r : Option IpDefragError). kept_unless r before part timestamp) fits in
-                let answer : answer_to (table_after eq keep earlier) call
+                let answer : answer_to limit (table_after limit eq keep earlier) call
                 ≡ cond (is_complete after) (payload_handed_out (whole_of name payload)) nothing_handed_out =
-                answer_alone eq keep laws earlier name call does
+                answer_alone limit eq keep laws earlier name call does
                 ∙ ap (λ (r : Option IpDefragError). answer_unless r (name_of carried channel) after) fits
                 ∙ answer_cut eq name payload (name_of carried channel) after does more in
                 let rest = come (earlier ++ call ∷ []) calls cuts
-                (rw table (kept_cuts eq keep payload short after timestamp more)) built.1 keeps.1 later
+                (rw table (kept_cuts limit eq keep payload short after timestamp more)) built.1 keeps.1 later
                 ∙ ap (λ (k : Option (Kept T)). expected k cuts) table in
-                let goal : answers_to_frames eq name (call ∷ calls) (answers_after eq keep earlier (call ∷ calls))
+                let goal : answers_to_frames eq name (call ∷ calls) (answers_after limit eq keep earlier (call ∷ calls))
                 ≡ cut_answers (whole_of name payload) (accepted_in before) (part ∷ map cut_fragment cuts) =
                 elim (cases_Bool (is_complete after)) [
                   | inl now ↦ rw (does, now, answer) (rw now (ap (λ (answers : List Answer).
@@ -211,7 +212,7 @@ module _ (read_back : AreReadBack) (have_bytes : HaveBytes) (decided : AreDecide
                 goal ∙ ap (λ (f : IpFragment).
                 cut_answers (whole_of name payload) (accepted_in before) (f ∷ map cut_fragment cuts)) is_part
             | inr not ↦
-                let unchanged = after_one_more eq keep earlier call name false not in
+                let unchanged = after_one_more limit eq keep earlier call name false not in
                 rw not
                 (come (earlier ++ call ∷ []) calls (cut ∷ cuts) (rw unchanged kept) built keeps.1 (rw not at same)
                 ∙ ap (λ (k : Option (Kept T)). expected k (cut ∷ cuts)) unchanged)

@@ -1,27 +1,29 @@
 -- Fragments that complete what came.
 use Rattle.std.proofs.Common.{◌≡◌, ℕ, ◌+◌, ◌*◌, ◌-◌, ◌/◌, ◌%◌, ◌^◌, ◌<◌, ◌≤◌, min, max, Bool, true, false, ◌||◌, ◌&&◌, eqb, ltb, List, [], ◌∷◌, ◌++◌, append_assoc, length, Option, Some, None, is_some, sym, refl, ap, ◌∙◌, ◌⊎◌, inl, inr, arith}
+use Rattle.std.specs.List.{AllByRecursion}
 use Rattle.std.specs.Option.{option_or, unwrap_or}
-use Rattle.std.proofs.lemmas.Bool.{cases_Bool, cases_lt, or_cases, or_left, or_right, and_from, and_left, and_right, or_from, le-ltb, lt-ltb, eq-eqb, not_from_true, not_from_false}
+use Rattle.std.proofs.lemmas.Bool.{cases_Bool, cases_lt, or_cases, or_left, or_right, and_from, and_left, and_right, or_from, le-ltb, lt-ltb, ltb-true, eq-eqb, not_from_true, not_from_false}
 use Rattle.std.proofs.lemmas.Bool.Decides.{nat_tests}
 use Rattle.std.proofs.lemmas.List.{append-nil}
 use Rattle.ep_defrag.specs.Fragments.{IpFragment, fragment_with, fragment_end, covers, is_covered, reach_of, end_of, is_complete, IsComplete}
-use Rattle.ep_defrag.specs.Refusals.{end_row, Fits, FitAfter, FitInTurn, is_unaligned}
+use Rattle.ep_defrag.specs.Refusals.{end_row, FitsWithin, FitAfterWithin, FitInTurnWithin, is_unaligned}
 use Rattle.ep_defrag.specs.Completing.{whole_end, meeting_at, FillBoth, front_fragment, back_fragment, is_part, CompleteInTurn}
 use Rattle.ep_defrag.proofs.Lists.{list_all-range}
 use Rattle.ep_defrag.proofs.Data.{reach_of-push, end_of-push, is_covered-push, own_end, FitsAt, fits_at, refusal_at-fits, extent_of, EndIsGreatest, end_is_greatest}
 
 -- ---- how far a list reaches
-reach_after : (earlier later : List IpFragment) → reach_of earlier ≤ 65535 → FitAfter earlier later
-    → reach_of (earlier ++ later) ≤ 65535
-reach_after earlier [] short fit = rw (append-nil earlier) short
-reach_after earlier (fragment ∷ later) short fit =
-    let fits = fits_at (end_of earlier) (reach_of earlier) fragment fit.0 in
+reach_after : (limit : ℕ) (earlier later : List IpFragment) → reach_of earlier ≤ limit
+    → FitAfterWithin limit earlier later → reach_of (earlier ++ later) ≤ limit
+reach_after limit earlier [] short fit = rw (append-nil earlier) short
+reach_after limit earlier (fragment ∷ later) short fit =
+    let fits = fits_at limit (end_of earlier) (reach_of earlier) fragment fit.0 in
     rw (append_assoc earlier (fragment ∷ []) later)
-    at (reach_after (earlier ++ fragment ∷ []) later (omega (arith, reach_of-push earlier fragment, short, fits.short))
-    fit.1)
+    at (reach_after limit (earlier ++ fragment ∷ []) later
+    (omega (arith, reach_of-push earlier fragment, short, fits.short)) fit.1)
 
-pub reach_short : (fragments : List IpFragment) → FitInTurn fragments → reach_of fragments ≤ 65535
-reach_short fragments fit = reach_after [] fragments (omega arith) fit
+pub reach_short : (limit : ℕ) (fragments : List IpFragment) → FitInTurnWithin limit fragments
+    → reach_of fragments ≤ limit
+reach_short limit fragments fit = reach_after limit [] fragments (omega arith) fit
 
 -- ---- when ends agree
 -- a final fragment that ends at the known end, or else at no place before the greatest one
@@ -77,9 +79,9 @@ small_final (fragment ∷ fragments) end position known small below = elim (case
 ]
 
 -- ---- one fragment
-module _ (accepted : List IpFragment) (fit : FitInTurn accepted) where
+module _ (limit : ℕ) (accepted : List IpFragment) (fit : FitInTurnWithin limit accepted) where
   greatest : unwrap_or (end_of accepted) (reach_of accepted) ≡ reach_of accepted
-  greatest = end_is_greatest accepted fit
+  greatest = end_is_greatest limit accepted fit
 
   module _ (bytes : List ℕ) (len : length bytes ≡ reach_of accepted) where
     abbrev last : IpFragment
@@ -88,11 +90,11 @@ module _ (accepted : List IpFragment) (fit : FitInTurn accepted) where
     last_end : fragment_end last ≡ unwrap_or (end_of accepted) (reach_of accepted)
     last_end = omega (arith, len, greatest)
 
-    pub one_fits : Fits accepted last
+    pub one_fits : FitsWithin limit accepted last
     one_fits =
-        refusal_at-fits (end_of accepted) (reach_of accepted) last
+        refusal_at-fits limit (end_of accepted) (reach_of accepted) last
         (record {
-          short = omega (arith, len, reach_short accepted fit);
+          short = omega (arith, len, reach_short limit accepted fit);
           aligned = refl;
           agrees = final_agrees (end_of accepted) (reach_of accepted) (reach_of accepted) last (omega arith) last_end
               refl;
@@ -112,11 +114,11 @@ module _ (accepted : List IpFragment) (fit : FitInTurn accepted) where
   whole = whole_end accepted
 
   whole_short : (known : Option ℕ) → unwrap_or known (reach_of accepted) ≡ reach_of accepted
-      → unwrap_or known (max (reach_of accepted) 8) ≤ 65535
-  whole_short None same = omega (arith, reach_short accepted fit)
-  whole_short (Some end) same = omega (arith, same, reach_short accepted fit)
+      → 8 ≤ limit → unwrap_or known (max (reach_of accepted) 8) ≤ limit
+  whole_short None same least = omega (arith, least, reach_short limit accepted fit)
+  whole_short (Some end) same least = omega (arith, same, reach_short limit accepted fit)
 
-  module _ (front back : List ℕ) (fill : FillBoth accepted front back) where
+  module _ (front back : List ℕ) (fill : FillBoth accepted front back) (least : 8 ≤ limit) where
     abbrev first : IpFragment
     first = front_fragment front
 
@@ -129,15 +131,15 @@ module _ (accepted : List IpFragment) (fit : FitInTurn accepted) where
     front_end : fragment_end first ≤ whole
     front_end = omega (arith, fill.both_len)
 
-    short : whole ≤ 65535
-    short = whole_short (end_of accepted) greatest
+    short : whole ≤ limit
+    short = whole_short (end_of accepted) greatest least
 
     aligned : is_unaligned first ≡ false
     aligned = grind (arith, nat_tests, fill.front_len)
 
-    first_fits : Fits accepted first
+    first_fits : FitsWithin limit accepted first
     first_fits =
-        refusal_at-fits (end_of accepted) (reach_of accepted) first
+        refusal_at-fits limit (end_of accepted) (reach_of accepted) first
         (record {
           short = omega (arith, front_end, short);
           aligned = aligned;
@@ -152,9 +154,9 @@ module _ (accepted : List IpFragment) (fit : FitInTurn accepted) where
     second_end : fragment_end second ≡ whole
     second_end = omega (arith, fill.front_len, fill.both_len)
 
-    second_fits : Fits with_first second
+    second_fits : FitsWithin limit with_first second
     second_fits =
-        refusal_at-fits (end_of with_first) (reach_of with_first) second
+        refusal_at-fits limit (end_of with_first) (reach_of with_first) second
         (record {
           short = omega (arith, second_end, short);
           aligned = refl;
@@ -166,8 +168,8 @@ module _ (accepted : List IpFragment) (fit : FitInTurn accepted) where
         })
 
     -- a frame has room for either
-    pub parts_short : (length front ≤ 32768) × (length back ≤ 32768) × (meeting_at whole < 2 ^ 13)
-    parts_short = (omega (arith, fill.front_len), omega (arith, fill.front_len, fill.both_len, short), omega arith)
+    pub parts_short : limit ≤ 65535 → (length front ≤ 32768) × (length back ≤ 32768) × (meeting_at whole < 2 ^ 13)
+    parts_short most = (omega (arith, fill.front_len), omega (arith, fill.front_len, fill.both_len, short, most), omega arith)
 
     covered : (position : ℕ) → position < whole → is_covered (with_first ++ second ∷ []) position ≡ true
     covered position below =
@@ -196,7 +198,7 @@ module _ (accepted : List IpFragment) (fit : FitInTurn accepted) where
         is_covered-push accepted first position
         ∙ or_left _ _ (small_final accepted whole position known small below))
 
-    pub two_complete : CompleteInTurn accepted first second
+    pub two_complete : CompleteInTurn limit accepted first second
     two_complete = record {
       first_fits = first_fits;
       second_fits = second_fits;
@@ -207,3 +209,27 @@ module _ (accepted : List IpFragment) (fit : FitInTurn accepted) where
         | inr none ↦ inl (all_there (omega (arith, none)))
       ];
     }
+
+-- ---- limits below 8
+-- a fragment that a frame can carry is then not final
+small_more : (limit : ℕ) (fragment : IpFragment) → limit < 8 → fragment_end fragment ≤ limit
+    → is_part fragment ≡ true → fragment.more ≡ true
+small_more limit fragment small short part = elim (cases_Bool fragment.more) [
+  | inl more ↦ more
+  | inr last ↦
+      let behind : ltb 0 fragment.offset ≡ true = rw last at part in
+      let some : 0 < fragment.offset = ltb-true 0 fragment.offset behind in
+      absurd (omega (arith, small, short, some))
+]
+
+small_none : (limit : ℕ) (earlier later : List IpFragment) → limit < 8 → FitAfterWithin limit earlier later
+    → AllByRecursion (λ fragment. is_part fragment ≡ true) later → end_of later ≡ None
+small_none limit earlier [] small fit parts = refl
+small_none limit earlier (fragment ∷ later) small fit parts =
+    let fits = fits_at limit (end_of earlier) (reach_of earlier) fragment fit.0 in
+    rw (small_more limit fragment small fits.short parts.0)
+    (small_none limit (earlier ++ fragment ∷ []) later small fit.1 parts.1)
+
+pub small_not_complete : (limit : ℕ) (accepted : List IpFragment) → limit < 8 → FitInTurnWithin limit accepted
+    → AllByRecursion (λ fragment. is_part fragment ≡ true) accepted → is_complete accepted ≡ false
+small_not_complete limit accepted small fit parts = rw (small_none limit [] accepted small fit parts) refl

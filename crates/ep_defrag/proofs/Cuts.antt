@@ -8,7 +8,7 @@ use Rattle.std.proofs.lemmas.List.Edits.{get_or-between}
 use Rattle.std.proofs.lemmas.List.Folds.{Any-from_list_any, list_any-from_Any}
 use Rattle.std.proofs.lemmas.List.FromFn.{fill_by_all}
 use Rattle.ep_defrag.specs.Fragments.{IpFragment, is_final, fragment_start, fragment_end, covers, is_covered, IsCovered, reach_of, end_of, byte_at, assembled, IsComplete}
-use Rattle.ep_defrag.specs.Refusals.{is_unaligned, conflicts_with, ends_too_early, Fits}
+use Rattle.ep_defrag.specs.Refusals.{is_unaligned, conflicts_with, ends_too_early, FitsWithin}
 use Rattle.ep_defrag.specs.Cuts.{IsCut}
 use Rattle.ep_defrag.proofs.Lists.{list_all-range, each_of_range}
 use Rattle.ep_defrag.proofs.Data.{refusal_at-fits}
@@ -73,11 +73,11 @@ module _ (payload : List ℕ) where
         (le-ltb (fragment_end cut) reach (omega (arith, within, is_cut.last (not_from_false cut.more last))))
   ]
 
-  pub cut_fits_after : (cuts : List IpFragment) (cut : IpFragment) → length payload ≤ 65535
+  pub cut_fits_after : (limit : ℕ) (cuts : List IpFragment) (cut : IpFragment) → length payload ≤ limit
       → AllByRecursion (IsCut payload) cuts → IsCut payload cut → IsTrue (is_final cut) ⊎ (length cut.bytes % 8 ≡ 0)
-      → Fits cuts cut
-  cut_fits_after cuts cut short all is_cut shape =
-      refusal_at-fits (end_of cuts) (reach_of cuts) cut
+      → FitsWithin limit cuts cut
+  cut_fits_after limit cuts cut short all is_cut shape =
+      refusal_at-fits limit (end_of cuts) (reach_of cuts) cut
       (record {
         short = omega (arith, is_cut.within);
         aligned = unaligned_not cut shape;

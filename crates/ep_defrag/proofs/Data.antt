@@ -8,7 +8,7 @@ use Rattle.std.proofs.lemmas.List.Folds.{list_any-append}
 use Rattle.std.proofs.lemmas.List.FromFn.{length-map-range_with_len, get_or-map-range_with_len, fill_by_all}
 use Rattle.ep_defrag.specs.Ranges.{touches}
 use Rattle.ep_defrag.specs.Fragments.{IpFragment, fragment_start, fragment_end, range_of, covers, is_covered, is_touched, reach_of, end_of, byte_at, assembled}
-use Rattle.ep_defrag.specs.Refusals.{is_unaligned, conflicts_with, ends_too_early, end_row, refusal_at, Fits, FitAfter, FitInTurn}
+use Rattle.ep_defrag.specs.Refusals.{is_unaligned, conflicts_with, ends_too_early, end_row, refusal_at_within, FitsWithin, FitAfterWithin, FitInTurnWithin}
 use Rattle.ep_defrag.specs.Buffers.{extended, overwritten, data_after}
 
 or_false : (a : Bool) → (a || false) ≡ a
@@ -99,23 +99,23 @@ not_some : {X : Type 0} (test : Bool) (value : X) (other : Option X) → cond te
 not_some true value other none = absurd (cc)
 not_some false value other none = (refl, none)
 
-pub record FitsAt (known_end : Option ℕ) (reach : ℕ) (fragment : IpFragment) : Type 0 where
-  pub short : fragment_end fragment ≤ 65535
+pub record FitsAt (limit : ℕ) (known_end : Option ℕ) (reach : ℕ) (fragment : IpFragment) : Type 0 where
+  pub short : fragment_end fragment ≤ limit
   pub aligned : is_unaligned fragment ≡ false
   pub agrees : (end_row known_end reach fragment).0 ≡ false
 
-pub fits_at : (known_end : Option ℕ) (reach : ℕ) (fragment : IpFragment) → refusal_at known_end reach fragment ≡ None
-    → FitsAt known_end reach fragment
-fits_at known_end reach fragment fits =
-    let by_length = not_some (ltb 65535 (fragment_end fragment)) _ _ fits in
+pub fits_at : (limit : ℕ) (known_end : Option ℕ) (reach : ℕ) (fragment : IpFragment)
+    → refusal_at_within limit known_end reach fragment ≡ None → FitsAt limit known_end reach fragment
+fits_at limit known_end reach fragment fits =
+    let by_length = not_some (ltb limit (fragment_end fragment)) _ _ fits in
     let by_multiple = not_some (is_unaligned fragment) _ _ by_length.1 in
     let by_end = not_some (end_row known_end reach fragment).0 _ _ by_multiple.1 in
     record { short = ltb-false _ _ by_length.0; aligned = by_multiple.0; agrees = by_end.0 }
 
-pub refusal_at-fits : (known_end : Option ℕ) (reach : ℕ) (fragment : IpFragment) → FitsAt known_end reach fragment
-    → refusal_at known_end reach fragment ≡ None
-refusal_at-fits known_end reach fragment fits =
-    rw (le-ltb 65535 (fragment_end fragment) fits.short, fits.aligned, fits.agrees) refl
+pub refusal_at-fits : (limit : ℕ) (known_end : Option ℕ) (reach : ℕ) (fragment : IpFragment)
+    → FitsAt limit known_end reach fragment → refusal_at_within limit known_end reach fragment ≡ None
+refusal_at-fits limit known_end reach fragment fits =
+    rw (le-ltb limit (fragment_end fragment) fits.short, fits.aligned, fits.agrees) refl
 
 pub agrees_with : (known_end : ℕ) (fragment : IpFragment) → conflicts_with known_end fragment ≡ false
     → (fragment_end fragment ≤ known_end) × (fragment.more ≡ false → fragment_end fragment ≡ known_end)
@@ -126,12 +126,13 @@ pub reaches : (reach : ℕ) (fragment : IpFragment) → ends_too_early reach fra
     → reach ≤ fragment_end fragment
 reaches reach fragment not_early last = grind (arith, nat_tests, not_early, last)
 
-pub FitAfter-push : (earlier later : List IpFragment) (fragment : IpFragment) → FitAfter earlier later
-    → Fits (earlier ++ later) fragment → FitAfter earlier (later ++ fragment ∷ [])
-FitAfter-push earlier [] fragment fit fits = (rw (append-nil earlier) at fits, tt)
-FitAfter-push earlier (first ∷ later) fragment fit fits = (
+pub FitAfter-push : (limit : ℕ) (earlier later : List IpFragment) (fragment : IpFragment)
+    → FitAfterWithin limit earlier later → FitsWithin limit (earlier ++ later) fragment
+    → FitAfterWithin limit earlier (later ++ fragment ∷ [])
+FitAfter-push limit earlier [] fragment fit fits = (rw (append-nil earlier) at fits, tt)
+FitAfter-push limit earlier (first ∷ later) fragment fit fits = (
   fit.0,
-  FitAfter-push (earlier ++ first ∷ []) later fragment fit.1
+  FitAfter-push limit (earlier ++ first ∷ []) later fragment fit.1
       (rw (append_assoc earlier (first ∷ []) later) fits),
 )
 
@@ -144,33 +145,35 @@ extent_of fragments = unwrap_or (end_of fragments) (reach_of fragments)
 abbrev pub EndIsGreatest : List IpFragment → Type 0
 EndIsGreatest fragments = extent_of fragments ≡ reach_of fragments
 
-extent_with : (known : Option ℕ) (reach : ℕ) (fragment : IpFragment) → unwrap_or known reach ≡ reach
-    → FitsAt known reach fragment
+extent_with : (limit : ℕ) (known : Option ℕ) (reach : ℕ) (fragment : IpFragment) → unwrap_or known reach ≡ reach
+    → FitsAt limit known reach fragment
     → unwrap_or (option_or known (own_end fragment)) (max reach (fragment_end fragment))
     ≡ max reach (fragment_end fragment)
-extent_with None reach fragment greatest fits = elim (cases_Bool fragment.more) [
+extent_with limit None reach fragment greatest fits = elim (cases_Bool fragment.more) [
   | inl more ↦ rw more refl
   | inr last ↦ rw last (omega (arith, reaches reach fragment fits.agrees last))
 ]
-extent_with (Some end) reach fragment greatest fits =
+extent_with limit (Some end) reach fragment greatest fits =
     omega (arith, greatest, (agrees_with end fragment fits.agrees).0)
 
-pub EndIsGreatest-push : (fragments : List IpFragment) (fragment : IpFragment) → EndIsGreatest fragments
-    → Fits fragments fragment → EndIsGreatest (fragments ++ fragment ∷ [])
-EndIsGreatest-push fragments fragment greatest fits =
+pub EndIsGreatest-push : (limit : ℕ) (fragments : List IpFragment) (fragment : IpFragment)
+    → EndIsGreatest fragments → FitsWithin limit fragments fragment → EndIsGreatest (fragments ++ fragment ∷ [])
+EndIsGreatest-push limit fragments fragment greatest fits =
     rw (end_of-push fragments fragment, reach_of-push fragments fragment)
-    (extent_with (end_of fragments) (reach_of fragments) fragment greatest
-    (fits_at (end_of fragments) (reach_of fragments) fragment fits))
+    (extent_with limit (end_of fragments) (reach_of fragments) fragment greatest
+    (fits_at limit (end_of fragments) (reach_of fragments) fragment fits))
 
-greatest_after : (earlier later : List IpFragment) → EndIsGreatest earlier → FitAfter earlier later
-    → EndIsGreatest (earlier ++ later)
-greatest_after earlier [] greatest fit = rw (append-nil earlier) greatest
-greatest_after earlier (fragment ∷ later) greatest fit =
+greatest_after : (limit : ℕ) (earlier later : List IpFragment) → EndIsGreatest earlier
+    → FitAfterWithin limit earlier later → EndIsGreatest (earlier ++ later)
+greatest_after limit earlier [] greatest fit = rw (append-nil earlier) greatest
+greatest_after limit earlier (fragment ∷ later) greatest fit =
     rw (append_assoc earlier (fragment ∷ []) later)
-    at (greatest_after (earlier ++ fragment ∷ []) later (EndIsGreatest-push earlier fragment greatest fit.0) fit.1)
+    at (greatest_after limit (earlier ++ fragment ∷ []) later (EndIsGreatest-push limit earlier fragment greatest fit.0)
+    fit.1)
 
-pub end_is_greatest : (fragments : List IpFragment) → FitInTurn fragments → EndIsGreatest fragments
-end_is_greatest fragments fit = greatest_after [] fragments refl fit
+pub end_is_greatest : (limit : ℕ) (fragments : List IpFragment) → FitInTurnWithin limit fragments
+    → EndIsGreatest fragments
+end_is_greatest limit fragments fit = greatest_after limit [] fragments refl fit
 
 -- ---- the bytes after a fragment
 pub length-assembled : (fragments : List IpFragment) → length (assembled fragments) ≡ extent_of fragments
@@ -249,9 +252,10 @@ get_or-overwritten contents start bytes position within =
       ]
     ]
 
-pub assembled-push : (fragments : List IpFragment) (fragment : IpFragment) → EndIsGreatest fragments
-    → Fits fragments fragment → data_after (assembled fragments) fragment ≡ assembled (fragments ++ fragment ∷ [])
-assembled-push fragments fragment greatest fits =
+pub assembled-push : (limit : ℕ) (fragments : List IpFragment) (fragment : IpFragment) → EndIsGreatest fragments
+    → FitsWithin limit fragments fragment
+    → data_after (assembled fragments) fragment ≡ assembled (fragments ++ fragment ∷ [])
+assembled-push limit fragments fragment greatest fits =
     let contents = assembled fragments in
     let start = fragment_start fragment in
     let end = fragment_end fragment in
@@ -276,7 +280,7 @@ assembled-push fragments fragment greatest fits =
     ∙ ap (λ byte. cond (covers position fragment) (own_byte fragment position) byte) (before position)
     ∙ sym (byte_at-push fragments fragment position) in
     let extent : extent_of (fragments ++ fragment ∷ []) ≡ max reach end =
-    EndIsGreatest-push fragments fragment greatest fits ∙ reach_of-push fragments fragment in
+    EndIsGreatest-push limit fragments fragment greatest fits ∙ reach_of-push fragments fragment in
     rw extent
     (fill_by_all (byte_at (fragments ++ fragment ∷ []))
     (data_after contents fragment) (max reach end) 0

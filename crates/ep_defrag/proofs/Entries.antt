@@ -60,9 +60,10 @@ module _ {T C : Type 0} (eq : C → C → Bool) (laws : IsEquivalence eq) where
         count_others key name es alike others.1,
       )
 
-  names_differ : (pool : IpDefragPool T C) → IsDistinct (same_stream eq) (keys_of pool) → NamesDiffer eq pool
-  names_differ [] distinct name = omega arith
-  names_differ (e ∷ es) distinct name =
+  names_differ : (limit : ℕ) (pool : Entries T C) → IsDistinct (same_stream eq) (keys_of pool)
+      → NamesDiffer eq (limit, pool)
+  names_differ limit [] distinct name = omega arith
+  names_differ limit (e ∷ es) distinct name =
       let more = sum_by-cons (counted (is_of name)) (stream_at e) (map stream_at es) in
       elim (cases_Bool (same_stream eq e.0 name)) [
         | inl alike ↦ omega (
@@ -75,32 +76,32 @@ module _ {T C : Type 0} (eq : C → C → Bool) (laws : IsEquivalence eq) where
           arith,
           more,
           ap {B = ℕ} (λ b. cond b 1 0) other,
-          names_differ es (IsDistinct-tail (same_stream eq) e.0 (keys_of es) distinct) name,
+          names_differ limit es (IsDistinct-tail (same_stream eq) e.0 (keys_of es) distinct) name,
         )
       ]
 
   -- ---- what a name finds
-  named_none : (pool : IpDefragPool T C) (id : IpFragId C) → lookup (same_stream eq id) pool ≡ None
-      → stream_named eq id pool ≡ None
-  named_none [] id absent = refl
-  named_none (e ∷ es) id absent = elim (cases_Bool (same_stream eq id e.0)) [
+  named_none : (limit : ℕ) (pool : Entries T C) (id : IpFragId C) → lookup (same_stream eq id) pool ≡ None
+      → stream_named eq id (limit, pool) ≡ None
+  named_none limit [] id absent = refl
+  named_none limit (e ∷ es) id absent = elim (cases_Bool (same_stream eq id e.0)) [
     | inl alike ↦ absurd (let some : Some e.1 ≡ None = rw alike at absent in cc)
     | inr other ↦
         let rest : lookup (same_stream eq id) es ≡ None = rw other at absent in
-        rw (test_flips eq laws id e.0 false other) (named_none es id rest)
+        rw (test_flips eq laws id e.0 false other) (named_none limit es id rest)
   ]
 
   -- the stream of a name, where the map has this at the name, and what is written there
-  pub record IsStreamOf (pool : IpDefragPool T C) (id : IpFragId C) (value : OpenStream T) : Type 0 where
+  pub record IsStreamOf (limit : ℕ) (pool : Entries T C) (id : IpFragId C) (value : OpenStream T) : Type 0 where
     pub key : IpFragId C
-    pub named : stream_named eq id pool ≡ Some (stream_at (key, value))
+    pub named : stream_named eq id (limit, pool) ≡ Some (stream_at (key, value))
     pub written : (next : OpenStream T)
-        → stream_named eq id (set_value (same_stream eq id) pool next) ≡ Some (stream_at (key, next))
+        → stream_named eq id (limit, set_value (same_stream eq id) pool next) ≡ Some (stream_at (key, next))
 
-  stream_of : (pool : IpDefragPool T C) (id : IpFragId C) (value : OpenStream T)
-      → lookup (same_stream eq id) pool ≡ Some value → IsStreamOf pool id value
-  stream_of [] id value found = absurd (cc)
-  stream_of (e ∷ es) id value found = elim (cases_Bool (same_stream eq id e.0)) [
+  stream_of : (limit : ℕ) (pool : Entries T C) (id : IpFragId C) (value : OpenStream T)
+      → lookup (same_stream eq id) pool ≡ Some value → IsStreamOf limit pool id value
+  stream_of limit [] id value found = absurd (cc)
+  stream_of limit (e ∷ es) id value found = elim (cases_Bool (same_stream eq id e.0)) [
     | inl alike ↦
         let some : Some e.1 ≡ Some value = rw alike at found in
         let is : e.1 ≡ value = cc in
@@ -111,7 +112,7 @@ module _ {T C : Type 0} (eq : C → C → Bool) (laws : IsEquivalence eq) where
         }
     | inr other ↦
         let rest : lookup (same_stream eq id) es ≡ Some value = rw other at found in
-        let later = stream_of es id value rest in
+        let later = stream_of limit es id value rest in
         record {
           key = later.key;
           named = rw (test_flips eq laws id e.0 false other) later.named;
@@ -144,65 +145,70 @@ module _ {T C : Type 0} (eq : C → C → Bool) (laws : IsEquivalence eq) where
     here = second.here;
     others = λ other apart. second.others other apart ∙ first.others other apart;
     apart = second.apart;
+    limit = second.limit ∙ first.limit;
   }
 
   -- ---- changes of a map, whose keys are compared as names are
   module _ (key_eq : IpFragId C → IpFragId C → Bool) (is : key_eq ≡ same_stream eq) where
-    pub absent_stream : (pool : IpDefragPool T C) (id : IpFragId C) → lookup (key_eq id) pool ≡ None
-        → stream_named eq id pool ≡ None
-    absent_stream pool id absent = named_none pool id (subst (λ test. lookup (test id) pool ≡ None) is absent)
+    pub absent_stream : (limit : ℕ) (pool : Entries T C) (id : IpFragId C) → lookup (key_eq id) pool ≡ None
+        → stream_named eq id (limit, pool) ≡ None
+    absent_stream limit pool id absent = named_none limit pool id (subst (λ test. lookup (test id) pool ≡ None) is absent)
 
-    pub present_stream : (pool : IpDefragPool T C) (id : IpFragId C) (value : OpenStream T)
-        → lookup (key_eq id) pool ≡ Some value → IsStreamOf pool id value
-    present_stream pool id value found =
-        stream_of pool id value (subst (λ test. lookup (test id) pool ≡ Some value) is found)
+    pub present_stream : (limit : ℕ) (pool : Entries T C) (id : IpFragId C) (value : OpenStream T)
+        → lookup (key_eq id) pool ≡ Some value → IsStreamOf limit pool id value
+    present_stream limit pool id value found =
+        stream_of limit pool id value (subst (λ test. lookup (test id) pool ≡ Some value) is found)
 
-    module _ (old new : IpDefragPool T C) (id : IpFragId C) (distinct : IsDistinct key_eq (keys_of new)) where
-      differ : NamesDiffer eq new
-      differ = names_differ new (subst (λ test. IsDistinct test (keys_of new)) is distinct)
+    module _ (limit : ℕ) (old new : Entries T C) (id : IpFragId C) (distinct : IsDistinct key_eq (keys_of new)) where
+      differ : NamesDiffer eq (limit, new)
+      differ = names_differ limit new (subst (λ test. IsDistinct test (keys_of new)) is distinct)
 
       -- in another order each name finds the same
       moved : (es : Entries T C) → IsPermutation es new → (name : IpFragId C)
-          → stream_named eq name new ≡ find (is_of name) (map stream_at es)
+          → stream_named eq name (limit, new) ≡ find (is_of name) (map stream_at es)
       moved es reordered name =
           find_permuted (is_of name) (map stream_at es) (map stream_at new)
           (IsPermutation-map stream_at es new reordered) (differ name)
 
-      pub written_stream : (value next : OpenStream T) (of : IsStreamOf old id value)
-          → new ≡ set_value (key_eq id) old next → ChangesStream eq old new id (Some (stream_at (of.key, next)))
+      pub written_stream : (value next : OpenStream T) (of : IsStreamOf limit old id value)
+          → new ≡ set_value (key_eq id) old next
+          → ChangesStream eq (limit, old) (limit, new) id (Some (stream_at (of.key, next)))
       written_stream value next of now =
           let written : new ≡ set_value (same_stream eq id) old next =
           subst (λ test. new ≡ set_value (test id) old next) is now in
           record {
-            here = ap (stream_named eq id) written ∙ of.written next;
+            here = ap (λ es. stream_named eq id (limit, es)) written ∙ of.written next;
             others = λ other apart.
-                ap (stream_named eq other) written ∙ others_written old id other next apart;
+                ap (λ es. stream_named eq other (limit, es)) written ∙ others_written old id other next apart;
             apart = differ;
+            limit = refl;
           }
 
       -- where the name had none, what the map says of the entries is that the pair has come
       pub put_stream : (value : OpenStream T) (had : Option (OpenStream T)) (Kept : OpenStream T → Type 0)
-          → had ≡ lookup (key_eq id) old → stream_named eq id old ≡ None
+          → had ≡ lookup (key_eq id) old → stream_named eq id (limit, old) ≡ None
           → MatchOption had (IsPermutation ((id, value) ∷ old) new) Kept
-          → ChangesStream eq old new id (Some (stream_at (id, value)))
+          → ChangesStream eq (limit, old) (limit, new) id (Some (stream_at (id, value)))
       put_stream value (Some was) Kept found absent puts =
-          let some : None ≡ Some (stream_at ((present_stream old id was (sym found)).key, was)) =
-          sym absent ∙ (present_stream old id was (sym found)).named in
+          let some : None ≡ Some (stream_at ((present_stream limit old id was (sym found)).key, was)) =
+          sym absent ∙ (present_stream limit old id was (sym found)).named in
           absurd (cc)
       put_stream value None Kept found absent reordered = record {
         here = moved ((id, value) ∷ old) reordered id ∙ rw ((same_stream_laws eq laws).refl id) refl;
         others = λ other apart. moved ((id, value) ∷ old) reordered other ∙ rw apart refl;
         apart = differ;
+        limit = refl;
       }
 
       pub removed_stream : lookup (key_eq id) new ≡ None → IsPermutation (remove_entry (key_eq id) old) new
-          → ChangesStream eq old new id None
+          → ChangesStream eq (limit, old) (limit, new) id None
       removed_stream gone reordered =
           let left : IsPermutation (remove_entry (same_stream eq id) old) new =
           subst (λ test. IsPermutation (remove_entry (test id) old) new) is reordered in
           record {
-            here = absent_stream new id gone;
+            here = absent_stream limit new id gone;
             others = λ other apart.
                 moved (remove_entry (same_stream eq id) old) left other ∙ others_removed old id other apart;
             apart = differ;
+            limit = refl;
           }

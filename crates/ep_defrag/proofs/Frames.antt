@@ -106,37 +106,37 @@ module _ {T C V : Type 0} where
   pool_calls-push (refuses_frame error ∷ reads) read = pool_calls-push reads read
 
   -- the pool's answers are those to its calls alone
-  pub answers_in : (eq : C → C → Bool) (keep : V → T → Bool) (earlier : List (Call T C V))
-      (reads : List (ReadCall T C V)) → pool_answers_in (frame_answers_after eq keep earlier reads)
-      ≡ answers_after eq keep earlier (pool_calls reads)
-  answers_in eq keep earlier [] = refl
-  answers_in eq keep earlier (calls_pool brought ∷ reads) =
-      ap (λ answers. answer_to (table_after eq keep earlier) brought ∷ answers)
-      (answers_in eq keep (earlier ++ brought ∷ []) reads)
-  answers_in eq keep earlier (refuses_frame error ∷ reads) = answers_in eq keep earlier reads
+  pub answers_in : (limit : ℕ) (eq : C → C → Bool) (keep : V → T → Bool) (earlier : List (Call T C V))
+      (reads : List (ReadCall T C V)) → pool_answers_in (frame_answers_after limit eq keep earlier reads)
+      ≡ answers_after limit eq keep earlier (pool_calls reads)
+  answers_in limit eq keep earlier [] = refl
+  answers_in limit eq keep earlier (calls_pool brought ∷ reads) =
+      ap (λ answers. answer_to limit (table_after limit eq keep earlier) brought ∷ answers)
+      (answers_in limit eq keep (earlier ++ brought ∷ []) reads)
+  answers_in limit eq keep earlier (refuses_frame error ∷ reads) = answers_in limit eq keep earlier reads
 
-module _ {T C V : Type 0} (eq : C → C → Bool) (keep : V → T → Bool) where
+module _ {T C V : Type 0} (limit : ℕ) (eq : C → C → Bool) (keep : V → T → Bool) where
   -- the table after one more call
   pub table_after_read : (reads : List (ReadCall T C V)) (read : ReadCall T C V) (name : IpFragId C)
-      → table_after eq keep (pool_calls (reads ++ read ∷ [])) name
-      ≡ table_with_read eq keep (table_after eq keep (pool_calls reads)) read name
+      → table_after limit eq keep (pool_calls (reads ++ read ∷ [])) name
+      ≡ table_with_read limit eq keep (table_after limit eq keep (pool_calls reads)) read name
   table_after_read reads (calls_pool brought) name =
-      rw (pool_calls-push reads (calls_pool brought)) (table_after-push eq keep (pool_calls reads) brought name)
+      rw (pool_calls-push reads (calls_pool brought)) (table_after-push limit eq keep (pool_calls reads) brought name)
   table_after_read reads (refuses_frame error) name =
       rw (pool_calls-push reads (refuses_frame error), append-nil (pool_calls reads)) refl
 
   -- what one more call is answered
   pub frame_answers-push : (earlier : List (Call T C V)) (reads : List (ReadCall T C V)) (read : ReadCall T C V)
-      → frame_answers_after eq keep earlier (reads ++ read ∷ [])
-      ≡ frame_answers_after eq keep earlier reads
-      ++ read_answer_to (table_after eq keep (earlier ++ pool_calls reads)) read ∷ []
+      → frame_answers_after limit eq keep earlier (reads ++ read ∷ [])
+      ≡ frame_answers_after limit eq keep earlier reads
+      ++ read_answer_to limit (table_after limit eq keep (earlier ++ pool_calls reads)) read ∷ []
   frame_answers-push earlier [] (calls_pool brought) = rw (append-nil earlier) refl
   frame_answers-push earlier [] (refuses_frame error) = refl
   frame_answers-push earlier (calls_pool first ∷ reads) read =
-      ap (λ answers. pool_answers (answer_to (table_after eq keep earlier) first) ∷ answers)
+      ap (λ answers. pool_answers (answer_to limit (table_after limit eq keep earlier) first) ∷ answers)
       (frame_answers-push (earlier ++ first ∷ []) reads read
-      ∙ ap (λ before. frame_answers_after eq keep (earlier ++ first ∷ []) reads
-      ++ read_answer_to (table_after eq keep before) read ∷ [])
+      ∙ ap (λ before. frame_answers_after limit eq keep (earlier ++ first ∷ []) reads
+      ++ read_answer_to limit (table_after limit eq keep before) read ∷ [])
       (append_assoc earlier (first ∷ []) (pool_calls reads)))
   frame_answers-push earlier (refuses_frame error ∷ reads) read =
       ap (λ answers. not_sliced error ∷ answers) (frame_answers-push earlier reads read)
@@ -144,32 +144,32 @@ module _ {T C V : Type 0} (eq : C → C → Bool) (keep : V → T → Bool) wher
   -- the answer at a place is that to the call there
   read_at : (earlier : List (Call T C V)) (reads : List (ReadCall T C V)) (at : ℕ) (brought : Call T C V)
       (answer : ReadAnswer) → slice_get reads at ≡ Some (calls_pool brought)
-      → slice_get (frame_answers_after eq keep earlier reads) at ≡ Some answer
-      → answer ≡ pool_answers (answer_to (table_after eq keep (earlier ++ pool_calls (take at reads))) brought)
+      → slice_get (frame_answers_after limit eq keep earlier reads) at ≡ Some answer
+      → answer ≡ pool_answers (answer_to limit (table_after limit eq keep (earlier ++ pool_calls (take at reads))) brought)
   read_at earlier [] at brought answer is_call is_answer = absurd (cc)
   read_at earlier (calls_pool first ∷ reads) zero brought answer is_call is_answer =
       let same_call : first ≡ brought = cc in
-      let same_answer : pool_answers (answer_to (table_after eq keep earlier) first) ≡ answer = cc in
+      let same_answer : pool_answers (answer_to limit (table_after limit eq keep earlier) first) ≡ answer = cc in
       rw (append-nil earlier)
-      (sym same_answer ∙ ap (λ brought. pool_answers (answer_to (table_after eq keep earlier) brought)) same_call)
+      (sym same_answer ∙ ap (λ brought. pool_answers (answer_to limit (table_after limit eq keep earlier) brought)) same_call)
   read_at earlier (refuses_frame error ∷ reads) zero brought answer is_call is_answer = absurd (cc)
   read_at earlier (calls_pool first ∷ reads) (suc at) brought answer is_call is_answer =
       read_at (earlier ++ first ∷ []) reads at brought answer is_call is_answer
-      ∙ ap (λ before. pool_answers (answer_to (table_after eq keep before) brought))
+      ∙ ap (λ before. pool_answers (answer_to limit (table_after limit eq keep before) brought))
       (append_assoc earlier (first ∷ []) (pool_calls (take at reads)))
   read_at earlier (refuses_frame error ∷ reads) (suc at) brought answer is_call is_answer =
       read_at earlier reads at brought answer is_call is_answer
 
   pub read_cuts_at : (reads : List (ReadCall T C V)) (answers : List FrameAnswer)
-      → map read_answer answers ≡ frame_answers_to eq keep reads → (at : ℕ) (brought : Call T C V)
+      → map read_answer answers ≡ frame_answers_to limit eq keep reads → (at : ℕ) (brought : Call T C V)
       (answer : FrameAnswer) → slice_get reads at ≡ Some (calls_pool brought)
       → slice_get answers at ≡ Some answer → (payload : List ℕ)
-      → All (IsCut payload) (accepted_at (table_after eq keep (pool_calls (take at reads))) brought)
+      → All (IsCut payload) (accepted_at (table_after limit eq keep (pool_calls (take at reads))) brought)
       → IfPoolHandsOut (read_answer answer) (λ handed. handed.bytes ≡ payload)
   read_cuts_at reads answers same at brought answer is_call is_answer payload cuts =
-      let answer_is : slice_get (frame_answers_to eq keep reads) at ≡ Some (read_answer answer) =
+      let answer_is : slice_get (frame_answers_to limit eq keep reads) at ≡ Some (read_answer answer) =
       ap (λ answers. slice_get answers at) (sym same) ∙ slice_get-map read_answer answers at
       ∙ ap (option_map read_answer) is_answer in
       rw (read_at [] reads at brought (read_answer answer) is_call answer_is)
-      (handed_at payload (table_after eq keep (pool_calls (take at reads))) brought
+      (handed_at payload limit (table_after limit eq keep (pool_calls (take at reads))) brought
       (recursion_from_All (IsCut payload) _ cuts))

@@ -1,62 +1,74 @@
 -- Frames that complete a stream, with what a pool answers them.
 use Rattle.std.proofs.Common.{◌≡◌, ◌<◌, ◌≤◌, ◌^◌, ℕ, ◌*◌, Bool, true, false, List, [], ◌∷◌, ◌++◌, append_assoc, length, Option, Some, None, sym, refl, ap, ◌∙◌, subst, ◌⊎◌, inl, inr, arith}
+use Rattle.std.specs.Prelude.{IfSome}
 use Rattle.std.specs.Cmp.{IsEquivalence}
 use Rattle.std.proofs.lemmas.Bool.{cases_Bool, false≢true}
 use Rattle.ep_base.specs.Bytes.{AreBytes}
 use Rattle.ep_defrag.specs.declared.ip_frag_id.IpFragId.{IpFragId}
 use Rattle.ep_defrag.specs.Fragments.{IpFragment, is_complete}
-use Rattle.ep_defrag.specs.Refusals.{Fits, FitInTurn}
+use Rattle.ep_defrag.specs.Refusals.{FitsWithin, FitInTurn, FitInTurnWithin}
+use Rattle.ep_defrag.specs.Buffers.{data_of}
 use Rattle.ep_defrag.specs.Streams.{same_stream}
 use Rattle.ep_defrag.specs.Calls.{Kept, accepted_in, payload_of, payload_handed_out, nothing_handed_out, answer_to_frame, table_with_frame}
 use Rattle.ep_defrag.specs.Pools.{Stream, HoldsEntry}
 use Rattle.ep_defrag.specs.Completing.{FillBoth, front_fragment, back_fragment, is_part, FragmentFrame, given_by, name_in, CarriesOf, HandsOutAll, FramesComplete}
 use Rattle.ep_defrag.proofs.Streams.{same_stream_laws}
 use Rattle.ep_defrag.proofs.OneFragment.{kept_more, answer_complete, answer_nothing}
-use Rattle.ep_defrag.proofs.Completing.{two_complete, parts_short}
+use Rattle.ep_defrag.proofs.Completing.{reach_short, two_complete, parts_short}
+use Rattle.ep_defrag.proofs.Held.{data_len}
 use Rattle.ep_defrag.proofs.Carrying.{carrying}
 
--- what a pool keeps of a stream fits in turn
-pub entry_in_turn : {T C : Type 0} (stream : Option (Stream T C)) (kept : Option (Kept T)) → HoldsEntry stream kept
-    → FitInTurn (accepted_in kept)
-entry_in_turn None None held = tt
-entry_in_turn None (Some kept) held = absurd held
-entry_in_turn (Some stream) None held = absurd held
-entry_in_turn (Some stream) (Some kept) held = held.buffer.in_turn
+-- what a pool keeps of a stream fits in turn, within the limit of a buffer too
+pub entry_in_turn : {T C : Type 0} (limit : ℕ) (stream : Option (Stream T C)) (kept : Option (Kept T))
+    → HoldsEntry limit stream kept → FitInTurnWithin limit (accepted_in kept) × FitInTurn (accepted_in kept)
+entry_in_turn limit None None held = (tt, tt)
+entry_in_turn limit None (Some kept) held = absurd held
+entry_in_turn limit (Some stream) None held = absurd held
+entry_in_turn limit (Some stream) (Some kept) held = (held.within, held.buffer.in_turn)
 
-module _ {T C : Type 0} (eq : C → C → Bool) (laws : IsEquivalence eq) (seen : FragmentFrame) (channel : C) where
+-- so its data is no longer than the limit
+pub entry_data : {T C : Type 0} (limit : ℕ) (stream : Option (Stream T C)) (kept : Option (Kept T))
+    → HoldsEntry limit stream kept → IfSome stream (λ s. length (data_of s.buffer) ≤ limit)
+entry_data limit None kept held = tt
+entry_data limit (Some stream) None held = absurd held
+entry_data limit (Some stream) (Some kept) held =
+    omega (arith, data_len stream.buffer kept.accepted held.buffer, reach_short limit kept.accepted held.within)
+
+module _ {T C : Type 0} (limit : ℕ) (eq : C → C → Bool) (laws : IsEquivalence eq) (seen : FragmentFrame) (channel : C) where
   -- the table has this of the stream
   module _ (table : IpFragId C → Option (Kept T)) (kept : Option (Kept T)) (has : table (name_in seen channel) ≡ kept)
       (wanted : IpFragment) (frame : FragmentFrame) (is : CarriesOf seen wanted frame) where
-    hands_out : Fits (accepted_in kept) wanted → is_complete (accepted_in kept ++ wanted ∷ []) ≡ true
-        → HandsOutAll table frame channel (accepted_in kept ++ wanted ∷ [])
+    hands_out : FitsWithin limit (accepted_in kept) wanted → is_complete (accepted_in kept ++ wanted ∷ []) ≡ true
+        → HandsOutAll limit table frame channel (accepted_in kept ++ wanted ∷ [])
     hands_out fits whole =
         rw (frame.carries, is, has)
-        (sym (answer_complete (name_in seen channel) kept wanted fits whole))
+        (sym (answer_complete limit (name_in seen channel) kept wanted fits whole))
 
-    hands_nothing : Fits (accepted_in kept) wanted → is_complete (accepted_in kept ++ wanted ∷ []) ≡ false
-        → answer_to_frame table (given_by frame) channel ≡ nothing_handed_out
+    hands_nothing : FitsWithin limit (accepted_in kept) wanted → is_complete (accepted_in kept ++ wanted ∷ []) ≡ false
+        → answer_to_frame limit table (given_by frame) channel ≡ nothing_handed_out
     hands_nothing fits partly =
         rw (frame.carries, is, has)
-        (sym (answer_nothing (name_in seen channel) kept wanted fits partly))
+        (sym (answer_nothing limit (name_in seen channel) kept wanted fits partly))
 
-    keeps : (timestamp : T) → Fits (accepted_in kept) wanted → is_complete (accepted_in kept ++ wanted ∷ []) ≡ false
-        → table_with_frame eq table (given_by frame) timestamp channel (name_in seen channel)
+    keeps : (timestamp : T) → FitsWithin limit (accepted_in kept) wanted → is_complete (accepted_in kept ++ wanted ∷ []) ≡ false
+        → table_with_frame limit eq table (given_by frame) timestamp channel (name_in seen channel)
         ≡ Some (record { accepted = accepted_in kept ++ wanted ∷ []; timestamp = timestamp })
     keeps timestamp fits partly =
         rw (frame.carries, is, (same_stream_laws eq laws).refl (name_in seen channel), has)
-        (kept_more kept wanted timestamp fits partly)
+        (kept_more limit kept wanted timestamp fits partly)
 
   pub frames_complete : (table : IpFragId C → Option (Kept T)) (kept : Option (Kept T))
-      → table (name_in seen channel) ≡ kept → FitInTurn (accepted_in kept) → (front back : List ℕ)
+      → table (name_in seen channel) ≡ kept → FitInTurnWithin limit (accepted_in kept) → FitInTurn (accepted_in kept)
+      → 8 ≤ limit → (front back : List ℕ)
       → FillBoth (accepted_in kept) front back → AreBytes front → AreBytes back → (timestamp : T)
-      → FramesComplete eq table seen channel timestamp (accepted_in kept) (front_fragment front)
+      → FramesComplete limit eq table seen channel timestamp (accepted_in kept) (front_fragment front)
       (back_fragment (accepted_in kept) back)
-  frames_complete table kept has fit front back fill front_bytes back_bytes timestamp =
+  frames_complete table kept has fit short least front back fill front_bytes back_bytes timestamp =
       let accepted = accepted_in kept in
       let first = front_fragment front in
       let second = back_fragment accepted back in
-      let two = two_complete accepted fit front back fill in
-      let lens = parts_short accepted fit front back fill in
+      let two = two_complete limit accepted fit front back fill least in
+      let lens = parts_short 65535 accepted short front back fill (omega arith) (omega arith) in
       let carried = carrying seen first (omega arith) lens.0 front_bytes two.first_part in
       elim (cases_Bool (is_complete (accepted ++ first ∷ []))) [
         | inl whole ↦ record {
@@ -74,7 +86,7 @@ module _ {T C : Type 0} (eq : C → C → Bool) (laws : IsEquivalence eq) (seen 
             let same = append_assoc accepted (first ∷ []) (second ∷ []) in
             let whole : is_complete ((accepted ++ first ∷ []) ++ second ∷ []) ≡ true = rw same (two.complete) in
             let out =
-            hands_out (table_with_frame eq table (given_by carried.0) timestamp channel) (Some now)
+            hands_out (table_with_frame limit eq table (given_by carried.0) timestamp channel) (Some now)
             (keeps table kept has first carried.0 carried.1 timestamp two.first_fits partly) second last.0 last.1
             two.second_fits whole in
             record {

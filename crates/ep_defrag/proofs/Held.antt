@@ -32,7 +32,7 @@ HoldsFragments-same a b fragments held same_data same_sections same_end = record
 }
 
 -- the known end after a fragment that fits
-end_after-fits : (known : Option ℕ) (reach : ℕ) (fragment : IpFragment) → FitsAt known reach fragment
+end_after-fits : (known : Option ℕ) (reach : ℕ) (fragment : IpFragment) → FitsAt 65535 known reach fragment
     → end_after known fragment ≡ option_or known (own_end fragment)
 end_after-fits None reach fragment fits = refl
 end_after-fits (Some end) reach fragment fits = elim (cases_Bool fragment.more) [
@@ -59,16 +59,16 @@ HoldsFragments-push old new fragments fragment held fits data_now sections_now e
     let after = sections_after range sections in
     let in_order = from_apart (sections_of new) new.in_order in
     record {
-      in_turn = FitAfter-push [] fragments fragment held.in_turn fits;
+      in_turn = FitAfter-push 65535 [] fragments fragment held.in_turn fits;
       contents =
           data_now
           ∙ ap (λ contents. data_after contents fragment) held.contents
-          ∙ assembled-push fragments fragment (end_is_greatest fragments held.in_turn) fits;
+          ∙ assembled-push 65535 fragments fragment (end_is_greatest 65535 fragments held.in_turn) fits;
       end =
           end_now
           ∙ ap (λ known. end_after known fragment) held.end
           ∙ end_after-fits (end_of fragments) (reach_of fragments) fragment
-          (fits_at (end_of fragments) (reach_of fragments) fragment fits)
+          (fits_at 65535 (end_of fragments) (reach_of fragments) fragment fits)
           ∙ sym (end_of-push fragments fragment);
       ordered = All-from_recursion IsOrdered (sections_of new) (ordered_from 0 (sections_of new) in_order);
       apart = λ position. at_most_one position 0 (sections_of new) in_order;
@@ -90,7 +90,7 @@ HoldsFragments-push old new fragments fragment held fits data_now sections_now e
 pub data_len : (buffer : IpDefragBuf) (fragments : List IpFragment) → HoldsFragments buffer fragments
     → length (data_of buffer) ≡ reach_of fragments
 data_len buffer fragments held =
-    ap length held.contents ∙ length-assembled fragments ∙ end_is_greatest fragments held.in_turn
+    ap length held.contents ∙ length-assembled fragments ∙ end_is_greatest 65535 fragments held.in_turn
 
 -- It shows whether they are complete.
 pub complete_when_held : (buffer : IpDefragBuf) (fragments : List IpFragment) → HoldsFragments buffer fragments
@@ -104,7 +104,7 @@ complete_when_held buffer fragments held =
       bytes = held.bytes;
       points = held.points;
     })
-    (end_is_greatest fragments held.in_turn))
+    (end_is_greatest 65535 fragments held.in_turn))
 
 -- a section that touches a position of the range merges with it
 merging_from_point : (range : IpFragRange) (sections : List IpFragRange) (position : ℕ) → touches position range ≡ true

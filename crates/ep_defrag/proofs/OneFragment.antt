@@ -6,11 +6,12 @@ use Rattle.ep_defrag.specs.declared.ip_defrag_error.IpDefragError.{IpDefragError
 use Rattle.ep_defrag.specs.declared.ip_defrag_error.IpDefragError.TheVariants.{AllocationFailure}
 use Rattle.ep_defrag.specs.declared.ip_frag_id.IpFragId.{IpFragId}
 use Rattle.ep_defrag.specs.Fragments.{IpFragment, fragment_end, reach_of, end_of, is_complete}
-use Rattle.ep_defrag.specs.Refusals.{refusal_of, RefusesFragment, Fits, MayNeedMemory, is_want_of_memory}
+use Rattle.ep_defrag.specs.Refusals.{refusal_within, RefusesWithin, FitsWithin, MayNeedMemoryWithin, is_want_of_memory}
 use Rattle.ep_defrag.specs.Buffers.{HoldsFragments, ip_number_of, data_of}
 use Rattle.ep_defrag.specs.Streams.{source_of}
 use Rattle.ep_defrag.specs.Calls.{Kept, accepted_in, kept_with, answer_with, Payload, payload_of, fragment_refused, payload_handed_out, nothing_handed_out}
 use Rattle.ep_defrag.specs.Pools.{Stream, HoldsEntry, BufferTakes, IsWhole}
+use Rattle.ep_defrag.proofs.Data.{FitAfter-push}
 use Rattle.ep_defrag.proofs.Runs.{no_memory}
 
 -- what a test that is exact answers
@@ -19,71 +20,73 @@ false_from r true exact fails = absurd (false≢true (sym fails ∙ exact.1 refl
 false_from r false exact fails = refl
 
 -- ---- a refusal is not one of memory
-module _ (accepted : List IpFragment) (fragment : IpFragment) (error : IpDefragError) where
+module _ (limit : ℕ) (accepted : List IpFragment) (fragment : IpFragment) (error : IpDefragError) where
   abbrev RefusedOrWanting : Type 0
   RefusedOrWanting =
-      RefusesFragment accepted fragment error
-      ⊎ (MayNeedMemory accepted fragment × (error ≡ AllocationFailure (fragment_end fragment)))
+      RefusesWithin limit accepted fragment error
+      ⊎ (MayNeedMemoryWithin limit accepted fragment × (error ≡ AllocationFailure (fragment_end fragment)))
 
-  pub refused_only : is_want_of_memory error ≡ false → RefusedOrWanting → refusal_of accepted fragment ≡ Some error
+  pub refused_only : is_want_of_memory error ≡ false → RefusedOrWanting → refusal_within limit accepted fragment ≡ Some error
   refused_only other (inl refused) = refused
   refused_only other (inr wanting) = absurd (false≢true (sym other ∙ ap is_want_of_memory wanting.1))
 
   pub wanting_only : is_want_of_memory error ≡ true → RefusedOrWanting
-      → MayNeedMemory accepted fragment × (error ≡ AllocationFailure (fragment_end fragment))
+      → MayNeedMemoryWithin limit accepted fragment × (error ≡ AllocationFailure (fragment_end fragment))
   wanting_only wants (inl refused) =
-      absurd (false≢true (sym (no_memory (end_of accepted) (reach_of accepted) fragment error refused) ∙ wants))
+      absurd (false≢true (sym (no_memory limit (end_of accepted) (reach_of accepted) fragment error refused) ∙ wants))
   wanting_only wants (inr wanting) = wanting
 
 -- a first fragment is not in place
-pub first_may_need_memory : (fragment : IpFragment) → Fits [] fragment → MayNeedMemory [] fragment
-first_may_need_memory fragment fits = (fits, λ placed. false≢true placed.touching.2)
+pub first_may_need_memory : (limit : ℕ) (fragment : IpFragment) → FitsWithin limit [] fragment
+    → MayNeedMemoryWithin limit [] fragment
+first_may_need_memory limit fragment fits = (fits, λ placed. false≢true placed.touching.2)
 
 -- ---- the answer, and what is kept
-module _ {T : Type 0} (kept : Option (Kept T)) (fragment : IpFragment) (timestamp : T) where
+module _ {T : Type 0} (limit : ℕ) (kept : Option (Kept T)) (fragment : IpFragment) (timestamp : T) where
   abbrev after : List IpFragment
   after = accepted_in kept ++ fragment ∷ []
 
-  pub kept_refused : (error : IpDefragError) → refusal_of (accepted_in kept) fragment ≡ Some error
-      → kept_with kept fragment timestamp ≡ kept
+  pub kept_refused : (error : IpDefragError) → refusal_within limit (accepted_in kept) fragment ≡ Some error
+      → kept_with limit kept fragment timestamp ≡ kept
   kept_refused error refuses = rw refuses refl
 
-  pub kept_complete : Fits (accepted_in kept) fragment → is_complete after ≡ true
-      → kept_with kept fragment timestamp ≡ None
+  pub kept_complete : FitsWithin limit (accepted_in kept) fragment → is_complete after ≡ true
+      → kept_with limit kept fragment timestamp ≡ None
   kept_complete fits whole = rw (fits, whole) refl
 
-  pub kept_more : Fits (accepted_in kept) fragment → is_complete after ≡ false
-      → kept_with kept fragment timestamp ≡ Some (record { accepted = after; timestamp = timestamp })
+  pub kept_more : FitsWithin limit (accepted_in kept) fragment → is_complete after ≡ false
+      → kept_with limit kept fragment timestamp ≡ Some (record { accepted = after; timestamp = timestamp })
   kept_more fits partly = rw (fits, partly) refl
 
-module _ {T C : Type 0} (name : IpFragId C) (kept : Option (Kept T)) (fragment : IpFragment) where
-  pub answer_refused : (error : IpDefragError) → refusal_of (accepted_in kept) fragment ≡ Some error
-      → fragment_refused error ≡ answer_with name kept fragment
+module _ {T C : Type 0} (limit : ℕ) (name : IpFragId C) (kept : Option (Kept T)) (fragment : IpFragment) where
+  pub answer_refused : (error : IpDefragError) → refusal_within limit (accepted_in kept) fragment ≡ Some error
+      → fragment_refused error ≡ answer_with limit name kept fragment
   answer_refused error refuses = rw refuses refl
 
-  pub answer_complete : Fits (accepted_in kept) fragment → is_complete (accepted_in kept ++ fragment ∷ []) ≡ true
-      → payload_handed_out (payload_of name (accepted_in kept ++ fragment ∷ [])) ≡ answer_with name kept fragment
+  pub answer_complete : FitsWithin limit (accepted_in kept) fragment → is_complete (accepted_in kept ++ fragment ∷ []) ≡ true
+      → payload_handed_out (payload_of name (accepted_in kept ++ fragment ∷ [])) ≡ answer_with limit name kept fragment
   answer_complete fits whole = rw (fits, whole) refl
 
-  pub answer_nothing : Fits (accepted_in kept) fragment → is_complete (accepted_in kept ++ fragment ∷ []) ≡ false
-      → nothing_handed_out ≡ answer_with name kept fragment
+  pub answer_nothing : FitsWithin limit (accepted_in kept) fragment → is_complete (accepted_in kept ++ fragment ∷ []) ≡ false
+      → nothing_handed_out ≡ answer_with limit name kept fragment
   answer_nothing fits partly = rw (fits, partly) refl
 
 -- ---- a stream that goes on
-module _ {T C : Type 0} (stream next : Stream T C) where
-  pub holds_in : (kept : Option (Kept T)) → HoldsEntry (Some stream) kept
+module _ {T C : Type 0} (limit : ℕ) (stream next : Stream T C) where
+  pub holds_in : (kept : Option (Kept T)) → HoldsEntry limit (Some stream) kept
       → HoldsFragments stream.buffer (accepted_in kept)
   holds_in None entry = absurd entry
   holds_in (Some kept) entry = entry.buffer
 
   -- the stream is as it was
-  pub entry_keeps : (kept : Option (Kept T)) → HoldsEntry (Some stream) kept
+  pub entry_keeps : (kept : Option (Kept T)) → HoldsEntry limit (Some stream) kept
       → ((accepted : List IpFragment) → HoldsFragments stream.buffer accepted → HoldsFragments next.buffer accepted)
       → ip_number_of next.buffer ≡ ip_number_of stream.buffer → next.id ≡ stream.id
-      → next.timestamp ≡ stream.timestamp → HoldsEntry (Some next) kept
+      → next.timestamp ≡ stream.timestamp → HoldsEntry limit (Some next) kept
   entry_keeps None entry keeps number id time = absurd entry
   entry_keeps (Some kept) entry keeps number id time = record {
     buffer = keeps kept.accepted entry.buffer;
+    within = entry.within;
     ip_number = number ∙ entry.ip_number ∙ ap (λ (i : IpFragId C). i.payload_ip_number) (sym id);
     timestamp = time ∙ entry.timestamp;
     some = entry.some;
@@ -91,72 +94,73 @@ module _ {T C : Type 0} (stream next : Stream T C) where
 
   module _ (fragment : IpFragment) (timestamp : T) where
     -- it has one more fragment
-    pub entry_more : (kept : Option (Kept T)) → HoldsEntry (Some stream) kept
-        → BufferTakes stream.buffer next.buffer fragment
+    pub entry_more : (kept : Option (Kept T)) → HoldsEntry limit (Some stream) kept
+        → BufferTakes limit stream.buffer next.buffer fragment
         → IsWhole next.buffer false
-        → next.id ≡ stream.id → next.timestamp ≡ timestamp → HoldsEntry (Some next) (kept_with kept fragment timestamp)
+        → next.id ≡ stream.id → next.timestamp ≡ timestamp → HoldsEntry limit (Some next) (kept_with limit kept fragment timestamp)
     entry_more None entry takes partly id time = absurd entry
     entry_more (Some kept) entry takes partly id time =
         let now = takes.holds kept.accepted entry.buffer in
-        rw (kept_more (Some kept) fragment timestamp (takes.fits kept.accepted entry.buffer)
+        rw (kept_more limit (Some kept) fragment timestamp (takes.fits kept.accepted entry.buffer)
         (partly (kept.accepted ++ fragment ∷ []) now)) (record {
           buffer = now;
+          within = FitAfter-push limit [] kept.accepted fragment entry.within (takes.fits kept.accepted entry.buffer);
           ip_number = takes.ip_number ∙ entry.ip_number ∙ ap (λ (i : IpFragId C). i.payload_ip_number) (sym id);
           timestamp = time;
           some = omega (arith, length_push kept.accepted fragment);
         })
 
     -- it is complete
-    pub entry_whole : (kept : Option (Kept T)) → HoldsEntry (Some stream) kept
-        → BufferTakes stream.buffer next.buffer fragment
+    pub entry_whole : (kept : Option (Kept T)) → HoldsEntry limit (Some stream) kept
+        → BufferTakes limit stream.buffer next.buffer fragment
         → IsWhole next.buffer true
-        → kept_with kept fragment timestamp ≡ None
+        → kept_with limit kept fragment timestamp ≡ None
     entry_whole None entry takes whole = absurd entry
     entry_whole (Some kept) entry takes whole =
-        kept_complete (Some kept) fragment timestamp (takes.fits kept.accepted entry.buffer)
+        kept_complete limit (Some kept) fragment timestamp (takes.fits kept.accepted entry.buffer)
         (whole (kept.accepted ++ fragment ∷ []) (takes.holds kept.accepted entry.buffer))
 
     -- the fragment is refused
-    pub entry_refused : (kept : Option (Kept T)) (error : IpDefragError) → HoldsEntry (Some stream) kept
+    pub entry_refused : (kept : Option (Kept T)) (error : IpDefragError) → HoldsEntry limit (Some stream) kept
         → ((accepted : List IpFragment) → HoldsFragments stream.buffer accepted
-        → refusal_of accepted fragment ≡ Some error)
+        → refusal_within limit accepted fragment ≡ Some error)
         → ((accepted : List IpFragment) → HoldsFragments stream.buffer accepted → HoldsFragments next.buffer accepted)
         → ip_number_of next.buffer ≡ ip_number_of stream.buffer → next.id ≡ stream.id
-        → next.timestamp ≡ stream.timestamp → HoldsEntry (Some next) (kept_with kept fragment timestamp)
+        → next.timestamp ≡ stream.timestamp → HoldsEntry limit (Some next) (kept_with limit kept fragment timestamp)
     entry_refused None error entry refuses keeps number id time = absurd entry
     entry_refused (Some kept) error entry refuses keeps number id time =
-        rw (kept_refused (Some kept) fragment timestamp error (refuses kept.accepted entry.buffer))
+        rw (kept_refused limit (Some kept) fragment timestamp error (refuses kept.accepted entry.buffer))
         (entry_keeps (Some kept) entry keeps number id time)
 
   -- the answers
   module _ (name : IpFragId C) (fragment : IpFragment) where
-    pub answered_nothing : (kept : Option (Kept T)) → HoldsEntry (Some stream) kept
-        → BufferTakes stream.buffer next.buffer fragment
+    pub answered_nothing : (kept : Option (Kept T)) → HoldsEntry limit (Some stream) kept
+        → BufferTakes limit stream.buffer next.buffer fragment
         → IsWhole next.buffer false
-        → nothing_handed_out ≡ answer_with name kept fragment
+        → nothing_handed_out ≡ answer_with limit name kept fragment
     answered_nothing None entry takes partly = absurd entry
     answered_nothing (Some kept) entry takes partly =
-        answer_nothing name (Some kept) fragment (takes.fits kept.accepted entry.buffer)
+        answer_nothing limit name (Some kept) fragment (takes.fits kept.accepted entry.buffer)
         (partly (kept.accepted ++ fragment ∷ []) (takes.holds kept.accepted entry.buffer))
 
     abbrev handed : List ℕ → Payload
     handed bytes = record { ip_number = name.payload_ip_number; len_source = source_of name.ip; bytes = bytes }
 
-    pub answered_payload : (kept : Option (Kept T)) → HoldsEntry (Some stream) kept
-        → BufferTakes stream.buffer next.buffer fragment
+    pub answered_payload : (kept : Option (Kept T)) → HoldsEntry limit (Some stream) kept
+        → BufferTakes limit stream.buffer next.buffer fragment
         → IsWhole next.buffer true
-        → payload_handed_out (handed (data_of next.buffer)) ≡ answer_with name kept fragment
+        → payload_handed_out (handed (data_of next.buffer)) ≡ answer_with limit name kept fragment
     answered_payload None entry takes whole = absurd entry
     answered_payload (Some kept) entry takes whole =
         let now = takes.holds kept.accepted entry.buffer in
         ap (λ bytes. payload_handed_out (handed bytes)) now.contents
-        ∙ answer_complete name (Some kept) fragment (takes.fits kept.accepted entry.buffer)
+        ∙ answer_complete limit name (Some kept) fragment (takes.fits kept.accepted entry.buffer)
         (whole (kept.accepted ++ fragment ∷ []) now)
 
-    pub answered_refused : (kept : Option (Kept T)) (error : IpDefragError) → HoldsEntry (Some stream) kept
+    pub answered_refused : (kept : Option (Kept T)) (error : IpDefragError) → HoldsEntry limit (Some stream) kept
         → ((accepted : List IpFragment) → HoldsFragments stream.buffer accepted
-        → refusal_of accepted fragment ≡ Some error)
-        → fragment_refused error ≡ answer_with name kept fragment
+        → refusal_within limit accepted fragment ≡ Some error)
+        → fragment_refused error ≡ answer_with limit name kept fragment
     answered_refused None error entry refuses = absurd entry
     answered_refused (Some kept) error entry refuses =
-        answer_refused name (Some kept) fragment error (refuses kept.accepted entry.buffer)
+        answer_refused limit name (Some kept) fragment error (refuses kept.accepted entry.buffer)

@@ -6,7 +6,7 @@ use Rattle.std.proofs.lemmas.List.Elements.{All-nil, All-cons}
 use Rattle.ep_defrag.specs.declared.ip_defrag_error.IpDefragError.{IpDefragError}
 use Rattle.ep_defrag.specs.declared.ip_defrag_error.IpDefragError.TheVariants.{AllocationFailure}
 use Rattle.ep_defrag.specs.Fragments.{IpFragment, fragment_end, reach_of, end_of}
-use Rattle.ep_defrag.specs.Refusals.{is_unaligned, end_row, refusal_at, refusal_of, is_want_of_memory}
+use Rattle.ep_defrag.specs.Refusals.{is_unaligned, end_row, refusal_at_within, refusal_of, is_want_of_memory}
 use Rattle.ep_defrag.specs.Runs.{accepted_with, accepted_after, ok_unless, answers_after}
 
 -- ---- a refusal is not one of memory
@@ -20,10 +20,10 @@ no_memory_at : (known : Option ℕ) (reach : ℕ) (fragment : IpFragment)
 no_memory_at None reach fragment = refl
 no_memory_at (Some end) reach fragment = refl
 
-pub no_memory : (known : Option ℕ) (reach : ℕ) (fragment : IpFragment) (error : IpDefragError)
-    → refusal_at known reach fragment ≡ Some error → is_want_of_memory error ≡ false
-no_memory known reach fragment error refused =
-    elim (from_cond (ltb 65535 (fragment_end fragment)) _ error _ refused) [
+pub no_memory : (limit : ℕ) (known : Option ℕ) (reach : ℕ) (fragment : IpFragment) (error : IpDefragError)
+    → refusal_at_within limit known reach fragment ≡ Some error → is_want_of_memory error ≡ false
+no_memory limit known reach fragment error refused =
+    elim (from_cond (ltb limit (fragment_end fragment)) _ error _ refused) [
       | inl long ↦ ap is_want_of_memory long
       | inr short ↦ elim (from_cond (is_unaligned fragment) _ error _ short) [
         | inl unaligned ↦ ap is_want_of_memory unaligned
@@ -47,7 +47,7 @@ pub answers_no_memory : (accepted fragments : List IpFragment)
 answers_no_memory accepted [] = All-nil (λ answer. (len : ℕ) → answer ≢ Err (AllocationFailure len))
 answers_no_memory accepted (fragment ∷ fragments) =
     All-cons (λ answer. (len : ℕ) → answer ≢ Err (AllocationFailure len)) _ _
-    (answer_no_memory (refusal_of accepted fragment) (no_memory (end_of accepted) (reach_of accepted) fragment))
+    (answer_no_memory (refusal_of accepted fragment) (no_memory 65535 (end_of accepted) (reach_of accepted) fragment))
     (answers_no_memory (accepted_with accepted fragment) fragments)
 
 -- ---- one more fragment

@@ -1,5 +1,5 @@
 -- What a pool holds, after one stream changed, went or began, and after a drop.
-use Rattle.std.proofs.Common.{◌≡◌, ℕ, ◌≤◌, Bool, true, false, List, [], ◌∷◌, Bor, Option, Some, None, is_some, cond, sym, refl, ap, ◌∙◌, subst, arith, of_calls, inl, inr}
+use Rattle.std.proofs.Common.{◌≡◌, ℕ, ◌≤◌, Bool, true, false, List, [], ◌∷◌, map, Bor, Option, Some, None, is_some, cond, sym, refl, ap, ◌∙◌, subst, arith, of_calls, inl, inr}
 use Rattle.std.specs.List.{filter, find, count_by, items_where_true}
 use Rattle.std.specs.Cmp.{IsEquivalence}
 use Rattle.std.specs.Fn.{Shared, FnReturnsAt}
@@ -11,7 +11,7 @@ use Rattle.ep_defrag.specs.declared.ip_defrag_pool.OpenStream.{OpenStream}
 use Rattle.ep_defrag.specs.declared.ip_defrag_pool.IpDefragPool.{IpDefragPool}
 use Rattle.ep_defrag.specs.Streams.{same_stream}
 use Rattle.ep_defrag.specs.Calls.{Kept, kept_by}
-use Rattle.ep_defrag.specs.Pools.{Stream, stream_at, streams_of, stream_named, HoldsEntry, HoldsTable, ChangesStream, AnswersEach, LeavesAnswered, HoldsAnswered, IsAnsweredBy}
+use Rattle.ep_defrag.specs.Pools.{Stream, stream_at, limit_of, streams_of, stream_named, HoldsEntry, HoldsTable, ChangesStream, AnswersEach, LeavesAnswered, HoldsAnswered, IsAnsweredBy}
 use Rattle.ep_defrag.proofs.Lookups.{counted, find_none, count_filter, stays_if, find_filter}
 use Rattle.ep_defrag.proofs.Entries.{same_name}
 use Rattle.ep_defrag.proofs.Streams.{same_stream_laws}
@@ -24,12 +24,13 @@ pub HoldsTable-same : {T C : Type 0} (eq : C → C → Bool) (pool : IpDefragPoo
     → ((name : IpFragId C) → a name ≡ b name) → HoldsTable eq pool a → HoldsTable eq pool b
 HoldsTable-same eq pool a b same held = record {
   apart = held.apart;
-  each = λ name. subst (λ kept. HoldsEntry (stream_named eq name pool) kept) (same name) (held.each name);
+  each = λ name. subst (λ kept. HoldsEntry (limit_of pool) (stream_named eq name pool) kept) (same name) (held.each name);
 }
 
-no_entry : {T : Type 0} (C : Type 0) (kept : Option (Kept T)) → HoldsEntry {T = T} {C = C} None kept → kept ≡ None
-no_entry C None entry = refl
-no_entry C (Some kept) entry = absurd entry
+no_entry : {T : Type 0} (C : Type 0) (limit : ℕ) (kept : Option (Kept T))
+    → HoldsEntry {T = T} {C = C} limit None kept → kept ≡ None
+no_entry C limit None entry = refl
+no_entry C limit (Some kept) entry = absurd entry
 
 pub same_itself : {C : Type 0} (eq : C → C → Bool) → IsEquivalence eq → (name : IpFragId C)
     → same_stream eq name name ≡ true
@@ -41,12 +42,13 @@ module _ {T C : Type 0} (eq : C → C → Bool) (laws : IsEquivalence eq) where
   pub HoldsTable-changed : (old new : IpDefragPool T C) (table next : Table T C) (id : IpFragId C)
       (stream : Option (Stream T C)) → ChangesStream eq old new id stream → HoldsTable eq old table
       → ((name : IpFragId C) → same_stream eq id name ≡ false → next name ≡ table name)
-      → ((name : IpFragId C) → same_stream eq id name ≡ true → HoldsEntry stream (next name)) → HoldsTable eq new next
+      → ((name : IpFragId C) → same_stream eq id name ≡ true → HoldsEntry (limit_of old) stream (next name))
+      → HoldsTable eq new next
   HoldsTable-changed old new table next id stream changed held there here = record {
     apart = changed.apart;
     each = λ name. elim (cases_Bool (same_stream eq id name)) [
-      | inl alike ↦ rw (same_name eq laws new id name alike, changed.here) (here name alike)
-      | inr other ↦ rw (changed.others name other, there name other) (held.each name)
+      | inl alike ↦ rw (changed.limit, same_name eq laws new id name alike, changed.here) (here name alike)
+      | inr other ↦ rw (changed.limit, changed.others name other, there name other) (held.each name)
     ];
   }
 
@@ -55,32 +57,32 @@ module _ {T C : Type 0} (eq : C → C → Bool) (laws : IsEquivalence eq) where
     pub none_kept : stream_named eq id pool ≡ None
         → (name : IpFragId C) → same_stream eq id name ≡ true → table name ≡ None
     none_kept absent name alike =
-        no_entry C (table name) (rw (same_name eq laws pool id name alike, absent) at (held.each name))
+        no_entry C (limit_of pool) (table name) (rw (same_name eq laws pool id name alike, absent) at (held.each name))
 
     -- the stream of a name has what is kept of each name that is the same
     pub entry_at : (stream : Stream T C) → stream_named eq id pool ≡ Some stream
-        → (name : IpFragId C) → same_stream eq id name ≡ true → HoldsEntry (Some stream) (table name)
+        → (name : IpFragId C) → same_stream eq id name ≡ true → HoldsEntry (limit_of pool) (Some stream) (table name)
     entry_at stream found name alike = rw (same_name eq laws pool id name alike, found) at (held.each name)
 
 -- ---- a drop
-entry_by : {T C : Type 0} (answers : T → Bool) (stream : Option (Stream T C)) (kept : Option (Kept T))
-    → HoldsEntry stream kept
-    → HoldsEntry (stays_if (λ (s : Stream T C). true) (λ s. answers s.timestamp) stream) (kept_by answers kept)
+entry_by : {T C : Type 0} (limit : ℕ) (answers : T → Bool) (stream : Option (Stream T C)) (kept : Option (Kept T))
+    → HoldsEntry limit stream kept
+    → HoldsEntry limit (stays_if (λ (s : Stream T C). true) (λ s. answers s.timestamp) stream) (kept_by answers kept)
 unfolding stays_if
-entry_by answers None None entry = tt
-entry_by answers None (Some kept) entry = absurd entry
-entry_by answers (Some stream) None entry = absurd entry
-entry_by answers (Some stream) (Some kept) entry = elim (cases_Bool (answers stream.timestamp)) [
+entry_by limit answers None None entry = tt
+entry_by limit answers None (Some kept) entry = absurd entry
+entry_by limit answers (Some stream) None entry = absurd entry
+entry_by limit answers (Some stream) (Some kept) entry = elim (cases_Bool (answers stream.timestamp)) [
   | inl stays ↦ rw (stays, ap answers (sym entry.timestamp) ∙ stays) entry
   | inr goes ↦ rw (goes, ap answers (sym entry.timestamp) ∙ goes) tt
 ]
 
 HoldsTable-filter : {T C : Type 0} (eq : C → C → Bool) (old new : IpDefragPool T C) (table : Table T C)
-    (answers : T → Bool) → HoldsTable eq old table
+    (answers : T → Bool) → HoldsTable eq old table → limit_of new ≡ limit_of old
     → streams_of new ≡ filter (λ s. answers s.timestamp) (streams_of old)
     → HoldsTable eq new (λ name. kept_by answers (table name))
 unfolding stays_if
-HoldsTable-filter eq old new table answers held now =
+HoldsTable-filter eq old new table answers held same now =
     let xs = streams_of old in
     record {
       apart = λ name. rw now
@@ -90,8 +92,8 @@ HoldsTable-filter eq old new table answers held now =
             count_filter (λ s. same_stream eq s.id name) (λ s. answers s.timestamp) xs,
           ));
       each = λ name.
-          rw (now, find_filter (λ s. same_stream eq s.id name) (λ s. answers s.timestamp) xs (held.apart name))
-          (entry_by answers (stream_named eq name old) (table name) (held.each name));
+          rw (same, now, find_filter (λ s. same_stream eq s.id name) (λ s. answers s.timestamp) xs (held.apart name))
+          (entry_by (limit_of old) answers (stream_named eq name old) (table name) (held.each name));
     }
 
 -- what a drop's answers are, where what the map asks of each entry is what keep answers of its timestamp
@@ -101,29 +103,32 @@ module _ {F T C : Type 0} (calls : Shared F (Bor T × Unit {0}) Bool) (keep : F)
     → Keeps test → step test key value answer left next
     → FnReturnsAt calls keep value.timestamp answer × (answer ≡ true → left ≡ value) × Keeps next) where
   stays_or_goes : (entry : IpFragId C × OpenStream T) (answer : Bool) (left : OpenStream T)
-      → (answer ≡ true → left ≡ entry.1) → (rest : IpDefragPool T C) (answers : List Bool) (old : IpDefragPool T C)
-      → streams_of rest ≡ items_where_true answers (streams_of old)
-      → streams_of (cond answer ((entry.0, left) ∷ rest) rest)
-      ≡ items_where_true (answer ∷ answers) (streams_of (entry ∷ old))
+      → (answer ≡ true → left ≡ entry.1) → (rest : List (IpFragId C × OpenStream T)) (answers : List Bool)
+      (old : List (IpFragId C × OpenStream T))
+      → map stream_at rest ≡ items_where_true answers (map stream_at old)
+      → map stream_at (cond answer ((entry.0, left) ∷ rest) rest)
+      ≡ items_where_true (answer ∷ answers) (map stream_at (entry ∷ old))
   stays_or_goes entry true left same rest answers old later = λ i. stream_at (entry.0, same refl i) ∷ later i
   stays_or_goes entry false left same rest answers old later = later
 
-  pub leaves_answered : (test : P) (old new : IpDefragPool T C) → Keeps test → RetainsPairs step test old new
-      → LeavesAnswered calls keep old new
-  leaves_answered test [] new keeps retained = record {
+  pub leaves_answered : (limit : ℕ) (test : P) (old new : List (IpFragId C × OpenStream T)) → Keeps test
+      → RetainsPairs step test old new → LeavesAnswered {C = C} calls keep (limit, old) (limit, new)
+  leaves_answered limit test [] new keeps retained = record {
     answers = [];
     each = tt;
-    left = ap streams_of retained;
+    left = ap (map stream_at) retained;
+    limit = refl;
   }
-  leaves_answered test (entry ∷ old) new keeps retained =
+  leaves_answered limit test (entry ∷ old) new keeps retained =
       let asked = asks test entry.0 entry.1 retained.0 retained.1 retained.2 keeps retained.4 in
-      let later = leaves_answered retained.2 old retained.3 asked.2 retained.5 in
+      let later = leaves_answered limit retained.2 old retained.3 asked.2 retained.5 in
       record {
         answers = retained.0 ∷ later.answers;
         each = (asked.0, later.each);
         left =
-            ap streams_of retained.6
+            ap (map stream_at) retained.6
             ∙ stays_or_goes entry retained.0 retained.1 asked.1 retained.3 later.answers old later.left;
+        limit = refl;
       }
 
 where_true : {X : Type 0} (answer : Bool) (x : X) (answers : List Bool) (xs : List X)
@@ -154,7 +159,7 @@ module _ {F T C : Type 0} (calls : Shared F (Bor T × Unit {0}) Bool) (keep : F)
       → HoldsTable eq old table → LeavesAnswered calls keep old new
       → HoldsTable eq new (λ name. kept_by answers (table name))
   HoldsTable-answered eq old new table held left =
-      HoldsTable-filter eq old new table answers held
+      HoldsTable-filter eq old new table answers held left.limit
       (left.left ∙ answered_filter (streams_of old) left.answers left.each)
 
 -- ---- a drop that decides by the timestamp or not
@@ -214,22 +219,23 @@ module _ {F T C : Type 0} (calls : Shared F (Bor T × Unit {0}) Bool) (keep : F)
   is_some_answered true stream = refl
   is_some_answered false stream = refl
 
-  decided_at : (old new : Option (Stream T C)) → IsDecided calls keep old new → (kept : Kept T)
-      → HoldsEntry old (Some kept) → FnReturnsAt calls keep kept.timestamp (is_some new)
-  decided_at None new decided kept entry = absurd entry
-  decided_at (Some stream) new decided kept entry =
+  decided_at : (limit : ℕ) (old new : Option (Stream T C)) → IsDecided calls keep old new → (kept : Kept T)
+      → HoldsEntry limit old (Some kept) → FnReturnsAt calls keep kept.timestamp (is_some new)
+  decided_at limit None new decided kept entry = absurd entry
+  decided_at limit (Some stream) new decided kept entry =
       rw (ap is_some decided.2 ∙ is_some_answered decided.0 stream, ← entry.timestamp) decided.1
 
-  entry_answered : (answer : Bool) (stream : Stream T C) (kept : Option (Kept T)) → HoldsEntry (Some stream) kept
-      → HoldsEntry (cond answer (Some stream) None) (cond (is_some (cond answer (Some stream) None)) kept None)
-  entry_answered true stream kept entry = entry
-  entry_answered false stream kept entry = tt
+  entry_answered : (limit : ℕ) (answer : Bool) (stream : Stream T C) (kept : Option (Kept T))
+      → HoldsEntry limit (Some stream) kept
+      → HoldsEntry limit (cond answer (Some stream) None) (cond (is_some (cond answer (Some stream) None)) kept None)
+  entry_answered limit true stream kept entry = entry
+  entry_answered limit false stream kept entry = tt
 
-  entry_decided : (old new : Option (Stream T C)) → IsDecided calls keep old new → (kept : Option (Kept T))
-      → HoldsEntry old kept → HoldsEntry new (cond (is_some new) kept None)
-  entry_decided None new decided kept entry = rw decided tt
-  entry_decided (Some stream) new decided kept entry =
-      rw decided.2 (entry_answered decided.0 stream kept entry)
+  entry_decided : (limit : ℕ) (old new : Option (Stream T C)) → IsDecided calls keep old new → (kept : Option (Kept T))
+      → HoldsEntry limit old kept → HoldsEntry limit new (cond (is_some new) kept None)
+  entry_decided limit None new decided kept entry = rw decided tt
+  entry_decided limit (Some stream) new decided kept entry =
+      rw decided.2 (entry_answered limit decided.0 stream kept entry)
 
   -- the pool holds the entries of the streams that it shows
   pub holds_answered : (eq : C → C → Bool) (old new : IpDefragPool T C) (table : Table T C) → HoldsTable eq old table
@@ -240,7 +246,7 @@ module _ {F T C : Type 0} (calls : Shared F (Bor T × Unit {0}) Bool) (keep : F)
       λ name. rw left.left (found_answered (named name) (streams_of old) left.answers left.each (held.apart name)) in
       record {
         stays = λ name. is_some (stream_named eq name new);
-        each = λ name kept is_kept. decided_at (stream_named eq name old) (stream_named eq name new) (decided name) kept
+        each = λ name kept is_kept. decided_at (limit_of old) (stream_named eq name old) (stream_named eq name new) (decided name) kept
             (rw is_kept at (held.each name));
         holds = record {
           apart = λ name. rw left.left
@@ -249,7 +255,8 @@ module _ {F T C : Type 0} (calls : Shared F (Bor T × Unit {0}) Bool) (keep : F)
                 held.apart name,
                 count_answered (named name) (streams_of old) left.answers left.each,
               ));
-          each = λ name. entry_decided (stream_named eq name old) (stream_named eq name new) (decided name)
-              (table name) (held.each name);
+          each = λ name. rw left.limit
+              (entry_decided (limit_of old) (stream_named eq name old) (stream_named eq name new) (decided name)
+              (table name) (held.each name));
         };
       }

@@ -1,5 +1,5 @@
 -- What a fragment does to a pool, in each case of its processing.
-use Rattle.std.proofs.Common.{◌≡◌, Bool, true, false, cond, [], ◌∷◌, Option, Some, None, Result, Ok, Err, sym, refl, ap, ◌∙◌, subst, arith, ◌⊎◌}
+use Rattle.std.proofs.Common.{◌≡◌, ℕ, Bool, true, false, cond, [], ◌∷◌, Option, Some, None, Result, Ok, Err, sym, refl, ap, ◌∙◌, subst, arith, ◌⊎◌}
 use Rattle.std.specs.Option.{option_map}
 use Rattle.std.specs.Cmp.{IsEquivalence}
 use Rattle.std.proofs.lemmas.Bool.{false≢true}
@@ -10,11 +10,11 @@ use Rattle.ep_defrag.specs.declared.ip_defrag_payload_vec.IpDefragPayloadVec.{Ip
 use Rattle.ep_defrag.specs.declared.ip_frag_id.IpFragId.{IpFragId}
 use Rattle.ep_defrag.specs.declared.ip_defrag_pool.IpDefragPool.{IpDefragPool}
 use Rattle.ep_defrag.specs.Fragments.{IpFragment, fragment_end}
-use Rattle.ep_defrag.specs.Refusals.{RefusesFragment, MayNeedMemory}
+use Rattle.ep_defrag.specs.Refusals.{RefusesWithin, MayNeedMemoryWithin}
 use Rattle.ep_defrag.specs.Buffers.{HoldsFragments, ip_number_of, data_of, sections_of, known_end_of, data_after, end_after}
 use Rattle.ep_defrag.specs.Streams.{PacketFragment, same_stream, source_of}
 use Rattle.ep_defrag.specs.Calls.{Kept, Payload, accepted_in, kept_with, payload_handed_out, answer_to_frame, table_with_fragment, table_with_frame, FrameMayNeedMemory}
-use Rattle.ep_defrag.specs.Pools.{Stream, stream_named, HoldsEntry, HoldsTable, TakesFragment, TakesFrame, ChangesStream, BufferTakes, BufferRefuses, IsWhole, plain_payload, plain_frame_answer, payload_in, wants_memory}
+use Rattle.ep_defrag.specs.Pools.{Stream, limit_of, stream_named, HoldsEntry, HoldsTable, TakesFragment, TakesFrame, ChangesStream, BufferTakes, BufferRefuses, IsWhole, plain_payload, plain_frame_answer, payload_in, wants_memory}
 use Rattle.ep_defrag.proofs.Streams.{same_stream_laws}
 use Rattle.ep_defrag.proofs.Tables.{HoldsTable-same, HoldsTable-changed, none_kept, entry_at}
 use Rattle.ep_defrag.proofs.OneFragment.{refused_only, wanting_only, kept_refused, kept_complete, kept_more, answer_refused, answer_complete, answer_nothing, holds_in, entry_keeps, entry_more, entry_whole, entry_refused, answered_nothing, answered_payload, answered_refused}
@@ -37,6 +37,9 @@ if_payload (Some given) payload P shows then =
 
 module _ {T C : Type 0} (eq : C → C → Bool) (laws : IsEquivalence eq) (old new : IpDefragPool T C) (id : IpFragId C)
     (fragment : IpFragment) (timestamp : T) where
+  abbrev limit : ℕ
+  limit = limit_of old
+
   abbrev names : IsEquivalence (same_stream eq)
   names = same_stream_laws eq laws
 
@@ -44,55 +47,62 @@ module _ {T C : Type 0} (eq : C → C → Bool) (laws : IsEquivalence eq) (old n
   module _ (stream next : Stream T C) (there_is : stream_named eq id old ≡ Some stream)
       (same_id : next.id ≡ stream.id) where
     entry_of : (table : IpFragId C → Option (Kept T)) → HoldsTable eq old table → (name : IpFragId C)
-        → same_stream eq id name ≡ true → HoldsEntry (Some stream) (table name)
+        → same_stream eq id name ≡ true → HoldsEntry limit (Some stream) (table name)
     entry_of table held name alike = entry_at eq laws old table held id stream there_is name alike
 
     -- the fragment is refused, or lacks memory
     pub goes_on_refused : ChangesStream eq old new id (Some next) → next.timestamp ≡ stream.timestamp
-        → (error : IpDefragError) → BufferRefuses stream.buffer next.buffer fragment error
+        → (error : IpDefragError) → BufferRefuses limit stream.buffer next.buffer fragment error
         → TakesFragment eq old new id fragment timestamp (Err error)
     goes_on_refused now same_time error refused =
         let number = refused.same.ip_number in
         record {
           answer = λ other table held.
-              answered_refused stream next id fragment (table id) error (entry_of table held id (names.refl id))
-              (λ accepted holds. refused_only accepted fragment error other (refused.why accepted holds));
+              answered_refused limit stream next id fragment (table id) error (entry_of table held id (names.refl id))
+              (λ accepted holds. refused_only limit accepted fragment error other (refused.why accepted holds));
           holds = λ other table held.
-              HoldsTable-changed eq laws old new table (table_with_fragment eq table id fragment timestamp) id
+              HoldsTable-changed eq laws old new table (table_with_fragment limit eq table id fragment timestamp) id
               (Some next) now held (λ name apart. rw apart refl)
               (λ name alike. rw alike
-              (entry_refused stream next fragment timestamp (table name) error (entry_of table held name alike)
-              (λ accepted holds. refused_only accepted fragment error other (refused.why accepted holds))
+              (entry_refused limit stream next fragment timestamp (table name) error (entry_of table held name alike)
+              (λ accepted holds. refused_only limit accepted fragment error other (refused.why accepted holds))
               refused.keeps number same_id same_time));
           memory = λ wants table held.
-              let why = wanting_only (accepted_in (table id)) fragment error wants
+              let why = wanting_only limit (accepted_in (table id)) fragment error wants
               (refused.why (accepted_in (table id))
-              (holds_in stream next (table id) (entry_of table held id (names.refl id)))) in
+              (holds_in limit stream next (table id) (entry_of table held id (names.refl id)))) in
               (why.0, ap Err why.1);
           keeps = λ wants table held.
               HoldsTable-changed eq laws old new table table id (Some next) now held (λ name apart. refl)
               (λ name alike.
-              entry_keeps stream next (table name) (entry_of table held name alike) refused.keeps number same_id
+              entry_keeps limit stream next (table name) (entry_of table held name alike) refused.keeps number same_id
               same_time);
+          room = λ wants found is_found.
+              let same : Some stream ≡ Some found = sym there_is ∙ is_found in
+              let is : stream ≡ found = cc in
+              rw (← is) (refused.room wants);
+          limit = now.limit;
           entry = λ differ. rw (there_is, now.here) (same_id, refused.same, same_time);
           others = now.others;
         }
 
     -- the fragment joins, and more are missing
     pub goes_on_more : ChangesStream eq old new id (Some next) → next.timestamp ≡ timestamp
-        → BufferTakes stream.buffer next.buffer fragment → IsWhole next.buffer false
+        → BufferTakes limit stream.buffer next.buffer fragment → IsWhole next.buffer false
         → TakesFragment eq old new id fragment timestamp (Ok None)
     goes_on_more now time taken partly = record {
       answer = λ other table held.
-          answered_nothing stream next id fragment (table id) (entry_of table held id (names.refl id)) taken partly;
+          answered_nothing limit stream next id fragment (table id) (entry_of table held id (names.refl id)) taken partly;
       holds = λ other table held.
-          HoldsTable-changed eq laws old new table (table_with_fragment eq table id fragment timestamp) id (Some next)
+          HoldsTable-changed eq laws old new table (table_with_fragment limit eq table id fragment timestamp) id (Some next)
           now held (λ name apart. rw apart refl)
           (λ name alike. rw alike
-          (entry_more stream next fragment timestamp (table name) (entry_of table held name alike) taken partly same_id
+          (entry_more limit stream next fragment timestamp (table name) (entry_of table held name alike) taken partly same_id
           time));
       memory = λ wants. absurd (false≢true wants);
       keeps = λ wants. absurd (false≢true wants);
+      room = λ wants. absurd (false≢true wants);
+      limit = now.limit;
       entry = λ differ.
           rw (there_is, now.here)
           (record { contents = taken.contents; sections = taken.sections; end = taken.end; timestamp = time });
@@ -100,7 +110,7 @@ module _ {T C : Type 0} (eq : C → C → Bool) (laws : IsEquivalence eq) (old n
     }
 
     -- the fragment joins, and nothing is missing
-    pub goes_on_whole : ChangesStream eq old new id None → BufferTakes stream.buffer next.buffer fragment
+    pub goes_on_whole : ChangesStream eq old new id None → BufferTakes limit stream.buffer next.buffer fragment
         → IsWhole next.buffer true → (answer : Option IpDefragPayloadVec)
         → option_map plain_payload answer ≡ Some (payload_in id next)
         → TakesFragment eq old new id fragment timestamp (Ok answer)
@@ -110,17 +120,19 @@ module _ {T C : Type 0} (eq : C → C → Bool) (laws : IsEquivalence eq) (old n
         (λ payload is_payload. record {
           answer = λ other table held.
               ap payload_handed_out is_payload
-              ∙ answered_payload stream next id fragment (table id) (entry_of table held id (names.refl id)) taken
+              ∙ answered_payload limit stream next id fragment (table id) (entry_of table held id (names.refl id)) taken
               whole;
           holds = λ other table held.
-              HoldsTable-changed eq laws old new table (table_with_fragment eq table id fragment timestamp) id None now
+              HoldsTable-changed eq laws old new table (table_with_fragment limit eq table id fragment timestamp) id None now
               held (λ name apart. rw apart refl)
               (λ name alike. rw (
                 alike,
-                entry_whole stream next fragment timestamp (table name) (entry_of table held name alike) taken whole,
+                entry_whole limit stream next fragment timestamp (table name) (entry_of table held name alike) taken whole,
               ) tt);
           memory = λ wants. absurd (false≢true wants);
           keeps = λ wants. absurd (false≢true wants);
+          room = λ wants. absurd (false≢true wants);
+          limit = now.limit;
           entry = λ differ. rw there_is (now.here, ap (λ p. p.bytes) is_payload ∙ taken.contents);
           others = now.others;
         })
@@ -140,24 +152,26 @@ module _ {T C : Type 0} (eq : C → C → Bool) (laws : IsEquivalence eq) (old n
 
     -- the fragment is refused, or lacks memory
     pub begins_refused : new ≡ old → (error : IpDefragError)
-        → RefusesFragment [] fragment error
-        ⊎ (MayNeedMemory [] fragment × (error ≡ AllocationFailure (fragment_end fragment)))
+        → RefusesWithin limit [] fragment error
+        ⊎ (MayNeedMemoryWithin limit [] fragment × (error ≡ AllocationFailure (fragment_end fragment)))
         → TakesFragment eq old new id fragment timestamp (Err error)
     begins_refused now error why = record {
       answer = λ other table held.
           rw (none_of table held id (names.refl id))
-          (answer_refused {T = T} id None fragment error (refused_only [] fragment error other why));
+          (answer_refused {T = T} limit id None fragment error (refused_only limit [] fragment error other why));
       holds = λ other table held.
           stays now table _ held
-          (λ name. chosen (same_stream eq id name) (table name) (kept_with (table name) fragment timestamp)
+          (λ name. chosen (same_stream eq id name) (table name) (kept_with limit (table name) fragment timestamp)
           (λ next. next ≡ table name)
           (λ alike. rw (none_of table held name alike)
-          (kept_refused None fragment timestamp error (refused_only [] fragment error other why)))
+          (kept_refused limit None fragment timestamp error (refused_only limit [] fragment error other why)))
           (λ apart. refl));
       memory = λ wants table held.
-          let wanting = wanting_only [] fragment error wants why in
+          let wanting = wanting_only limit [] fragment error wants why in
           rw (none_of table held id (names.refl id)) (wanting.0, ap Err wanting.1);
       keeps = λ wants table held. stays now table table held (λ name. refl);
+      room = λ wants found is_found. let never : None ≡ Some found = sym absent ∙ is_found in absurd (cc);
+      limit = ap limit_of now;
       entry = λ differ. rw (now, absent) tt;
       others = λ name apart. ap (stream_named eq name) now;
     }
@@ -165,7 +179,7 @@ module _ {T C : Type 0} (eq : C → C → Bool) (laws : IsEquivalence eq) (old n
     -- the fragment is the whole payload
     pub begins_whole : new ≡ old → (buffer : IpDefragBuf) (payload : IpDefragPayloadVec)
         → plain_payload payload ≡ payload_in id (record { id = id; buffer = buffer; timestamp = timestamp })
-        → data_of empty ≡ [] → BufferTakes empty buffer fragment → IsWhole buffer true
+        → data_of empty ≡ [] → BufferTakes limit empty buffer fragment → IsWhole buffer true
         → TakesFragment eq old new id fragment timestamp (Ok (Some payload))
     begins_whole now buffer payload is_payload no_data taken whole =
         let fits = taken.fits [] holds_none in
@@ -178,16 +192,18 @@ module _ {T C : Type 0} (eq : C → C → Bool) (laws : IsEquivalence eq) (old n
                 len_source = source_of id.ip;
                 bytes = bytes;
               }) holds.contents)
-              ∙ answer_complete {T = T} id None fragment fits (whole (fragment ∷ []) holds));
+              ∙ answer_complete {T = T} limit id None fragment fits (whole (fragment ∷ []) holds));
           holds = λ other table held.
               stays now table _ held
-              (λ name. chosen (same_stream eq id name) (table name) (kept_with (table name) fragment timestamp)
+              (λ name. chosen (same_stream eq id name) (table name) (kept_with limit (table name) fragment timestamp)
               (λ next. next ≡ table name)
               (λ alike. rw (none_of table held name alike)
-              (kept_complete None fragment timestamp fits (whole (fragment ∷ []) holds)))
+              (kept_complete limit None fragment timestamp fits (whole (fragment ∷ []) holds)))
               (λ apart. refl));
           memory = λ wants. absurd (false≢true wants);
           keeps = λ wants. absurd (false≢true wants);
+          room = λ wants. absurd (false≢true wants);
+          limit = ap limit_of now;
           entry = λ differ.
               rw (now, absent) (
                 refl,
@@ -199,7 +215,7 @@ module _ {T C : Type 0} (eq : C → C → Bool) (laws : IsEquivalence eq) (old n
     -- the stream begins
     pub begins : (stream : Stream T C) → ChangesStream eq old new id (Some stream) → stream.id ≡ id
         → stream.timestamp ≡ timestamp → ip_number_of empty ≡ id.payload_ip_number → data_of empty ≡ []
-        → sections_of empty ≡ [] → known_end_of empty ≡ None → BufferTakes empty stream.buffer fragment
+        → sections_of empty ≡ [] → known_end_of empty ≡ None → BufferTakes limit empty stream.buffer fragment
         → IsWhole stream.buffer false → TakesFragment eq old new id fragment timestamp (Ok None)
     begins stream now named time number no_data no_sections no_end taken partly =
         let fits = taken.fits [] holds_none in
@@ -207,23 +223,26 @@ module _ {T C : Type 0} (eq : C → C → Bool) (laws : IsEquivalence eq) (old n
         record {
           answer = λ other table held.
               rw (none_of table held id (names.refl id))
-              (answer_nothing {T = T} id None fragment fits (partly (fragment ∷ []) holds));
+              (answer_nothing {T = T} limit id None fragment fits (partly (fragment ∷ []) holds));
           holds = λ other table held.
-              HoldsTable-changed eq laws old new table (table_with_fragment eq table id fragment timestamp) id
+              HoldsTable-changed eq laws old new table (table_with_fragment limit eq table id fragment timestamp) id
               (Some stream) now held (λ name apart. rw apart refl)
               (λ name alike. rw (
                 alike,
                 none_of table held name alike,
-                kept_more {T = T} None fragment timestamp fits (partly (fragment ∷ []) holds),
+                kept_more {T = T} limit None fragment timestamp fits (partly (fragment ∷ []) holds),
               )
               (record {
                 buffer = holds;
+                within = (fits, tt);
                 ip_number = taken.ip_number ∙ number ∙ ap (λ (i : IpFragId C). i.payload_ip_number) (sym named);
                 timestamp = time;
                 some = omega arith;
               }));
           memory = λ wants. absurd (false≢true wants);
           keeps = λ wants. absurd (false≢true wants);
+          room = λ wants. absurd (false≢true wants);
+          limit = now.limit;
           entry = λ differ.
               rw (absent, now.here)
               (record {
@@ -240,19 +259,24 @@ module _ {T C : Type 0} (eq : C → C → Bool) (old new : IpDefragPool T C) (ti
     (result : Result (Option IpDefragPayloadVec) IpDefragError) where
   pub frame_answer : (packet : Option PacketFragment) → TakesFrame eq old new packet timestamp channel result
       → wants_memory result ≡ false → (table : IpFragId C → Option (Kept T)) → HoldsTable eq old table
-      → plain_frame_answer result ≡ answer_to_frame table packet channel
+      → plain_frame_answer result ≡ answer_to_frame (limit_of old) table packet channel
   frame_answer None takes other table held = ap plain_frame_answer takes.0
   frame_answer (Some carried) takes other table held = takes.answer other table held
 
   pub frame_holds : (packet : Option PacketFragment) → TakesFrame eq old new packet timestamp channel result
       → wants_memory result ≡ false → (table : IpFragId C → Option (Kept T)) → HoldsTable eq old table
-      → HoldsTable eq new (table_with_frame eq table packet timestamp channel)
+      → HoldsTable eq new (table_with_frame (limit_of old) eq table packet timestamp channel)
   frame_holds None takes other table held = subst (λ pool. HoldsTable eq pool table) (sym takes.1) held
   frame_holds (Some carried) takes other table held = takes.holds other table held
 
   pub frame_memory : (packet : Option PacketFragment) → TakesFrame eq old new packet timestamp channel result
       → wants_memory result ≡ true → (table : IpFragId C → Option (Kept T)) → HoldsTable eq old table
-      → FrameMayNeedMemory table packet channel
+      → FrameMayNeedMemory (limit_of old) table packet channel
   frame_memory None takes wants table held =
       false≢true (sym (ap {B = Bool} wants_memory takes.0) ∙ wants)
   frame_memory (Some carried) takes wants table held = (takes.memory wants table held).0
+
+  pub frame_limit : (packet : Option PacketFragment) → TakesFrame eq old new packet timestamp channel result
+      → limit_of new ≡ limit_of old
+  frame_limit None takes = ap limit_of takes.1
+  frame_limit (Some carried) takes = takes.limit

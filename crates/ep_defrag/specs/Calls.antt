@@ -1,5 +1,6 @@
 -- What a list of calls does to one stream, and what each call is answered. T is the type of timestamps, C that of
--- channels, which eq compares, and V that of what a drop is given; a drop answers a timestamp by keep of its value.
+-- channels, which eq compares, and V that of what a drop is given; a drop answers a timestamp by keep of its value. No
+-- fragment ends behind the limit.
 use Rattle.std.specs.Prelude.{ℕ, Bool, true, false, if◌then◌else◌, Option, Some, None, List, [], ◌∷◌, ◌++◌}
 use Rattle.std.specs.List.{filter}
 use Rattle.ep_base.specs.declared.ip_number.IpNumber.{IpNumber}
@@ -7,7 +8,7 @@ use Rattle.ep_base.specs.declared.len_source.LenSource.{LenSource}
 use Rattle.ep_defrag.specs.declared.ip_defrag_error.IpDefragError.{IpDefragError}
 use Rattle.ep_defrag.specs.declared.ip_frag_id.IpFragId.{IpFragId}
 use Rattle.ep_defrag.specs.Fragments.{IpFragment, assembled, is_complete}
-use Rattle.ep_defrag.specs.Refusals.{refusal_of, MayNeedMemory}
+use Rattle.ep_defrag.specs.Refusals.{refusal_within, MayNeedMemoryWithin}
 use Rattle.ep_defrag.specs.Streams.{PacketFragment, name_of, same_stream, source_of}
 
 -- What a call brings: a frame, with the fragment that it carries, if any, its timestamp and its channel; a drop, with
@@ -39,8 +40,9 @@ abbrev pub kept_unless : {T : Type 0} → Option IpDefragError → Option (Kept 
 kept_unless (Some error) kept fragment timestamp = kept
 kept_unless None kept fragment timestamp = kept_of (accepted_in kept ++ fragment ∷ []) timestamp
 
-abbrev pub kept_with : {T : Type 0} → Option (Kept T) → IpFragment → T → Option (Kept T)
-kept_with kept fragment timestamp = kept_unless (refusal_of (accepted_in kept) fragment) kept fragment timestamp
+abbrev pub kept_with : {T : Type 0} → ℕ → Option (Kept T) → IpFragment → T → Option (Kept T)
+kept_with limit kept fragment timestamp =
+    kept_unless (refusal_within limit (accepted_in kept) fragment) kept fragment timestamp
 
 -- what is kept after a drop, which answers timestamps: nothing where the kept one is answered false
 abbrev pub kept_by : {T : Type 0} → (T → Bool) → Option (Kept T) → Option (Kept T)
@@ -48,19 +50,21 @@ kept_by answers None = None
 kept_by answers (Some kept) = if answers kept.timestamp then Some kept else None
 
 -- what is kept of a stream after a call that concerns it
-abbrev pub kept_after : {T C V : Type 0} → (V → T → Bool) → Option (Kept T) → Call T C V → Option (Kept T)
-kept_after keep kept (gives_frame None timestamp channel) = kept
-kept_after keep kept (gives_frame (Some carried) timestamp channel) = kept_with kept carried.fragment timestamp
-kept_after keep kept (drops_streams value) = kept_by (keep value) kept
-kept_after keep kept returns_buffer = kept
+abbrev pub kept_after : {T C V : Type 0} → ℕ → (V → T → Bool) → Option (Kept T) → Call T C V → Option (Kept T)
+kept_after limit keep kept (gives_frame None timestamp channel) = kept
+kept_after limit keep kept (gives_frame (Some carried) timestamp channel) =
+    kept_with limit kept carried.fragment timestamp
+kept_after limit keep kept (drops_streams value) = kept_by (keep value) kept
+kept_after limit keep kept returns_buffer = kept
 
-abbrev pub kept_after_all : {T C V : Type 0} → (V → T → Bool) → Option (Kept T) → List (Call T C V) → Option (Kept T)
-kept_after_all keep kept [] = kept
-kept_after_all keep kept (call ∷ calls) = kept_after_all keep (kept_after keep kept call) calls
+abbrev pub kept_after_all : {T C V : Type 0} → ℕ → (V → T → Bool) → Option (Kept T) → List (Call T C V)
+    → Option (Kept T)
+kept_after_all limit keep kept [] = kept
+kept_after_all limit keep kept (call ∷ calls) = kept_after_all limit keep (kept_after limit keep kept call) calls
 
 -- what is kept of a stream after all calls that concern it
-abbrev pub accepted_by : {T C V : Type 0} → (V → T → Bool) → List (Call T C V) → Option (Kept T)
-accepted_by keep calls = kept_after_all keep None calls
+abbrev pub accepted_by : {T C V : Type 0} → ℕ → (V → T → Bool) → List (Call T C V) → Option (Kept T)
+accepted_by limit keep calls = kept_after_all limit keep None calls
 
 -- whether a call concerns a stream: a frame with a fragment of that stream, or any drop
 abbrev pub concerns : {T C V : Type 0} → (C → C → Bool) → IpFragId C → Call T C V → Bool
@@ -75,9 +79,9 @@ calls_of eq name calls = filter (concerns eq name) calls
 
 -- What is kept of each stream after a list of calls on a new pool. It is a function of the calls that concern that
 -- stream alone.
-abbrev pub table_after : {T C V : Type 0} → (C → C → Bool) → (V → T → Bool) → List (Call T C V)
+abbrev pub table_after : {T C V : Type 0} → ℕ → (C → C → Bool) → (V → T → Bool) → List (Call T C V)
     → IpFragId C → Option (Kept T)
-table_after eq keep calls name = accepted_by keep (calls_of eq name calls)
+table_after limit eq keep calls name = accepted_by limit keep (calls_of eq name calls)
 
 -- a payload that is handed out
 pub record Payload : Type 0 where
@@ -107,63 +111,66 @@ answer_unless (Some error) name accepted = fragment_refused error
 answer_unless None name accepted =
     if is_complete accepted then payload_handed_out (payload_of name accepted) else nothing_handed_out
 
-abbrev pub answer_with : {T C : Type 0} → IpFragId C → Option (Kept T) → IpFragment → Answer
-answer_with name kept fragment =
-    answer_unless (refusal_of (accepted_in kept) fragment) name (accepted_in kept ++ fragment ∷ [])
+abbrev pub answer_with : {T C : Type 0} → ℕ → IpFragId C → Option (Kept T) → IpFragment → Answer
+answer_with limit name kept fragment =
+    answer_unless (refusal_within limit (accepted_in kept) fragment) name (accepted_in kept ++ fragment ∷ [])
 
 -- the answer to a frame: nothing where it carries no fragment
-abbrev pub answer_to_frame : {T C : Type 0} → (IpFragId C → Option (Kept T)) → Option PacketFragment → C → Answer
-answer_to_frame table None channel = nothing_handed_out
-answer_to_frame table (Some carried) channel =
-    answer_with (name_of carried channel) (table (name_of carried channel)) carried.fragment
+abbrev pub answer_to_frame : {T C : Type 0} → ℕ → (IpFragId C → Option (Kept T)) → Option PacketFragment → C → Answer
+answer_to_frame limit table None channel = nothing_handed_out
+answer_to_frame limit table (Some carried) channel =
+    answer_with limit (name_of carried channel) (table (name_of carried channel)) carried.fragment
 
 -- the answer to a call on a pool with this table
-abbrev pub answer_to : {T C V : Type 0} → (IpFragId C → Option (Kept T)) → Call T C V → Answer
-answer_to table (gives_frame carried timestamp channel) = answer_to_frame table carried channel
-answer_to table (drops_streams value) = streams_dropped
-answer_to table returns_buffer = buffer_returned
+abbrev pub answer_to : {T C V : Type 0} → ℕ → (IpFragId C → Option (Kept T)) → Call T C V → Answer
+answer_to limit table (gives_frame carried timestamp channel) = answer_to_frame limit table carried channel
+answer_to limit table (drops_streams value) = streams_dropped
+answer_to limit table returns_buffer = buffer_returned
 
 -- the answer to each call, where the earlier ones were made on a new pool
-abbrev pub answers_after : {T C V : Type 0} → (C → C → Bool) → (V → T → Bool) → List (Call T C V) → List (Call T C V)
-    → List Answer
-answers_after eq keep earlier [] = []
-answers_after eq keep earlier (call ∷ calls) =
-    answer_to (table_after eq keep earlier) call ∷ answers_after eq keep (earlier ++ call ∷ []) calls
+abbrev pub answers_after : {T C V : Type 0} → ℕ → (C → C → Bool) → (V → T → Bool) → List (Call T C V)
+    → List (Call T C V) → List Answer
+answers_after limit eq keep earlier [] = []
+answers_after limit eq keep earlier (call ∷ calls) =
+    answer_to limit (table_after limit eq keep earlier) call ∷ answers_after limit eq keep (earlier ++ call ∷ []) calls
 
 -- the answer to each of a list of calls on a new pool
-abbrev pub answers_to : {T C V : Type 0} → (C → C → Bool) → (V → T → Bool) → List (Call T C V) → List Answer
-answers_to eq keep calls = answers_after eq keep [] calls
+abbrev pub answers_to : {T C V : Type 0} → ℕ → (C → C → Bool) → (V → T → Bool) → List (Call T C V) → List Answer
+answers_to limit eq keep calls = answers_after limit eq keep [] calls
 
 -- The table after one more fragment, frame or call: the entry of each stream that it concerns has changed, and no
 -- other.
-abbrev pub table_with_fragment : {T C : Type 0} → (C → C → Bool) → (IpFragId C → Option (Kept T))
+abbrev pub table_with_fragment : {T C : Type 0} → ℕ → (C → C → Bool) → (IpFragId C → Option (Kept T))
     → IpFragId C → IpFragment → T → IpFragId C → Option (Kept T)
-table_with_fragment eq table id fragment timestamp name =
-    if same_stream eq id name then kept_with (table name) fragment timestamp else table name
+table_with_fragment limit eq table id fragment timestamp name =
+    if same_stream eq id name then kept_with limit (table name) fragment timestamp else table name
 
-abbrev pub table_with_frame : {T C : Type 0} → (C → C → Bool) → (IpFragId C → Option (Kept T))
+abbrev pub table_with_frame : {T C : Type 0} → ℕ → (C → C → Bool) → (IpFragId C → Option (Kept T))
     → Option PacketFragment → T → C → IpFragId C → Option (Kept T)
-table_with_frame eq table None timestamp channel = table
-table_with_frame eq table (Some carried) timestamp channel =
-    table_with_fragment eq table (name_of carried channel) carried.fragment timestamp
+table_with_frame limit eq table None timestamp channel = table
+table_with_frame limit eq table (Some carried) timestamp channel =
+    table_with_fragment limit eq table (name_of carried channel) carried.fragment timestamp
 
-abbrev pub table_with : {T C V : Type 0} → (C → C → Bool) → (V → T → Bool) → (IpFragId C → Option (Kept T))
+abbrev pub table_with : {T C V : Type 0} → ℕ → (C → C → Bool) → (V → T → Bool) → (IpFragId C → Option (Kept T))
     → Call T C V → IpFragId C → Option (Kept T)
-table_with eq keep table (gives_frame carried timestamp channel) = table_with_frame eq table carried timestamp channel
-table_with eq keep table (drops_streams value) = λ name. kept_by (keep value) (table name)
-table_with eq keep table returns_buffer = table
+table_with limit eq keep table (gives_frame carried timestamp channel) =
+    table_with_frame limit eq table carried timestamp channel
+table_with limit eq keep table (drops_streams value) = λ name. kept_by (keep value) (table name)
+table_with limit eq keep table returns_buffer = table
 
 -- Memory may be wanting for a frame only where it carries a fragment that fits and is not in place.
-abbrev pub FrameMayNeedMemory : {T C : Type 0} → (IpFragId C → Option (Kept T)) → Option PacketFragment → C → Type 0
-FrameMayNeedMemory table None channel = ⊥
-FrameMayNeedMemory table (Some carried) channel =
-    MayNeedMemory (accepted_in (table (name_of carried channel))) carried.fragment
+abbrev pub FrameMayNeedMemory : {T C : Type 0} → ℕ → (IpFragId C → Option (Kept T)) → Option PacketFragment → C
+    → Type 0
+FrameMayNeedMemory limit table None channel = ⊥
+FrameMayNeedMemory limit table (Some carried) channel =
+    MayNeedMemoryWithin limit (accepted_in (table (name_of carried channel))) carried.fragment
 
 -- for a call only where it is such a frame
-abbrev pub CallMayNeedMemory : {T C V : Type 0} → (IpFragId C → Option (Kept T)) → Call T C V → Type 0
-CallMayNeedMemory table (gives_frame carried timestamp channel) = FrameMayNeedMemory table carried channel
-CallMayNeedMemory table (drops_streams value) = ⊥
-CallMayNeedMemory table returns_buffer = ⊥
+abbrev pub CallMayNeedMemory : {T C V : Type 0} → ℕ → (IpFragId C → Option (Kept T)) → Call T C V → Type 0
+CallMayNeedMemory limit table (gives_frame carried timestamp channel) =
+    FrameMayNeedMemory limit table carried channel
+CallMayNeedMemory limit table (drops_streams value) = ⊥
+CallMayNeedMemory limit table returns_buffer = ⊥
 
 -- the fragments of a call's stream since it last began, with the call's own; none where it brings no fragment
 abbrev pub accepted_at : {T C V : Type 0} → (IpFragId C → Option (Kept T)) → Call T C V → List IpFragment

@@ -8,7 +8,7 @@ use Rattle.ep_packet.specs.Frame.{IsFrame}
 use Rattle.ep_packet.specs.Layers.{Layers}
 use Rattle.ep_defrag.specs.declared.ip_frag_id.IpFragId.{IpFragId}
 use Rattle.ep_defrag.specs.Fragments.{IpFragment, fragment_with, reach_of, end_of, is_complete, IsComplete}
-use Rattle.ep_defrag.specs.Refusals.{Fits}
+use Rattle.ep_defrag.specs.Refusals.{FitsWithin}
 use Rattle.ep_defrag.specs.Streams.{PacketFragment, packet_fragment, name_of}
 use Rattle.ep_defrag.specs.Calls.{Kept, payload_of, payload_handed_out, nothing_handed_out, answer_to_frame, table_with_frame}
 
@@ -41,9 +41,9 @@ is_part fragment = fragment.more || nat_lt 0 fragment.offset
 
 -- Both fragments fit in turn, and complete the list. A frame can carry the first as a fragment, and the second too,
 -- unless the first alone completes the list.
-pub record CompleteInTurn (accepted : List IpFragment) (first second : IpFragment) : Type 0 where
-  pub first_fits : Fits accepted first
-  pub second_fits : Fits (accepted ++ first ∷ []) second
+pub record CompleteInTurn (limit : ℕ) (accepted : List IpFragment) (first second : IpFragment) : Type 0 where
+  pub first_fits : FitsWithin limit accepted first
+  pub second_fits : FitsWithin limit (accepted ++ first ∷ []) second
   pub complete : IsComplete (accepted ++ first ∷ second ∷ [])
   pub first_part : IsTrue (is_part first)
   pub second_part : IsTrue (is_complete (accepted ++ first ∷ [])) ⊎ IsTrue (is_part second)
@@ -74,19 +74,21 @@ CarriesOf seen fragment frame =
     frame.found ≡ record seen.found { offset = fragment.offset; more = fragment.more; bytes = fragment.bytes }
 
 -- the answer to a frame is what these fragments of its stream put together
-abbrev pub HandsOutAll : {T C : Type 0} → (IpFragId C → Option (Kept T)) → FragmentFrame → C → List IpFragment → Type 0
-HandsOutAll table frame channel fragments =
-    answer_to_frame table (given_by frame) channel ≡ payload_handed_out (payload_of (name_in frame channel) fragments)
+abbrev pub HandsOutAll : {T C : Type 0} → ℕ → (IpFragId C → Option (Kept T)) → FragmentFrame → C → List IpFragment
+    → Type 0
+HandsOutAll limit table frame channel fragments =
+    answer_to_frame limit table (given_by frame) channel
+    ≡ payload_handed_out (payload_of (name_in frame channel) fragments)
 
 -- A frame that carries the first fragment hands the payload out; or it hands nothing out, and then one that carries the
 -- second does. The bytes are those that came, with those of the two on top.
-pub record FramesComplete {T C : Type 0} (eq : C → C → Bool) (table : IpFragId C → Option (Kept T))
+pub record FramesComplete {T C : Type 0} (limit : ℕ) (eq : C → C → Bool) (table : IpFragId C → Option (Kept T))
     (seen : FragmentFrame) (channel : C) (timestamp : T) (accepted : List IpFragment) (first second : IpFragment)
     : Type 0 where
   pub frame : FragmentFrame
   pub is_first : CarriesOf seen first frame
-  pub hands_out : HandsOutAll table frame channel (accepted ++ first ∷ [])
-      ⊎ ((answer_to_frame table (given_by frame) channel ≡ nothing_handed_out)
+  pub hands_out : HandsOutAll limit table frame channel (accepted ++ first ∷ [])
+      ⊎ ((answer_to_frame limit table (given_by frame) channel ≡ nothing_handed_out)
       × ((last : FragmentFrame) × CarriesOf seen second last
-      × HandsOutAll (table_with_frame eq table (given_by frame) timestamp channel) last channel
+      × HandsOutAll limit (table_with_frame limit eq table (given_by frame) timestamp channel) last channel
       (accepted ++ first ∷ second ∷ [])))

@@ -1,6 +1,6 @@
 -- Frames of bytes among the calls on a pool: what each call is read as, and what each is answered. A frame is read by
 -- its entry and its bytes alone, as a packet's layers or as bytes that are none.
-use Rattle.std.specs.Prelude.{◌≡◌, Bool, false, Option, Result, Ok, Err, List, [], ◌∷◌, ◌++◌}
+use Rattle.std.specs.Prelude.{◌≡◌, ℕ, Bool, false, Option, Result, Ok, Err, List, [], ◌∷◌, ◌++◌}
 use Rattle.std.specs.List.{AllZip}
 use Rattle.std.specs.Option.{option_map}
 use Rattle.ep_base.specs.Bytes.{AreBytes}
@@ -53,24 +53,24 @@ pub data ReadAnswer : Type 0 where
   pool_answers : Answer → ReadAnswer
 
 -- the answer to a call, on a pool with this table
-abbrev pub read_answer_to : {T C V : Type 0} → (IpFragId C → Option (Kept T)) → ReadCall T C V → ReadAnswer
-read_answer_to table (calls_pool brought) = pool_answers (answer_to table brought)
-read_answer_to table (refuses_frame error) = not_sliced error
+abbrev pub read_answer_to : {T C V : Type 0} → ℕ → (IpFragId C → Option (Kept T)) → ReadCall T C V → ReadAnswer
+read_answer_to limit table (calls_pool brought) = pool_answers (answer_to limit table brought)
+read_answer_to limit table (refuses_frame error) = not_sliced error
 
 -- the answer to each call, where the earlier ones were made on a new pool
-abbrev pub frame_answers_after : {T C V : Type 0} → (C → C → Bool) → (V → T → Bool) → List (Call T C V)
+abbrev pub frame_answers_after : {T C V : Type 0} → ℕ → (C → C → Bool) → (V → T → Bool) → List (Call T C V)
     → List (ReadCall T C V) → List ReadAnswer
-frame_answers_after eq keep earlier [] = []
-frame_answers_after eq keep earlier (calls_pool brought ∷ reads) =
-    pool_answers (answer_to (table_after eq keep earlier) brought)
-    ∷ frame_answers_after eq keep (earlier ++ brought ∷ []) reads
-frame_answers_after eq keep earlier (refuses_frame error ∷ reads) =
-    not_sliced error ∷ frame_answers_after eq keep earlier reads
+frame_answers_after limit eq keep earlier [] = []
+frame_answers_after limit eq keep earlier (calls_pool brought ∷ reads) =
+    pool_answers (answer_to limit (table_after limit eq keep earlier) brought)
+    ∷ frame_answers_after limit eq keep (earlier ++ brought ∷ []) reads
+frame_answers_after limit eq keep earlier (refuses_frame error ∷ reads) =
+    not_sliced error ∷ frame_answers_after limit eq keep earlier reads
 
 -- the answer to each of a list of calls on a new pool
-abbrev pub frame_answers_to : {T C V : Type 0} → (C → C → Bool) → (V → T → Bool) → List (ReadCall T C V)
+abbrev pub frame_answers_to : {T C V : Type 0} → ℕ → (C → C → Bool) → (V → T → Bool) → List (ReadCall T C V)
     → List ReadAnswer
-frame_answers_to eq keep reads = frame_answers_after eq keep [] reads
+frame_answers_to limit eq keep reads = frame_answers_after limit eq keep [] reads
 
 -- the pool's answers among these, in their order
 abbrev pub pool_answers_in : List ReadAnswer → List Answer
@@ -84,9 +84,9 @@ IfPoolHandsOut (not_sliced error) holds = Unit {0}
 IfPoolHandsOut (pool_answers given) holds = IfHandedOut given holds
 
 -- Memory may be wanting for a call only where it is read as a call on the pool for which it may.
-abbrev pub FrameCallMayNeedMemory : {T C V : Type 0} → (IpFragId C → Option (Kept T)) → FrameCall T C V → Type 0
-FrameCallMayNeedMemory {T} {C} {V} table call =
-    (brought : Call T C V) × IsReadAs call (calls_pool brought) × CallMayNeedMemory table brought
+abbrev pub FrameCallMayNeedMemory : {T C V : Type 0} → ℕ → (IpFragId C → Option (Kept T)) → FrameCall T C V → Type 0
+FrameCallMayNeedMemory {T} {C} {V} limit table call =
+    (brought : Call T C V) × IsReadAs call (calls_pool brought) × CallMayNeedMemory limit table brought
 
 -- what an answer shows
 abbrev pub read_answer : FrameAnswer → ReadAnswer
@@ -117,7 +117,7 @@ read_of (Ok brought) = calls_pool (plain_call brought)
 read_of (Err error) = refuses_frame error
 
 -- the table after one more call
-abbrev pub table_with_read : {T C V : Type 0} → (C → C → Bool) → (V → T → Bool) → (IpFragId C → Option (Kept T))
-    → ReadCall T C V → IpFragId C → Option (Kept T)
-table_with_read eq keep table (calls_pool brought) = table_with eq keep table brought
-table_with_read eq keep table (refuses_frame error) = table
+abbrev pub table_with_read : {T C V : Type 0} → ℕ → (C → C → Bool) → (V → T → Bool)
+    → (IpFragId C → Option (Kept T)) → ReadCall T C V → IpFragId C → Option (Kept T)
+table_with_read limit eq keep table (calls_pool brought) = table_with limit eq keep table brought
+table_with_read limit eq keep table (refuses_frame error) = table

@@ -22,8 +22,9 @@ use Rattle.ep_defrag.specs.declared.pool_run.PoolCall.TheVariants as call
 use Rattle.ep_defrag.specs.declared.pool_run.PoolAnswer.{PoolAnswer}
 use Rattle.ep_defrag.specs.declared.pool_run.PoolAnswer.TheVariants as answer
 use Rattle.ep_defrag.specs.Fragments.{IpFragment, fragment_end, range_of, is_complete}
-use Rattle.ep_defrag.specs.Refusals.{Fits, RefusesFragment, MayNeedMemory, is_want_of_memory}
+use Rattle.ep_defrag.specs.Refusals.{FitsWithin, FitInTurnWithin, RefusesWithin, MayNeedMemoryWithin, is_want_of_memory}
 use Rattle.ep_defrag.specs.Buffers.{HoldsFragments, IsUnchanged, ip_number_of, data_of, sections_of, known_end_of, data_after, sections_after, end_after}
+use Rattle.ep_defrag.specs.Rooms.{LacksRoom}
 use Rattle.ep_defrag.specs.Streams.{PacketFragment, packet_fragment, name_of, same_stream, source_of}
 use Rattle.ep_defrag.specs.Calls.{Kept, accepted_in, answer_with, table_with_fragment, Call, gives_frame, drops_streams, returns_buffer, Payload, Answer, fragment_refused, payload_handed_out, nothing_handed_out, streams_dropped, buffer_returned}
 
@@ -35,13 +36,16 @@ pub record Stream (T C : Type 0) : Type 0 where
   pub buffer : IpDefragBuf
   pub timestamp : T
 
--- a pool is seen as its names with what each one has
+-- A pool is seen as its limit, and its names with what each one has.
+abbrev pub limit_of : {T C : Type 0} → IpDefragPool T C → ℕ
+limit_of pool = pool.0
+
 abbrev pub stream_at : {T C : Type 0} → IpFragId C × OpenStream T → Stream T C
 stream_at entry = record { id = entry.0; buffer = entry.1.buffer; timestamp = entry.1.timestamp }
 
 -- the streams of a pool, in no promised order
 abbrev pub streams_of : {T C : Type 0} → IpDefragPool T C → List (Stream T C)
-streams_of pool = map stream_at pool
+streams_of pool = map stream_at pool.1
 
 -- the stream of a name
 abbrev pub stream_named : {T C : Type 0} → (C → C → Bool) → IpFragId C → IpDefragPool T C → Option (Stream T C)
@@ -53,25 +57,26 @@ NamesDiffer {C = C} eq pool =
     (name : IpFragId C) → count_by (λ stream. same_stream eq stream.id name) (streams_of pool) ≤ 1
 
 -- A stream has what is kept of it: a buffer of the name's payload that holds the accepted fragments, of which there are
--- some, and the timestamp.
-pub record HoldsStream {T C : Type 0} (stream : Stream T C) (kept : Kept T) : Type 0 where
+-- some and each of which fits within the limit, and the timestamp.
+pub record HoldsStream {T C : Type 0} (limit : ℕ) (stream : Stream T C) (kept : Kept T) : Type 0 where
   pub buffer : HoldsFragments stream.buffer kept.accepted
+  pub within : FitInTurnWithin limit kept.accepted
   pub ip_number : ip_number_of stream.buffer ≡ stream.id.payload_ip_number
   pub timestamp : stream.timestamp ≡ kept.timestamp
   pub some : 0 < length kept.accepted
 
 -- there is a stream exactly where something is kept
-abbrev pub HoldsEntry : {T C : Type 0} → Option (Stream T C) → Option (Kept T) → Type 0
-HoldsEntry None None = Unit {0}
-HoldsEntry None (Some kept) = ⊥
-HoldsEntry (Some stream) None = ⊥
-HoldsEntry (Some stream) (Some kept) = HoldsStream stream kept
+abbrev pub HoldsEntry : {T C : Type 0} → ℕ → Option (Stream T C) → Option (Kept T) → Type 0
+HoldsEntry limit None None = Unit {0}
+HoldsEntry limit None (Some kept) = ⊥
+HoldsEntry limit (Some stream) None = ⊥
+HoldsEntry limit (Some stream) (Some kept) = HoldsStream limit stream kept
 
 -- The pool holds the table: it has one stream for each name of which something is kept, and no other.
 pub record HoldsTable {T C : Type 0} (eq : C → C → Bool) (pool : IpDefragPool T C)
     (table : IpFragId C → Option (Kept T)) : Type 0 where
   pub apart : NamesDiffer eq pool
-  pub each : (name : IpFragId C) → HoldsEntry (stream_named eq name pool) (table name)
+  pub each : (name : IpFragId C) → HoldsEntry (limit_of pool) (stream_named eq name pool) (table name)
 
 -- ---- what a fragment changes, by what the pool shows
 
@@ -129,12 +134,13 @@ AnswersEach calls keep (stream ∷ streams) [] = ⊥
 AnswersEach calls keep (stream ∷ streams) (answer ∷ answers) =
     FnReturnsAt calls keep stream.timestamp answer × AnswersEach calls keep streams answers
 
--- those streams are left that the drop answered true
+-- those streams are left that the drop answered true, and the limit
 pub record LeavesAnswered {F T C : Type 0} (calls : Shared F (Bor T × Unit {0}) Bool) (keep : F)
     (old new : IpDefragPool T C) : Type 0 where
   pub answers : List Bool
   pub each : AnswersEach calls keep (streams_of old) answers
   pub left : streams_of new ≡ items_where_true answers (streams_of old)
+  pub limit : limit_of new ≡ limit_of old
 
 -- Of what the pool held, it holds the entries that stay. An answer of the drop to the entry's timestamp decides each.
 pub record HoldsAnswered {F T C : Type 0} (eq : C → C → Bool) (calls : Shared F (Bor T × Unit {0}) Bool) (keep : F)
@@ -211,14 +217,20 @@ pub record TakesFragment {T C : Type 0} (eq : C → C → Bool) (old new : IpDef
     (fragment : IpFragment) (timestamp : T) (result : Result (Option IpDefragPayloadVec) IpDefragError) : Type 0 where
   -- The fragment is answered as if its stream were alone, and the entry of that stream alone has changed.
   pub answer : IsFalse (wants_memory result) → (table : IpFragId C → Option (Kept T)) → HoldsTable eq old table
-      → plain_frame_answer result ≡ answer_with id (table id) fragment
+      → plain_frame_answer result ≡ answer_with (limit_of old) id (table id) fragment
   pub holds : IsFalse (wants_memory result) → (table : IpFragId C → Option (Kept T)) → HoldsTable eq old table
-      → HoldsTable eq new (table_with_fragment eq table id fragment timestamp)
+      → HoldsTable eq new (table_with_fragment (limit_of old) eq table id fragment timestamp)
   -- Want of memory comes for a fragment that fits and is not in place, and changes nothing.
   pub memory : IsTrue (wants_memory result) → (table : IpFragId C → Option (Kept T)) → HoldsTable eq old table
-      → MayNeedMemory (accepted_in (table id)) fragment × (result ≡ Err (AllocationFailure (fragment_end fragment)))
+      → MayNeedMemoryWithin (limit_of old) (accepted_in (table id)) fragment
+      × (result ≡ Err (AllocationFailure (fragment_end fragment)))
   pub keeps : IsTrue (wants_memory result) → (table : IpFragId C → Option (Kept T)) → HoldsTable eq old table
       → HoldsTable eq new table
+  -- For a stream that has begun it comes only where its buffer has too little room.
+  pub room : IsTrue (wants_memory result) → (stream : Stream T C) → stream_named eq id old ≡ Some stream
+      → LacksRoom stream.buffer fragment
+  -- The limit stays.
+  pub limit : limit_of new ≡ limit_of old
   -- The same by what the pool shows.
   pub entry : NamesDiffer eq old
       → BecomesEntry result (stream_named eq id old) fragment timestamp (stream_named eq id new)
@@ -235,8 +247,8 @@ TakesFrame eq old new (Some carried) timestamp channel result =
 -- ---- the steps of it
 
 -- A buffer takes a fragment.
-pub record BufferTakes (old new : IpDefragBuf) (fragment : IpFragment) : Type 0 where
-  pub fits : (accepted : List IpFragment) → HoldsFragments old accepted → Fits accepted fragment
+pub record BufferTakes (limit : ℕ) (old new : IpDefragBuf) (fragment : IpFragment) : Type 0 where
+  pub fits : (accepted : List IpFragment) → HoldsFragments old accepted → FitsWithin limit accepted fragment
   pub holds : (accepted : List IpFragment) → HoldsFragments old accepted
       → HoldsFragments new (accepted ++ fragment ∷ [])
   pub contents : data_of new ≡ data_after (data_of old) fragment
@@ -245,12 +257,14 @@ pub record BufferTakes (old new : IpDefragBuf) (fragment : IpFragment) : Type 0 
   pub ip_number : ip_number_of new ≡ ip_number_of old
 
 -- A buffer refuses a fragment, or lacks memory for it.
-pub record BufferRefuses (old new : IpDefragBuf) (fragment : IpFragment) (error : IpDefragError) : Type 0 where
+pub record BufferRefuses (limit : ℕ) (old new : IpDefragBuf) (fragment : IpFragment) (error : IpDefragError)
+    : Type 0 where
   pub why : (accepted : List IpFragment) → HoldsFragments old accepted
-      → RefusesFragment accepted fragment error
-      ⊎ (MayNeedMemory accepted fragment × (error ≡ AllocationFailure (fragment_end fragment)))
+      → RefusesWithin limit accepted fragment error
+      ⊎ (MayNeedMemoryWithin limit accepted fragment × (error ≡ AllocationFailure (fragment_end fragment)))
   pub keeps : (accepted : List IpFragment) → HoldsFragments old accepted → HoldsFragments new accepted
   pub same : IsUnchanged old new
+  pub room : IsTrue (is_want_of_memory error) → LacksRoom old fragment
 
 -- whether what the buffer holds is complete is this
 abbrev pub IsWhole : IpDefragBuf → Bool → Type 0
@@ -263,6 +277,7 @@ pub record ChangesStream {T C : Type 0} (eq : C → C → Bool) (old new : IpDef
   pub others : (other : IpFragId C) → IsFalse (same_stream eq name other)
       → stream_named eq other new ≡ stream_named eq other old
   pub apart : NamesDiffer eq new
+  pub limit : limit_of new ≡ limit_of old
 
 -- the payload that a stream holds
 abbrev pub payload_in : {T C : Type 0} → IpFragId C → Stream T C → Payload

@@ -1,4 +1,5 @@
--- When a fragment is accepted after others, with which error it is refused, and when it needs no memory.
+-- When a fragment is accepted after others, with which error it is refused, and when it needs no memory. No fragment ends
+-- behind a limit. The words with `within` take it; the others are the same for 65535, which is the limit of a buffer.
 use Rattle.std.specs.Prelude.{◌≡◌, ℕ, ◌%◌, ◌≤◌, Bool, true, false, not, ◌&&◌, ◌||◌, ◌==◌, nat_lt, Option, Some, None, List, [], ◌∷◌, ◌++◌, length, IsTrue}
 use Rattle.ep_base.specs.Tables.{first_row}
 use Rattle.ep_defrag.specs.declared.ip_defrag_error.IpDefragError.{IpDefragError}
@@ -26,35 +27,51 @@ end_row (Some known_end) reach fragment =
     (conflicts_with known_end fragment, ConflictingEnd known_end (fragment_end fragment))
 
 -- When a fragment is refused where the end is known or not, and what came reaches so far, and with which error.
-abbrev pub fragment_rows : Option ℕ → ℕ → IpFragment → List (Bool × IpDefragError)
-fragment_rows known_end reach fragment =
-    (nat_lt 65535 (fragment_end fragment), SegmentTooBig fragment.offset (length fragment.bytes) 65535)
+abbrev pub fragment_rows : ℕ → Option ℕ → ℕ → IpFragment → List (Bool × IpDefragError)
+fragment_rows limit known_end reach fragment =
+    (nat_lt limit (fragment_end fragment), SegmentTooBig fragment.offset (length fragment.bytes) limit)
     ∷ (is_unaligned fragment, UnalignedFragmentPayloadLen fragment.offset (length fragment.bytes))
     ∷ end_row known_end reach fragment
     ∷ []
 
 -- The refusal of a fragment: the error of the first row that holds, and none where it fits.
+abbrev pub refusal_at_within : ℕ → Option ℕ → ℕ → IpFragment → Option IpDefragError
+refusal_at_within limit known_end reach fragment = first_row (fragment_rows limit known_end reach fragment)
+
 abbrev pub refusal_at : Option ℕ → ℕ → IpFragment → Option IpDefragError
-refusal_at known_end reach fragment = first_row (fragment_rows known_end reach fragment)
+refusal_at known_end reach fragment = refusal_at_within 65535 known_end reach fragment
 
 -- The same after a list of accepted ones.
+abbrev pub refusal_within : ℕ → List IpFragment → IpFragment → Option IpDefragError
+refusal_within limit accepted fragment = refusal_at_within limit (end_of accepted) (reach_of accepted) fragment
+
 abbrev pub refusal_of : List IpFragment → IpFragment → Option IpDefragError
-refusal_of accepted fragment = refusal_at (end_of accepted) (reach_of accepted) fragment
+refusal_of accepted fragment = refusal_within 65535 accepted fragment
+
+abbrev pub RefusesWithin : ℕ → List IpFragment → IpFragment → IpDefragError → Type 0
+RefusesWithin limit accepted fragment error = refusal_within limit accepted fragment ≡ Some error
 
 abbrev pub RefusesFragment : List IpFragment → IpFragment → IpDefragError → Type 0
-RefusesFragment accepted fragment error = refusal_of accepted fragment ≡ Some error
+RefusesFragment accepted fragment error = RefusesWithin 65535 accepted fragment error
+
+abbrev pub FitsWithin : ℕ → List IpFragment → IpFragment → Type 0
+FitsWithin limit accepted fragment = refusal_within limit accepted fragment ≡ None
 
 abbrev pub Fits : List IpFragment → IpFragment → Type 0
-Fits accepted fragment = refusal_of accepted fragment ≡ None
+Fits accepted fragment = FitsWithin 65535 accepted fragment
 
 -- each of the later ones fits after the earlier ones and those before it
-abbrev pub FitAfter : List IpFragment → List IpFragment → Type 0
-FitAfter earlier [] = Unit {0}
-FitAfter earlier (fragment ∷ later) = Fits earlier fragment × FitAfter (earlier ++ fragment ∷ []) later
+abbrev pub FitAfterWithin : ℕ → List IpFragment → List IpFragment → Type 0
+FitAfterWithin limit earlier [] = Unit {0}
+FitAfterWithin limit earlier (fragment ∷ later) =
+    FitsWithin limit earlier fragment × FitAfterWithin limit (earlier ++ fragment ∷ []) later
 
 -- each fragment fits after those before it
+abbrev pub FitInTurnWithin : ℕ → List IpFragment → Type 0
+FitInTurnWithin limit fragments = FitAfterWithin limit [] fragments
+
 abbrev pub FitInTurn : List IpFragment → Type 0
-FitInTurn fragments = FitAfter [] fragments
+FitInTurn fragments = FitInTurnWithin 65535 fragments
 
 -- It ends within what is put together, and some position touches it and an accepted one: nothing has to grow for it.
 pub record IsInPlace (accepted : List IpFragment) (fragment : IpFragment) : Type 0 where
@@ -62,8 +79,11 @@ pub record IsInPlace (accepted : List IpFragment) (fragment : IpFragment) : Type
   pub touching : (position : ℕ) × IsTrue (touches position (range_of fragment)) × IsTrue (is_touched accepted position)
 
 -- It fits, and is not in place: only then may memory be wanting.
+abbrev pub MayNeedMemoryWithin : ℕ → List IpFragment → IpFragment → Type 0
+MayNeedMemoryWithin limit accepted fragment = FitsWithin limit accepted fragment × (¬ IsInPlace accepted fragment)
+
 abbrev pub MayNeedMemory : List IpFragment → IpFragment → Type 0
-MayNeedMemory accepted fragment = Fits accepted fragment × (¬ IsInPlace accepted fragment)
+MayNeedMemory accepted fragment = MayNeedMemoryWithin 65535 accepted fragment
 
 -- whether an error is of memory
 abbrev pub is_want_of_memory : IpDefragError → Bool

@@ -8,7 +8,7 @@ ghost use Rattle.ep_packet.specs.Frame.{IsFrame};
 ghost use Rattle.ep_packet.specs.Refusals.{RefusesFrame};
 ghost use Rattle.ep_defrag.specs.Cuts.{IsCut};
 ghost use Rattle.ep_defrag.specs.Calls.{Call, Kept, table_after, accepted_at};
-ghost use Rattle.ep_defrag.specs.Pools.{HoldsTable, IsDecidedBy};
+ghost use Rattle.ep_defrag.specs.Pools.{limit_of, HoldsTable, IsDecidedBy};
 ghost use Rattle.ep_defrag.specs.FrameCalls.{ReadCall, calls_pool, IsReadAs, IsOnlyRead, AreReadAs, AreRead, pool_calls, read_answer_to, frame_answers_to, IfPoolHandsOut, FrameCallMayNeedMemory, read_answer, frame_answer_wants_memory, table_with_read, read_of};
 
 use crate::ip_defrag_payload_vec::IpDefragPayloadVec;
@@ -74,10 +74,11 @@ pub fn run_frames<
     // The answers, and what the pool holds, where those of drops are a function of value and timestamp.
     ensures answers { IfOk result (λ run. (reads : List (ReadCall Timestamp CustomChannelId V)) →
         AreReadAs calls.entry.items reads → (decide : V → Timestamp → Bool) → IsDecidedBy F.Fn keep decide →
-        map read_answer run.0.items ≡ frame_answers_to CustomChannelId.eq decide reads) }
+        map read_answer run.0.items ≡ frame_answers_to 65535 CustomChannelId.eq decide reads) }
+    ensures limit { IfOk result (λ run. limit_of run.1 ≡ 65535) }
     ensures holds { IfOk result (λ run. (reads : List (ReadCall Timestamp CustomChannelId V)) →
         AreReadAs calls.entry.items reads → (decide : V → Timestamp → Bool) → IsDecidedBy F.Fn keep decide →
-        HoldsTable CustomChannelId.eq run.1 (table_after CustomChannelId.eq decide (pool_calls reads))) }
+        HoldsTable CustomChannelId.eq run.1 (table_after 65535 CustomChannelId.eq decide (pool_calls reads))) }
 
     // Where the fragments of a stream since it last began are cuts of a payload, what is handed out is the payload.
     ensures cuts { IfOk result (λ run. (reads : List (ReadCall Timestamp CustomChannelId V)) →
@@ -85,7 +86,7 @@ pub fn run_frames<
         (at : ℕ) (brought : Call Timestamp CustomChannelId V) (answer : FrameAnswer) →
         slice_get reads at ≡ Some (calls_pool brought) → slice_get run.0.items at ≡ Some answer →
         (payload : List ℕ) → All (IsCut payload) (accepted_at
-        (table_after CustomChannelId.eq decide (pool_calls (take at reads))) brought) →
+        (table_after 65535 CustomChannelId.eq decide (pool_calls (take at reads))) brought) →
         IfPoolHandsOut (read_answer answer) (λ handed. handed.bytes ≡ payload)) }
 
     // No answer is one of memory, and a run that stops past the first call stops at a frame whose fragment fits and is
@@ -95,7 +96,7 @@ pub fn run_frames<
     ensures stopped { IfErr result (λ stop. 0 < stop.at →
         (reads : List (ReadCall Timestamp CustomChannelId V)) → AreReadAs (take stop.at calls.entry.items) reads →
         (decide : V → Timestamp → Bool) → IsDecidedBy F.Fn keep decide →
-        HoldsAt (FrameCallMayNeedMemory (table_after CustomChannelId.eq decide (pool_calls reads)))
+        HoldsAt (FrameCallMayNeedMemory 65535 (table_after 65535 CustomChannelId.eq decide (pool_calls reads)))
         calls.entry.items stop.at) }
 {
     let Ok(mut answers) = Vec::with_capacity(alloc, calls.len()) else {
@@ -127,14 +128,15 @@ fn answer_frame<
     ensures read { (read : ReadCall Timestamp CustomChannelId V) × IsOnlyRead call.entry read }
     ensures answer { IfOk result (λ answer. (read : ReadCall Timestamp CustomChannelId V) → IsReadAs call.entry read →
         (table : IpFragId CustomChannelId → Option (Kept Timestamp)) → HoldsTable CustomChannelId.eq pool.old table →
-        read_answer answer ≡ read_answer_to table read) }
+        read_answer answer ≡ read_answer_to (limit_of pool.old) table read) }
     ensures holds { OnOk result ((read : ReadCall Timestamp CustomChannelId V) → IsReadAs call.entry read →
         (decide : V → Timestamp → Bool) → IsDecidedBy F.Fn keep.now decide →
         (table : IpFragId CustomChannelId → Option (Kept Timestamp)) → HoldsTable CustomChannelId.eq pool.old table →
-        HoldsTable CustomChannelId.eq pool.new (table_with_read CustomChannelId.eq decide table read)) }
+        HoldsTable CustomChannelId.eq pool.new (table_with_read (limit_of pool.old) CustomChannelId.eq decide table read)) }
+    ensures limit { OnOk result (limit_of pool.new ≡ limit_of pool.old) }
     ensures no_memory { IfOk result (λ answer. IsFalse (frame_answer_wants_memory answer)) }
     ensures memory { OnErr result ((table : IpFragId CustomChannelId → Option (Kept Timestamp)) →
-        HoldsTable CustomChannelId.eq pool.old table → FrameCallMayNeedMemory table call.entry) }
+        HoldsTable CustomChannelId.eq pool.old table → FrameCallMayNeedMemory (limit_of pool.old) table call.entry) }
 {
     match read(call) {
         Ok(call) => Ok(FrameAnswer::Pool(answer_next(pool, call, keep)?)),

@@ -1,11 +1,11 @@
 //! The buffer that puts one payload together.
 
-ghost use Rattle.std.specs.Prelude.{◌≡◌, ◌≢◌, ◌↔◌, ◌⊎◌, ℕ, ◌+◌, ◌<◌, ◌≤◌, List, [], ◌∷◌, ◌++◌, length, if◌then◌else◌, ◌&&◌, is_some, IsTrue, IfOk, IfErr, OnOk, OnErr, IsOk, MatchResult, MatchOption, None, Some, Err, vec_len, vec_capacity};
+ghost use Rattle.std.specs.Prelude.{◌≡◌, ◌≢◌, ◌↔◌, ◌⊎◌, ℕ, ◌+◌, ◌<◌, ◌≤◌, List, [], ◌∷◌, ◌++◌, length, if◌then◌else◌, ◌&&◌, is_some, IsTrue, IsFalse, IfOk, IfErr, OnOk, OnErr, IsOk, MatchResult, MatchOption, None, Some, Err, vec_len, vec_capacity};
 ghost use Rattle.std.specs.List.{list_any, Any};
 ghost use Rattle.std.specs.List.Sorted.{IsPermutation};
 ghost use Rattle.ep_defrag.specs.Ranges.{merges, SharePoint, AreApart};
 ghost use Rattle.ep_defrag.specs.Fragments.{IpFragment, fragment_with, fragment_end, range_of, IsComplete};
-ghost use Rattle.ep_defrag.specs.Refusals.{Fits, RefusesFragment, MayNeedMemory, refusal_at};
+ghost use Rattle.ep_defrag.specs.Refusals.{Fits, RefusesFragment, MayNeedMemory, refusal_at, is_want_of_memory};
 
 use crate::MAX_IP_DEFRAG_LEN_U16;
 use crate::ip_defrag_bytes::put;
@@ -31,7 +31,7 @@ pub struct IpDefragBuf {
 
 impl IpDefragBuf {
     ghost use Rattle.ep_defrag.specs.Buffers.{ip_number_of, data_of, sections_of, known_end_of, IsUnchanged, HoldsFragments, data_after, data_with, end_after, sections_after, is_whole};
-    ghost use Rattle.ep_defrag.specs.Rooms.{data_room_of, sections_room_of, KeepsRoom};
+    ghost use Rattle.ep_defrag.specs.Rooms.{data_room_of, sections_room_of, KeepsRoom, LacksRoom};
 
     /// A new buffer for a payload of this kind. It uses the memory of both vectors, whatever they hold.
     pub fn new(
@@ -178,8 +178,10 @@ impl IpDefragBuf {
             OnOk result (known_end_of self.new ≡ end_after (known_end_of self.old) fragment) }
         ensures ip_number { ip_number_of self.new ≡ ip_number_of self.old }
 
-        // Whatever is answered, the vectors keep their room.
+        // Whatever is answered, the vectors keep their room. Memory is wanting only where they have too little.
         ensures room { KeepsRoom self.old self.new }
+        ensures lacks_room { let fragment = fragment_with offset more_fragments payload.now in
+            IfErr result (λ error. IsTrue (is_want_of_memory error) → LacksRoom self.old fragment) }
     {
         let range = checked_range(self.end, self.reach(), offset, more_fragments, payload)?;
         if self.accept(range, more_fragments, payload).is_err() {
@@ -216,6 +218,9 @@ impl IpDefragBuf {
         ensures room { KeepsRoom self.old self.new }
         ensures in_place { range.end ≤ length (data_of self.old) →
             IsTrue (list_any (merges range) (sections_of self.old)) → IsOk result }
+        ensures lacks_room { OnErr result ((data_room_of self.old < range.end)
+            ⊎ ((sections_room_of self.old ≤ length (sections_of self.old))
+            × IsFalse (list_any (merges range) (sections_of self.old)))) }
     {
         let near = neighbours(&self.sections, range);
         self.sections.reserve(usize::from(near.is_empty()))?;

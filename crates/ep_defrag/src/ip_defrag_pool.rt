@@ -1,12 +1,14 @@
 //! The pool that puts many payloads together at a time.
 
-ghost use Rattle.std.specs.Prelude.{◌≡◌, [], Bool, Option, None, IsTrue, IfOk, IfErr, OnOk};
+ghost use Rattle.std.specs.Prelude.{◌≡◌, ◌<◌, ◌↔◌, [], Bool, Option, None, IsTrue, IfOk, IfErr, OnOk};
 ghost use Rattle.std.specs.Fn.{FnReturnsAt};
 ghost use Rattle.std.specs.Option.{option_map};
+ghost use Rattle.ep_defrag.specs.Fragments.{fragment_end};
 ghost use Rattle.ep_defrag.specs.Streams.{source_of};
 ghost use Rattle.ep_defrag.specs.Calls.{Kept, kept_by};
-ghost use Rattle.ep_defrag.specs.Pools.{streams_of, stream_named, HoldsTable, LeavesAnswered, HoldsAnswered, IsAnsweredBy, TakesFragment, TakesFrame, fragment_in, plain_payload, payload_in, BufferTakes, BufferRefuses, IsWhole, ChangesStream};
+ghost use Rattle.ep_defrag.specs.Pools.{limit_of, streams_of, stream_named, HoldsTable, LeavesAnswered, HoldsAnswered, IsAnsweredBy, TakesFragment, TakesFrame, fragment_in, plain_payload, payload_in, BufferTakes, BufferRefuses, IsWhole, ChangesStream};
 
+use crate::MAX_IP_DEFRAG_LEN_U16;
 use crate::carried_fragment::carried_fragment;
 use crate::fragment::Fragment;
 use crate::ip_defrag_buf::IpDefragBuf;
@@ -35,6 +37,10 @@ struct OpenStream<Timestamp> {
 /// A stream is named by an [`IpFragId`]. It begins with the first fragment that is accepted, and ends when its payload
 /// is handed out or when [`retain`](IpDefragPool::retain) drops it.
 ///
+/// A pool has a limit of bytes for each stream: no fragment is accepted that ends behind it, so no stream's data is longer
+/// ([`data_within_limit`](crate::laws::data_within_limit)). It is what bounds the cost of a stream of hostile traffic; the
+/// number of streams is bounded by [`retain`](IpDefragPool::retain) alone.
+///
 /// Streams are found by their names in a hash map. Its hash has a fixed seed, so whoever chooses the names can choose
 /// ones that hash alike, and a look-up takes time in proportion to their number. What a stream took is used again by
 /// those that begin after its end: of each kind at most as many vectors lie there as streams were active at once, up to
@@ -42,29 +48,44 @@ struct OpenStream<Timestamp> {
 #[derive(Drop)]
 pub struct IpDefragPool<Timestamp, CustomChannelId: Eq + Hash> {
     alloc: Global,
+    /// The greatest end of a fragment, in bytes.
+    limit: u16,
     streams: HashMap<IpFragId<CustomChannelId>, OpenStream<Timestamp>>,
     /// What the streams that ended leave to those that begin.
     spare: SpareBuffers,
 }
 
 impl<Timestamp, CustomChannelId: Eq + Hash> Model for IpDefragPool<Timestamp, CustomChannelId> {
-    ghost use Rattle.std.specs.Prelude.{List};
+    ghost use Rattle.std.specs.Prelude.{ℕ, List};
     ghost use Rattle.ep_defrag.specs.declared.ip_frag_id.IpFragId.{IpFragId};
     ghost use Rattle.ep_defrag.specs.declared.ip_defrag_pool.OpenStream.{OpenStream};
 
-    ghost Value = { List (IpFragId CustomChannelId × OpenStream Timestamp) };
+    ghost Value = { ℕ × List (IpFragId CustomChannelId × OpenStream Timestamp) };
 
-    ghost view = { λ pool. pool.streams.entries };
+    ghost view = { λ pool. (pool.limit, pool.streams.entries) };
 }
 
 impl<Timestamp: Drop, CustomChannelId: Eq + Hash + Drop> IpDefragPool<Timestamp, CustomChannelId> {
-    /// A pool without streams, which takes its memory from `alloc`.
+    /// A pool without streams, which takes its memory from `alloc`, and whose limit is 65535.
     pub fn new(alloc: Global) -> IpDefragPool<Timestamp, CustomChannelId>
         ensures holds { HoldsTable CustomChannelId.eq result (λ name. None) }
         ensures streams { streams_of result ≡ [] }
+        ensures limit { limit_of result ≡ 65535 }
+    {
+        IpDefragPool::with_limit(alloc, MAX_IP_DEFRAG_LEN_U16)
+    }
+
+    /// A pool without streams, which takes its memory from `alloc`, and in which no stream's data is longer than `max`
+    /// bytes. Below 8 it completes no stream that comes in frames
+    /// ([`small_limits_complete_nothing`](crate::laws::small_limits_complete_nothing)).
+    pub fn with_limit(alloc: Global, max: u16) -> IpDefragPool<Timestamp, CustomChannelId>
+        ensures holds { HoldsTable CustomChannelId.eq result (λ name. None) }
+        ensures streams { streams_of result ≡ [] }
+        ensures limit { limit_of result ≡ max }
     {
         IpDefragPool {
             alloc,
+            limit: max,
             streams: HashMap::new(alloc),
             spare: SpareBuffers::new(alloc),
         }
@@ -73,7 +94,8 @@ impl<Timestamp: Drop, CustomChannelId: Eq + Hash + Drop> IpDefragPool<Timestamp,
     /// Takes a packet, which may carry a fragment, and answers the payload that is complete with it, if any. A packet
     /// without a fragment changes nothing.
     ///
-    /// None of the streams gets stuck ([`two_frames_complete`](crate::laws::two_frames_complete)).
+    /// None of the streams gets stuck, if the limit is at least 8
+    /// ([`two_frames_complete`](crate::laws::two_frames_complete)).
     pub fn process_sliced_packet(
         &mut self,
         packet: &SlicedPacket<'_>,
@@ -98,7 +120,8 @@ impl<Timestamp: Drop, CustomChannelId: Eq + Hash + Drop> IpDefragPool<Timestamp,
     /// Takes a fragment of a stream, and answers the payload if it is complete with it.
     ///
     /// The first fragment that is accepted begins the stream. A fragment that is refused changes nothing, and so does
-    /// want of memory, which comes after all refusals.
+    /// want of memory, which comes after all refusals. The refusals are those of [`IpDefragBuf::add`], with the pool's
+    /// limit for 65535.
     pub fn process_fragment(
         &mut self,
         id: IpFragId<CustomChannelId>,
@@ -112,7 +135,7 @@ impl<Timestamp: Drop, CustomChannelId: Eq + Hash + Drop> IpDefragPool<Timestamp,
         let Some(stream) = self.streams.get_mut(&id) else {
             return self.begin(id, fragment, timestamp);
         };
-        let is_whole = match add(&mut stream.buffer, fragment) {
+        let is_whole = match add(self.limit, &mut stream.buffer, fragment) {
             Ok(is_whole) => is_whole,
             Err(error) => return Err(error),
         };
@@ -136,7 +159,7 @@ impl<Timestamp: Drop, CustomChannelId: Eq + Hash + Drop> IpDefragPool<Timestamp,
         // Keys are equal where they name one stream.
         names::<CustomChannelId>();
         let mut buffer = self.spare.take(id.payload_ip_number);
-        let is_whole = match add(&mut buffer, fragment) {
+        let is_whole = match add(self.limit, &mut buffer, fragment) {
             Ok(is_whole) => is_whole,
             Err(error) => {
                 self.spare.keep(buffer);
@@ -215,21 +238,36 @@ impl<Timestamp: Drop, CustomChannelId: Eq + Hash + Drop> IpDefragPool<Timestamp,
         ensures holds { (table : IpFragId CustomChannelId → Option (Kept Timestamp)) →
             HoldsTable CustomChannelId.eq self.old table → HoldsTable CustomChannelId.eq self.new table }
         ensures streams { streams_of self.new ≡ streams_of self.old }
+        ensures limit { limit_of self.new ≡ limit_of self.old }
     {
         self.spare.keep_bytes(buf.payload);
     }
 }
 
-/// Adds a fragment to a buffer, and answers whether the payload is complete with it.
-fn add(buffer: &mut IpDefragBuf, fragment: &Fragment) -> Result<bool, IpDefragError>
-    ensures takes { OnOk result (BufferTakes buffer.old buffer.new fragment.now) }
+/// Adds a fragment to a buffer, if it ends within the limit, and answers whether the payload is complete with it.
+fn add(limit: u16, buffer: &mut IpDefragBuf, fragment: &Fragment) -> Result<bool, IpDefragError>
+    ensures takes { OnOk result (BufferTakes limit buffer.old buffer.new fragment.now) }
     ensures whole { IfOk result (IsWhole buffer.new) }
-    ensures refuses { IfErr result (BufferRefuses buffer.old buffer.new fragment.now) }
+    ensures refuses { IfErr result (BufferRefuses limit buffer.old buffer.new fragment.now) }
 {
+    if is_too_long(limit, fragment) {
+        return Err(IpDefragError::SegmentTooBig {
+            offset: fragment.offset,
+            payload_len: fragment.payload.len(),
+            max: limit,
+        });
+    }
     if let Err(error) = buffer.add(fragment.offset, fragment.more_fragments, fragment.payload) {
         return Err(error);
     }
     Ok(buffer.is_complete())
+}
+
+/// Whether a fragment ends behind the limit.
+fn is_too_long(limit: u16, fragment: &Fragment) -> bool
+    ensures { IsTrue result ↔ (limit < fragment_end fragment.now) }
+{
+    usize::from(limit) < usize::from(fragment.offset.byte_offset()) + fragment.payload.len()
 }
 
 /// A payload, as it is handed out.

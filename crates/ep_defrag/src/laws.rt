@@ -1,11 +1,11 @@
 //! Laws of the definitions that the contracts of this crate cite. Each is the contract of a function that does nothing.
 
-ghost use Rattle.std.specs.Prelude.{◌≡◌, ◌↔◌, ◌⊎◌, ℕ, ◌%◌, ◌^◌, ◌<◌, ◌≤◌, ◌||◌, Bool, false, Option, Some, List, [], ◌∷◌, ◌++◌, length, map, IsTrue, IsSome, IfSome};
+ghost use Rattle.std.specs.Prelude.{◌≡◌, ◌↔◌, ◌⊎◌, ℕ, ◌%◌, ◌^◌, ◌<◌, ◌≤◌, ◌||◌, Bool, false, Option, Some, List, [], ◌∷◌, ◌++◌, length, map, IsTrue, IsFalse, IsSome, IfSome};
 ghost use Rattle.std.specs.List.{All, Any};
 ghost use Rattle.ep_defrag.specs.declared.TheConstants as constant;
 ghost use Rattle.ep_defrag.specs.Ranges.{touches, merge_of, SharePoint};
-ghost use Rattle.ep_defrag.specs.Fragments.{IpFragment, fragment_with, is_final, IsCovered, reach_of, end_of, assembled, IsComplete, FillAlike, TouchAlike};
-ghost use Rattle.ep_defrag.specs.Refusals.{Fits, FitInTurn};
+ghost use Rattle.ep_defrag.specs.Fragments.{IpFragment, fragment_with, is_final, IsCovered, reach_of, end_of, assembled, is_complete, IsComplete, FillAlike, TouchAlike};
+ghost use Rattle.ep_defrag.specs.Refusals.{FitsWithin, FitInTurn, FitInTurnWithin};
 ghost use Rattle.ep_base.specs.Bytes.{AreBytes};
 ghost use Rattle.ep_defrag.specs.Completing.{FillBoth, front_fragment, back_fragment, is_part, CompleteInTurn, FragmentFrame, name_in, CarriesOf, FramesComplete};
 ghost use Rattle.ep_defrag.specs.Cuts.{IsCut};
@@ -14,7 +14,7 @@ ghost use Rattle.ep_defrag.specs.Comparisons.{range_cmp, buffer_cmp, error_cmp};
 ghost use Rattle.ep_defrag.specs.Streams.{same_stream};
 ghost use Rattle.ep_defrag.specs.Calls.{Call, Kept, accepted_in, calls_of, answers_to};
 ghost use Rattle.ep_defrag.specs.Isolation.{answers_of, fragments_of, GivesCut, HandsOut, HandsOutAtMost};
-ghost use Rattle.ep_defrag.specs.Pools.{HoldsTable, plain_payload, plain_answer};
+ghost use Rattle.ep_defrag.specs.Pools.{limit_of, stream_named, HoldsTable, plain_payload, plain_answer};
 ghost use Rattle.ep_defrag.specs.BuiltCuts.{BuiltCut, IsBuiltCut, IsUnder, KeepsAll, answers_to_frames, cut_answers};
 ghost use Rattle.ep_defrag.specs.BuiltCuts.{cut_call, cut_fragment, frames_to, whole_of};
 ghost use Rattle.ep_defrag.specs.FrameCalls.{ReadCall, HasBytes, IsOnlyRead, pool_calls, frame_answers_to, pool_answers_in, read_answer};
@@ -43,12 +43,12 @@ pub fn merge_is_union()
         touches position range ≡ (touches position a || touches position b)) }
 {}
 
-/// A cut of a payload of at most 65535 bytes fits after other cuts of it, if it is final or a multiple of 8 bytes long. A
-/// final cut ends where the payload does, and so not below what came.
+/// A cut of a payload that is no longer than the limit fits after other cuts of it, if it is final or a multiple of 8
+/// bytes long. A final cut ends where the payload does, and so not below what came. The limit of a buffer is 65535.
 pub fn cut_fits()
-    ensures { (payload : List ℕ) (cuts : List IpFragment) (cut : IpFragment) → length payload ≤ 65535
+    ensures { (limit : ℕ) (payload : List ℕ) (cuts : List IpFragment) (cut : IpFragment) → length payload ≤ limit
         → All (IsCut payload) cuts → IsCut payload cut
-        → IsTrue (is_final cut) ⊎ (length cut.bytes % 8 ≡ 0) → Fits cuts cut }
+        → IsTrue (is_final cut) ⊎ (length cut.bytes % 8 ≡ 0) → FitsWithin limit cuts cut }
 {}
 
 /// Cuts of a payload are complete exactly where a final one is among them and each position of the payload is covered,
@@ -71,24 +71,43 @@ pub fn known_end_is_greatest()
         length (data_of buffer) ≡ reach_of accepted }
 {}
 
-/// Whatever a buffer holds can be completed by one fragment: the final one from 0 to the greatest end, of whatever bytes.
+/// Whatever fits in turn within a limit reaches no further. So no data of a stream is longer than the limit of its pool.
+pub fn data_within_limit<Timestamp, CustomChannelId: Eq + Hash>()
+    ensures reach { (limit : ℕ) (accepted : List IpFragment) → FitInTurnWithin limit accepted →
+        reach_of accepted ≤ limit }
+    ensures data { (pool : IpDefragPool Timestamp CustomChannelId)
+        (table : IpFragId CustomChannelId → Option (Kept Timestamp)) (name : IpFragId CustomChannelId) →
+        HoldsTable CustomChannelId.eq pool table →
+        IfSome (stream_named CustomChannelId.eq name pool)
+        (λ stream. length (data_of stream.buffer) ≤ limit_of pool) }
+{}
+
+/// Whatever a buffer or a stream holds can be completed by one fragment: the final one from 0 to the greatest end, of
+/// whatever bytes. The limit of a buffer is 65535.
 pub fn one_fragment_completes()
-    ensures { (accepted : List IpFragment) (bytes : List ℕ) → FitInTurn accepted → length bytes ≡ reach_of accepted →
+    ensures { (limit : ℕ) (accepted : List IpFragment) (bytes : List ℕ) → FitInTurnWithin limit accepted →
+        length bytes ≡ reach_of accepted →
         let fragment = fragment_with 0 false bytes in
-        Fits accepted fragment × IsComplete (accepted ++ fragment ∷ []) }
+        FitsWithin limit accepted fragment × IsComplete (accepted ++ fragment ∷ []) }
 {}
 
-/// And by at most two that frames can carry as fragments, of at most 32768 bytes each, of whatever bytes.
+/// And by at most two that frames can carry as fragments, of whatever bytes, if the limit is at least 8.
 pub fn two_fragments_complete()
-    ensures { (accepted : List IpFragment) (front back : List ℕ) → FitInTurn accepted →
-        FillBoth accepted front back →
-        CompleteInTurn accepted (front_fragment front) (back_fragment accepted back) }
+    ensures { (limit : ℕ) (accepted : List IpFragment) (front back : List ℕ) → 8 ≤ limit →
+        FitInTurnWithin limit accepted → FillBoth accepted front back →
+        CompleteInTurn limit accepted (front_fragment front) (back_fragment accepted back) }
 {}
 
-/// No stream gets stuck: of each stream of a pool of which some frame carries a fragment there are frames, at most two,
-/// the last of which hands the payload out: what was accepted, with the bytes of these frames on top, whatever they are.
-/// So it is of the pool that `run_calls` and `run_frames` answer, and of each call of `process_sliced_packet`, since
-/// their contracts name the table that the pool holds.
+/// Below 8 no fragments that frames can carry complete anything: a final one would have to begin the payload.
+pub fn small_limits_complete_nothing()
+    ensures { (limit : ℕ) (accepted : List IpFragment) → limit < 8 → FitInTurnWithin limit accepted →
+        All (λ fragment. IsTrue (is_part fragment)) accepted → IsFalse (is_complete accepted) }
+{}
+
+/// No stream gets stuck, in a pool whose limit is at least 8: of each stream of which some frame carries a fragment there
+/// are frames, at most two, the last of which hands the payload out: what was accepted, with the bytes of these frames on
+/// top, whatever they are. So it is of the pool that `run_calls`, `run_calls_with_limit` and `run_frames` answer, and of
+/// each call of `process_sliced_packet`, since their contracts name the table that the pool holds.
 pub fn two_frames_complete<Timestamp, CustomChannelId: Eq + Hash>()
     // Of a stream of which some frame carries a fragment, frames carry every fragment of at most 32768 bytes that more
     // fragments follow or that does not begin the payload.
@@ -98,38 +117,39 @@ pub fn two_frames_complete<Timestamp, CustomChannelId: Eq + Hash>()
     ensures complete { (pool : IpDefragPool Timestamp CustomChannelId)
         (table : IpFragId CustomChannelId → Option (Kept Timestamp)) (seen : FragmentFrame)
         (channel : CustomChannelId) (front back : List ℕ) (timestamp : Timestamp) →
-        HoldsTable CustomChannelId.eq pool table → AreBytes front → AreBytes back →
+        HoldsTable CustomChannelId.eq pool table → 8 ≤ limit_of pool → AreBytes front → AreBytes back →
         let accepted = accepted_in (table (name_in seen channel)) in
-        FillBoth accepted front back → FramesComplete CustomChannelId.eq table seen channel timestamp accepted
+        FillBoth accepted front back → FramesComplete (limit_of pool) CustomChannelId.eq table seen channel timestamp accepted
         (front_fragment front) (back_fragment accepted back) }
 {}
 
 /// Each stream is answered as if it were alone: two lists of calls on a new pool that agree on the calls of a stream
-/// give that stream the same answers.
+/// give that stream the same answers, whatever the limit.
 pub fn streams_are_alone<Timestamp, CustomChannelId: Eq, V>()
-    ensures { (keep : V → Timestamp → Bool) (name : IpFragId CustomChannelId)
+    ensures { (limit : ℕ) (keep : V → Timestamp → Bool) (name : IpFragId CustomChannelId)
         (a b : List (Call Timestamp CustomChannelId V)) →
         calls_of CustomChannelId.eq name a ≡ calls_of CustomChannelId.eq name b →
-        answers_of CustomChannelId.eq name a (answers_to CustomChannelId.eq keep a)
-        ≡ answers_of CustomChannelId.eq name b (answers_to CustomChannelId.eq keep b) }
+        answers_of CustomChannelId.eq name a (answers_to limit CustomChannelId.eq keep a)
+        ≡ answers_of CustomChannelId.eq name b (answers_to limit CustomChannelId.eq keep b) }
 {}
 
-/// Where all fragments of a stream are cuts of a payload of at most 65535 bytes, in whatever order and with whatever
-/// repeats, none is refused, and nothing but the payload is handed out. It is handed out if the cuts cover it and a
-/// final one is among them.
+/// Where all fragments of a stream are cuts of a payload that is no longer than the limit, in whatever order and with
+/// whatever repeats, none is refused, and nothing but the payload is handed out. It is handed out if the cuts cover it and
+/// a final one is among them.
 pub fn cuts_come_out<Timestamp, CustomChannelId: Eq, V>()
-    ensures only { (keep : V → Timestamp → Bool) (name : IpFragId CustomChannelId)
-        (calls : List (Call Timestamp CustomChannelId V)) (payload : List ℕ) → length payload ≤ 65535 →
+    ensures only { (limit : ℕ) (keep : V → Timestamp → Bool) (name : IpFragId CustomChannelId)
+        (calls : List (Call Timestamp CustomChannelId V)) (payload : List ℕ) → length payload ≤ limit →
         All (GivesCut keep payload) (calls_of CustomChannelId.eq name calls) →
         All (HandsOutAtMost payload)
-        (answers_of CustomChannelId.eq name calls (answers_to CustomChannelId.eq keep calls)) }
-    ensures comes { (keep : V → Timestamp → Bool) (name : IpFragId CustomChannelId)
-        (calls : List (Call Timestamp CustomChannelId V)) (payload : List ℕ) → length payload ≤ 65535 →
+        (answers_of CustomChannelId.eq name calls (answers_to limit CustomChannelId.eq keep calls)) }
+    ensures comes { (limit : ℕ) (keep : V → Timestamp → Bool) (name : IpFragId CustomChannelId)
+        (calls : List (Call Timestamp CustomChannelId V)) (payload : List ℕ) → length payload ≤ limit →
         All (GivesCut keep payload) (calls_of CustomChannelId.eq name calls) →
         let cuts = fragments_of (calls_of CustomChannelId.eq name calls) in
         Any (λ cut. IsTrue (is_final cut)) cuts →
         ((position : ℕ) → position < length payload → IsCovered cuts position) →
-        Any (HandsOut payload) (answers_of CustomChannelId.eq name calls (answers_to CustomChannelId.eq keep calls)) }
+        Any (HandsOut payload)
+        (answers_of CustomChannelId.eq name calls (answers_to limit CustomChannelId.eq keep calls)) }
 {}
 
 /// A call whose frame is of bytes is read as one call on the pool or as one refusal. It follows from the law of frames.
@@ -143,9 +163,9 @@ pub fn frame_calls<Timestamp, CustomChannelId, V>()
 /// Frames that are refused change nothing: the pool's answers to a list of calls with frames are those to its own calls
 /// alone, of which the laws above speak.
 pub fn refused_frames_change_nothing<Timestamp, CustomChannelId: Eq, V>()
-    ensures { (keep : V → Timestamp → Bool) (reads : List (ReadCall Timestamp CustomChannelId V)) →
-        pool_answers_in (frame_answers_to CustomChannelId.eq keep reads)
-        ≡ answers_to CustomChannelId.eq keep (pool_calls reads) }
+    ensures { (limit : ℕ) (keep : V → Timestamp → Bool) (reads : List (ReadCall Timestamp CustomChannelId V)) →
+        pool_answers_in (frame_answers_to limit CustomChannelId.eq keep reads)
+        ≡ answers_to limit CustomChannelId.eq keep (pool_calls reads) }
 {}
 
 /// The greatest length of a payload is what 16 bits can say, under either name.
@@ -216,31 +236,31 @@ pub fn names<CustomChannelId: Eq>()
         ⟦<IpFragId<CustomChannelId> as PartialEq>⟧.eq a b ≡ same_stream CustomChannelId.eq a b }
 {}
 
-/// Frames that are built of cuts of a payload of at most 65535 bytes under one name, in whatever order and with
+/// Frames that are built of cuts of a payload under one name, no longer than the limit, in whatever order and with
 /// whatever repeats, hand the payload out at exactly those frames with which the cuts that were given since it was last
 /// handed out are complete, and nothing at the others. Among other calls the frames of that stream are answered so too:
 /// frames without a fragment, frames of other streams, buffers that are given back and drops that keep every stream may
 /// stand between them. A built frame is what the builder's step of IP headers writes, and a pool is given the layers
 /// that its bytes have.
 pub fn built_cuts_come_out<Timestamp, CustomChannelId: Eq, V>()
-    ensures alone { (keep : V → Timestamp → Bool) (name : IpFragId CustomChannelId) (payload : List ℕ)
-        (cuts : List (BuiltCut Timestamp CustomChannelId)) → length payload ≤ 65535 →
+    ensures alone { (limit : ℕ) (keep : V → Timestamp → Bool) (name : IpFragId CustomChannelId) (payload : List ℕ)
+        (cuts : List (BuiltCut Timestamp CustomChannelId)) → length payload ≤ limit →
         All (IsBuiltCut payload) cuts → All (IsUnder CustomChannelId.eq name) cuts →
-        answers_to CustomChannelId.eq keep (map cut_call cuts)
+        answers_to limit CustomChannelId.eq keep (map cut_call cuts)
         ≡ cut_answers (whole_of name payload) [] (map cut_fragment cuts) }
-    ensures among { (keep : V → Timestamp → Bool) (name : IpFragId CustomChannelId) (payload : List ℕ)
+    ensures among { (limit : ℕ) (keep : V → Timestamp → Bool) (name : IpFragId CustomChannelId) (payload : List ℕ)
         (cuts : List (BuiltCut Timestamp CustomChannelId)) (calls : List (Call Timestamp CustomChannelId V)) →
-        length payload ≤ 65535 → All (IsBuiltCut payload) cuts → All (KeepsAll keep) calls →
+        length payload ≤ limit → All (IsBuiltCut payload) cuts → All (KeepsAll keep) calls →
         frames_to CustomChannelId.eq name calls ≡ map cut_call cuts →
-        answers_to_frames CustomChannelId.eq name calls (answers_to CustomChannelId.eq keep calls)
+        answers_to_frames CustomChannelId.eq name calls (answers_to limit CustomChannelId.eq keep calls)
         ≡ cut_answers (whole_of name payload) [] (map cut_fragment cuts) }
     // Of calls with frames as bytes, whatever they are read as; refused frames may stand between too.
-    ensures read { (keep : V → Timestamp → Bool) (name : IpFragId CustomChannelId) (payload : List ℕ)
+    ensures read { (limit : ℕ) (keep : V → Timestamp → Bool) (name : IpFragId CustomChannelId) (payload : List ℕ)
         (cuts : List (BuiltCut Timestamp CustomChannelId)) (reads : List (ReadCall Timestamp CustomChannelId V)) →
-        length payload ≤ 65535 → All (IsBuiltCut payload) cuts → All (KeepsAll keep) (pool_calls reads) →
+        length payload ≤ limit → All (IsBuiltCut payload) cuts → All (KeepsAll keep) (pool_calls reads) →
         frames_to CustomChannelId.eq name (pool_calls reads) ≡ map cut_call cuts →
         answers_to_frames CustomChannelId.eq name (pool_calls reads)
-        (pool_answers_in (frame_answers_to CustomChannelId.eq keep reads))
+        (pool_answers_in (frame_answers_to limit CustomChannelId.eq keep reads))
         ≡ cut_answers (whole_of name payload) [] (map cut_fragment cuts) }
 {
     ep_build::laws::built_fragments();

@@ -39,7 +39,7 @@ pub use ip_defrag_payload_vec::IpDefragPayloadVec;
 pub use ip_defrag_pool::IpDefragPool;
 pub use ip_frag_id::{IpFragId, IpFragVersionSpecId};
 pub use ip_frag_range::IpFragRange;
-pub use pool_run::{PoolAnswer, PoolCall, run_calls};
+pub use pool_run::{PoolAnswer, PoolCall, run_calls, run_calls_with_limit};
 pub use run::{RunStop, add_all};
 
 /// The greatest length of a payload that is put together, in bytes.

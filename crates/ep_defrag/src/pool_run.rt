@@ -4,8 +4,9 @@ ghost use Rattle.std.specs.Prelude.{◌≡◌, ◌<◌, ℕ, Bool, List, take, m
 ghost use Rattle.std.specs.List.{All, HoldsAt};
 ghost use Rattle.ep_defrag.specs.Cuts.{IsCut};
 ghost use Rattle.ep_defrag.specs.Calls.{Kept, table_after, table_with, answer_to, answers_to, CallMayNeedMemory, accepted_at, IfHandedOut};
-ghost use Rattle.ep_defrag.specs.Pools.{HoldsTable, IsDecidedBy, plain_call, plain_answer, wants_memory, answer_wants_memory};
+ghost use Rattle.ep_defrag.specs.Pools.{limit_of, HoldsTable, IsDecidedBy, plain_call, plain_answer, wants_memory, answer_wants_memory};
 
+use crate::MAX_IP_DEFRAG_LEN_U16;
 use crate::ip_defrag_error::IpDefragError;
 use crate::ip_defrag_payload_vec::IpDefragPayloadVec;
 use crate::ip_defrag_pool::IpDefragPool;
@@ -62,17 +63,18 @@ pub fn run_calls<
     requires { F.IsAlwaysCallable keep }
     // The answers, and what the pool holds, where those of drops are a function of value and timestamp.
     ensures answers { IfOk result (λ run. (decide : V → Timestamp → Bool) → IsDecidedBy F.Fn keep decide →
-        map plain_answer run.0.items ≡ answers_to CustomChannelId.eq decide (map plain_call calls.entry.items)) }
+        map plain_answer run.0.items ≡ answers_to 65535 CustomChannelId.eq decide (map plain_call calls.entry.items)) }
+    ensures limit { IfOk result (λ run. limit_of run.1 ≡ 65535) }
     ensures holds { IfOk result (λ run. (decide : V → Timestamp → Bool) → IsDecidedBy F.Fn keep decide →
         HoldsTable CustomChannelId.eq run.1
-        (table_after CustomChannelId.eq decide (map plain_call calls.entry.items))) }
+        (table_after 65535 CustomChannelId.eq decide (map plain_call calls.entry.items))) }
 
     // Where the fragments of a stream since it last began are cuts of a payload, what is handed out is the payload.
     ensures cuts { IfOk result (λ run. (decide : V → Timestamp → Bool) → IsDecidedBy F.Fn keep decide →
         (at : ℕ) (call : PoolCall Timestamp CustomChannelId V) (answer : PoolAnswer) →
         slice_get calls.entry.items at ≡ Some call → slice_get run.0.items at ≡ Some answer →
         (payload : List ℕ) → All (IsCut payload) (accepted_at
-        (table_after CustomChannelId.eq decide (map plain_call (take at calls.entry.items))) (plain_call call)) →
+        (table_after 65535 CustomChannelId.eq decide (map plain_call (take at calls.entry.items))) (plain_call call)) →
         IfHandedOut (plain_answer answer) (λ handed. handed.bytes ≡ payload)) }
 
     // No answer is one of memory, and a run that stops past the first call stops at a frame whose fragment fits and is
@@ -81,14 +83,57 @@ pub fn run_calls<
     ensures within { IfErr result (λ stop. stop.at < length calls.entry.items) }
     ensures stopped { IfErr result (λ stop. 0 < stop.at →
         (decide : V → Timestamp → Bool) → IsDecidedBy F.Fn keep decide →
-        HoldsAt (λ call. CallMayNeedMemory
-        (table_after CustomChannelId.eq decide (map plain_call (take stop.at calls.entry.items))) (plain_call call))
+        HoldsAt (λ call. CallMayNeedMemory 65535
+        (table_after 65535 CustomChannelId.eq decide (map plain_call (take stop.at calls.entry.items))) (plain_call call))
+        calls.entry.items stop.at) }
+{
+    run_calls_with_limit(alloc, MAX_IP_DEFRAG_LEN_U16, calls, keep)
+}
+
+/// The same calls on a new pool of this limit ([`IpDefragPool::with_limit`]). None of its streams gets stuck, if it is at
+/// least 8.
+pub fn run_calls_with_limit<
+    Timestamp: Drop,
+    CustomChannelId: Eq + Hash + Drop,
+    V: Drop,
+    F: Fn(&V, &Timestamp) -> bool + Drop,
+>(
+    alloc: Global,
+    max: u16,
+    calls: Vec<PoolCall<Timestamp, CustomChannelId, V>>,
+    keep: F,
+) -> Result<(Vec<PoolAnswer>, IpDefragPool<Timestamp, CustomChannelId>), RunStop>
+    requires { F.IsAlwaysCallable keep }
+    // The answers, and what the pool holds, where those of drops are a function of value and timestamp.
+    ensures answers { IfOk result (λ run. (decide : V → Timestamp → Bool) → IsDecidedBy F.Fn keep decide →
+        map plain_answer run.0.items ≡ answers_to max CustomChannelId.eq decide (map plain_call calls.entry.items)) }
+    ensures limit { IfOk result (λ run. limit_of run.1 ≡ max) }
+    ensures holds { IfOk result (λ run. (decide : V → Timestamp → Bool) → IsDecidedBy F.Fn keep decide →
+        HoldsTable CustomChannelId.eq run.1
+        (table_after max CustomChannelId.eq decide (map plain_call calls.entry.items))) }
+
+    // Where the fragments of a stream since it last began are cuts of a payload, what is handed out is the payload.
+    ensures cuts { IfOk result (λ run. (decide : V → Timestamp → Bool) → IsDecidedBy F.Fn keep decide →
+        (at : ℕ) (call : PoolCall Timestamp CustomChannelId V) (answer : PoolAnswer) →
+        slice_get calls.entry.items at ≡ Some call → slice_get run.0.items at ≡ Some answer →
+        (payload : List ℕ) → All (IsCut payload) (accepted_at
+        (table_after max CustomChannelId.eq decide (map plain_call (take at calls.entry.items))) (plain_call call)) →
+        IfHandedOut (plain_answer answer) (λ handed. handed.bytes ≡ payload)) }
+
+    // No answer is one of memory, and a run that stops past the first call stops at a frame whose fragment fits and is
+    // not in place.
+    ensures no_memory { IfOk result (λ run. All (λ answer. IsFalse (answer_wants_memory answer)) run.0.items) }
+    ensures within { IfErr result (λ stop. stop.at < length calls.entry.items) }
+    ensures stopped { IfErr result (λ stop. 0 < stop.at →
+        (decide : V → Timestamp → Bool) → IsDecidedBy F.Fn keep decide →
+        HoldsAt (λ call. CallMayNeedMemory max
+        (table_after max CustomChannelId.eq decide (map plain_call (take stop.at calls.entry.items))) (plain_call call))
         calls.entry.items stop.at) }
 {
     let Ok(mut answers) = Vec::with_capacity(alloc, calls.len()) else {
         return Err(RunStop { at: 0 });
     };
-    let mut pool = IpDefragPool::new(alloc);
+    let mut pool = IpDefragPool::with_limit(alloc, max);
     for call in calls {
         let at = answers.len();
         let Ok(answer) = answer_next(&mut pool, call, &keep) else {
@@ -112,13 +157,15 @@ pub(crate) fn answer_next<
 ) -> Result<PoolAnswer, AllocError>
     requires { F.IsAlwaysCallable keep.now }
     ensures answer { IfOk result (λ answer. (table : IpFragId CustomChannelId → Option (Kept Timestamp)) →
-        HoldsTable CustomChannelId.eq pool.old table → plain_answer answer ≡ answer_to table (plain_call call.entry)) }
+        HoldsTable CustomChannelId.eq pool.old table → plain_answer answer ≡ answer_to (limit_of pool.old) table (plain_call call.entry)) }
     ensures holds { OnOk result ((decide : V → Timestamp → Bool) → IsDecidedBy F.Fn keep.now decide →
         (table : IpFragId CustomChannelId → Option (Kept Timestamp)) → HoldsTable CustomChannelId.eq pool.old table →
-        HoldsTable CustomChannelId.eq pool.new (table_with CustomChannelId.eq decide table (plain_call call.entry))) }
+        HoldsTable CustomChannelId.eq pool.new
+        (table_with (limit_of pool.old) CustomChannelId.eq decide table (plain_call call.entry))) }
+    ensures limit { OnOk result (limit_of pool.new ≡ limit_of pool.old) }
     ensures no_memory { IfOk result (λ answer. IsFalse (answer_wants_memory answer)) }
     ensures memory { OnErr result ((table : IpFragId CustomChannelId → Option (Kept Timestamp)) →
-        HoldsTable CustomChannelId.eq pool.old table → CallMayNeedMemory table (plain_call call.entry)) }
+        HoldsTable CustomChannelId.eq pool.old table → CallMayNeedMemory (limit_of pool.old) table (plain_call call.entry)) }
 {
     match call {
         PoolCall::Frame {

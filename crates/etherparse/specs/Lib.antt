@@ -69,6 +69,7 @@ pub use Rattle.ep_transport.specs.Udp
 pub use Rattle.ep_transport.specs.UdpSlices
 -- whole packets
 pub use Rattle.ep_packet.specs.Comparisons as PacketComparisons
+pub use Rattle.ep_packet.specs.Cuts as FrameCuts
 pub use Rattle.ep_packet.specs.Fragments as PacketFragments
 pub use Rattle.ep_packet.specs.Frame
 pub use Rattle.ep_packet.specs.FrameBytes

@@ -101,7 +101,8 @@ pub mod defrag {
     pub use ep_defrag::{
         Fragment, FrameAnswer, FrameCall, IpDefragBuf, IpDefragError, IpDefragPayloadVec,
         IpDefragPool, IpFragId, IpFragRange, IpFragVersionSpecId, MAX_IP_DEFRAG_LEN,
-        MAX_IP_DEFRAG_LEN_U16, PoolAnswer, PoolCall, RunStop, add_all, run_calls, run_frames,
+        MAX_IP_DEFRAG_LEN_U16, PoolAnswer, PoolCall, RunStop, add_all, run_calls,
+        run_calls_with_limit, run_frames,
     };
 }
 

@@ -327,11 +327,11 @@ class Stream:
         self.reach = 0
         self.timestamp = None
 
-    def refusal(self, offset, more, data):
-        """Why a fragment does not fit, or None."""
+    def refusal(self, limit, offset, more, data):
+        """Why a fragment does not fit into a payload of at most so many bytes, or None."""
         end = 8 * offset + len(data)
-        if end > GREATEST_END:
-            return f"err too-big {offset} {len(data)} {GREATEST_END}"
+        if end > limit:
+            return f"err too-big {offset} {len(data)} {limit}"
         if more and len(data) % 8 != 0:
             return f"err unaligned {offset} {len(data)}"
         if self.end is not None and (end > self.end or (not more and end != self.end)):
@@ -369,7 +369,13 @@ class Stream:
 
 class Pool:
     def __init__(self):
+        self.begin(GREATEST_END)
+
+    def begin(self, limit):
+        """Gives all streams up, and goes on with this limit."""
+        self.limit = limit
         self.streams = {}
+        return "ok"
 
     def take(self, packet, timestamp, channel):
         if packet.fragment is None:
@@ -377,7 +383,7 @@ class Pool:
         (version, source, destination, identification, number), offset, more, data = packet.fragment
         name = (tuple(packet.vlan_ids), version, source, destination, identification, number, channel)
         stream = self.streams.get(name) or Stream()
-        refusal = stream.refusal(offset, more, data)
+        refusal = stream.refusal(self.limit, offset, more, data)
         if refusal is not None:
             return refusal
         stream.accept(offset, more, data, timestamp)
@@ -394,6 +400,7 @@ class Pool:
 
 HEXADECIMAL = re.compile(rb"(?:[0-9a-fA-F][0-9a-fA-F])+")
 DECIMAL = re.compile(rb"[0-9]{1,20}")
+LIMIT = re.compile(rb"[0-9]{1,5}")
 
 
 def bytes_said(word):
@@ -408,6 +415,13 @@ def bytes_said(word):
 def number_said(word):
     """The number of a word of decimal digits; raises ValueError where it is none."""
     if not DECIMAL.fullmatch(word) or int(word) >= 2**64:
+        raise ValueError
+    return int(word)
+
+
+def limit_said(word):
+    """The limit of a word of decimal digits; raises ValueError where it is none."""
+    if not LIMIT.fullmatch(word) or int(word) > GREATEST_END:
         raise ValueError
     return int(word)
 
@@ -431,6 +445,8 @@ def answer(pool, line):
             return pool.take(packet_of(entry, data), timestamp, channel)
         if words[0] == b"drop" and len(words) == 2:
             return pool.drop(number_said(words[1]))
+        if words[0] == b"limit" and len(words) == 2:
+            return pool.begin(limit_said(words[1]))
     except ValueError:
         pass
     except Refused as refusal:

@@ -302,6 +302,16 @@ class Lines:
             data = self.frames.mutated(data)
         return f"frag {entry} {self.number(self.time())} {self.number(channel)} {data.hex() or '-'}"
 
+    def limit_line(self):
+        """Mostly a limit of a lasting pool, and else one that leaves out some fragments, or that is none."""
+        limit = 65535
+        if self.frames.seldom(0.5):
+            limit = self.chance.choice([0, 7, 8, 9, 16, 24, 40, 64, 200, 1000, 3000, self.chance.randrange(65536)])
+        text = str(limit)
+        if self.frames.seldom(0.2):
+            text = self.chance.choice([text.zfill(5), text.zfill(6), "65536", "", "-1", "+8", text + " 1"])
+        return f"limit {text}"
+
     def slice_line(self):
         entry = self.chance.choice(["eth", "eth", "sll", "ip", "ip"])
         data = self.frames.frame(entry)
@@ -341,6 +351,8 @@ class Lines:
             line = self.pool_line()
         elif what < 0.99:
             line = f"drop {self.number(max(0, self.time() - self.chance.randrange(60)))}"
+        elif what < 0.992:
+            line = self.limit_line()
         else:
             return self.chance.randbytes(self.chance.randrange(30)).replace(b"\n", b"")
         if self.frames.seldom(0.04):

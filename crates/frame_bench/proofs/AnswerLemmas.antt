@@ -12,14 +12,14 @@ use Rattle.ep_packet.specs.Layers.{Layers}
 use Rattle.ep_packet.specs.Refusals.{RefusesFrame}
 use Rattle.frame_bench.specs.Answers.{AreAnswers, IsAnswer, IsAnswered, IsReplyAfter}
 use Rattle.frame_bench.specs.Lines.{line_feed, lines_of}
-use Rattle.frame_bench.specs.PoolCalls.{NumberCall, AreCalls, AreRequestCalls, frame_call}
+use Rattle.frame_bench.specs.PoolCalls.{PoolHistory, new_pool, with_call, IsAfterLine, IsAfterLines, IsHistory, IsAfterRequest, frame_call}
 use Rattle.frame_bench.specs.PoolReplies.{call_reply}
 use Rattle.frame_bench.specs.Replies.{IsReply}
 use Rattle.frame_bench.specs.Requests.{Asks, frame_entry}
 use Rattle.frame_bench.specs.SliceReplies.{layers_text, refusal_text}
 use Rattle.frame_bench.specs.declared.requests.Entry.{Entry}
 use Rattle.frame_bench.specs.declared.requests.Request.{Request}
-use Rattle.frame_bench.specs.declared.requests.Request.TheVariants.{Slice, Fragment, Drop}
+use Rattle.frame_bench.specs.declared.requests.Request.TheVariants.{Slice, Fragment, Drop, Limit}
 use Rattle.frame_bench.proofs.AskLemmas.{ask_bytes, ask_cases, ask_one}
 
 -- there is one of which this holds, and one only
@@ -100,46 +100,53 @@ module _ {X : Type 0} (line : List ℕ) (Says : Request → List ℕ → X → T
 
 module _ (decided : (entry : FrameEntry) (bytes : List ℕ) → AreBytes bytes
     → IsDecided (IsFrame entry bytes) (RefusesFrame entry bytes)) where
-  -- a request makes calls, and is replied to
-  request_calls : (request : Request) (bytes : List ℕ) → AreBytes bytes → HasOne (AreRequestCalls request bytes)
-  request_calls (Slice entry) bytes are = HasOne-is []
-  request_calls (Fragment entry timestamp channel) bytes are =
-      HasOne-told entry bytes (λ layers. frame_call layers timestamp channel ∷ []) (λ error. [])
+  -- a request makes something of a pool, and is replied to
+  after_request : (before : PoolHistory) (request : Request) (bytes : List ℕ) → AreBytes bytes
+      → HasOne (IsAfterRequest before request bytes)
+  after_request before (Slice entry) bytes are = HasOne-is before
+  after_request before (Fragment entry timestamp channel) bytes are =
+      HasOne-told entry bytes (λ layers. with_call before (frame_call layers timestamp channel)) (λ error. before)
       (decided (frame_entry entry) bytes are)
-  request_calls (Drop timestamp) bytes are = HasOne-is (drops_streams timestamp ∷ [])
+  after_request before (Drop timestamp) bytes are = HasOne-is (with_call before (drops_streams timestamp))
+  after_request before (Limit max) bytes are = HasOne-is (new_pool max)
 
-  request_reply : (calls : List NumberCall) (request : Request) (bytes : List ℕ) → AreBytes bytes
-      → HasOne (IsReply calls request bytes)
-  request_reply calls (Slice entry) bytes are =
+  request_reply : (history : PoolHistory) (request : Request) (bytes : List ℕ) → AreBytes bytes
+      → HasOne (IsReply history request bytes)
+  request_reply history (Slice entry) bytes are =
       HasOne-told entry bytes layers_text refusal_text (decided (frame_entry entry) bytes are)
-  request_reply calls (Fragment entry timestamp channel) bytes are =
-      HasOne-told entry bytes (λ layers. call_reply calls (frame_call layers timestamp channel)) refusal_text
+  request_reply history (Fragment entry timestamp channel) bytes are =
+      HasOne-told entry bytes (λ layers. call_reply history (frame_call layers timestamp channel)) refusal_text
       (decided (frame_entry entry) bytes are)
-  request_reply calls (Drop timestamp) bytes are = HasOne-is (call_reply calls (drops_streams timestamp))
+  request_reply history (Drop timestamp) bytes are = HasOne-is (call_reply history (drops_streams timestamp))
+  request_reply history (Limit max) bytes are = HasOne-is (codes "ok")
 
-  -- lines make calls
-  calls_some : (lines : List (List ℕ)) → (calls : List NumberCall) × AreCalls lines calls
-  calls_some [] = ([], refl)
-  calls_some (line ∷ lines) =
-      let first = asked_some line AreRequestCalls [] request_calls in
-      let rest = calls_some lines in
-      (first.0 ++ rest.0, (first.0, rest.0, first.1, rest.1, refl))
+  -- so does a line, and so do lines
+  after_line : (before : PoolHistory) (line : List ℕ) → HasOne (IsAfterLine before line)
+  after_line before line = HasOne-asked line (IsAfterRequest before) before (after_request before)
 
-  calls_one : (lines : List (List ℕ)) (a b : List NumberCall) → AreCalls lines a → AreCalls lines b → a ≡ b
-  calls_one [] a b x y = x ∙ sym y
-  calls_one (line ∷ lines) a b x y =
-      let first = asked_one line AreRequestCalls [] request_calls x.0 y.0 x.2 y.2 in
-      let rest = calls_one lines x.1 y.1 x.3 y.3 in
-      x.4 ∙ rw (first, rest) (sym y.4)
+  after_some : (before : PoolHistory) (lines : List (List ℕ))
+      → (after : PoolHistory) × IsAfterLines before lines after
+  after_some before [] = (before, refl)
+  after_some before (line ∷ lines) =
+      let next = (after_line before line).some in
+      let rest = after_some next.0 lines in
+      (rest.0, (next.0, next.1, rest.1))
+
+  after_one : (before : PoolHistory) (lines : List (List ℕ)) (a b : PoolHistory) → IsAfterLines before lines a
+      → IsAfterLines before lines b → a ≡ b
+  after_one before [] a b x y = x ∙ sym y
+  after_one before (line ∷ lines) a b x y =
+      let same = (after_line before line).one x.0 y.0 x.1 y.1 in
+      after_one x.0 lines a b x.2 (subst (λ (h : PoolHistory). IsAfterLines h lines b) (sym same) y.2)
 
   -- a line has an answer
   line_answer : (before : List (List ℕ)) (line : List ℕ) → HasOne (IsAnswer before line)
   line_answer before line =
       HasOne-asked line (IsReplyAfter before) (codes "err line")
       (λ request bytes are.
-      HasOne-by (AreCalls before) (λ calls. IsReply calls request bytes)
-      (record { some = calls_some before; one = calls_one before })
-      (λ calls. request_reply calls request bytes are))
+      HasOne-by (IsHistory before) (λ history. IsReply history request bytes)
+      (record { some = after_some (new_pool 65535) before; one = after_one (new_pool 65535) before })
+      (λ history. request_reply history request bytes are))
 
   -- lines have answers
   answers_some : (before lines : List (List ℕ)) → (text : List ℕ) × AreAnswers before lines text

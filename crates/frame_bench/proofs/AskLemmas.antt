@@ -12,11 +12,11 @@ use Rattle.frame_bench.specs.Requests.{Asks, IsHex, entry_word}
 use Rattle.frame_bench.specs.declared.requests.Entry.{Entry}
 use Rattle.frame_bench.specs.declared.requests.Entry.TheVariants.{Ethernet, LinuxSll, Ip}
 use Rattle.frame_bench.specs.declared.requests.Request.{Request}
-use Rattle.frame_bench.specs.declared.requests.Request.TheVariants.{Slice, Fragment, Drop}
+use Rattle.frame_bench.specs.declared.requests.Request.TheVariants.{Slice, Fragment, Drop, Limit}
 use Rattle.frame_bench.proofs.RequestLemmas.{AsksFromChannel}
 use Rattle.frame_bench.proofs.RequestLemmas.{asked_drop, asked_fragment, asked_fragment_of, asked_from_channel}
-use Rattle.frame_bench.proofs.RequestLemmas.{asked_from_timestamp, asked_slice, asked_slice_of, asks_fragment}
-use Rattle.frame_bench.proofs.TextLemmas.{NumberAt, number_at_cases, number_cases, number_one}
+use Rattle.frame_bench.proofs.RequestLemmas.{asked_from_timestamp, asked_limit, asked_slice, asked_slice_of, asks_fragment}
+use Rattle.frame_bench.proofs.TextLemmas.{NumberAt, number_at_cases, number_cases, number_one, limit_cases, limit_one}
 
 -- a text begins with a word or does not
 front_cases : (word text : List ℕ) → ((rest : List ℕ) × (text ≡ word ++ rest)) ⊎ ((rest : List ℕ) → text ≢ word ++ rest)
@@ -164,16 +164,27 @@ drop_cases rest =
           none asked.0 asked.2)
     ]
 
+limit_line_cases : (rest : List ℕ) → AsksOrNot (codes "limit" ++ space ∷ rest)
+limit_line_cases rest =
+    elim (limit_cases rest) [
+      | inl found ↦ inl (Limit found.0, [], (rest, refl, found.1, refl))
+      | inr none ↦ inr (λ request bytes asks.
+          let asked = asked_limit rest request bytes asks in
+          none asked.0 asked.2)
+    ]
+
 -- a line that begins with none of the words asks nothing
 no_ask : (line : List ℕ) → ((rest : List ℕ) → line ≢ codes "slice" ++ space ∷ rest)
     → ((rest : List ℕ) → line ≢ codes "frag" ++ space ∷ rest)
     → ((rest : List ℕ) → line ≢ codes "drop" ++ space ∷ rest)
+    → ((rest : List ℕ) → line ≢ codes "limit" ++ space ∷ rest)
     → (request : Request) (bytes : List ℕ) → Asks line request bytes → ⊥
-no_ask line no_slice no_fragment no_drop (Slice entry) bytes asks =
+no_ask line no_slice no_fragment no_drop no_limit (Slice entry) bytes asks =
     no_slice (words (entry_word entry ∷ asks.0 ∷ [])) asks.1
-no_ask line no_slice no_fragment no_drop (Fragment entry timestamp channel) bytes asks =
+no_ask line no_slice no_fragment no_drop no_limit (Fragment entry timestamp channel) bytes asks =
     no_fragment (words (entry_word entry ∷ asks.0 ∷ asks.1 ∷ asks.2 ∷ [])) asks.3
-no_ask line no_slice no_fragment no_drop (Drop timestamp) bytes asks = no_drop asks.0 asks.1
+no_ask line no_slice no_fragment no_drop no_limit (Drop timestamp) bytes asks = no_drop asks.0 asks.1
+no_ask line no_slice no_fragment no_drop no_limit (Limit max) bytes asks = no_limit asks.0 asks.1
 
 -- a line asks something or nothing
 pub ask_cases : (line : List ℕ) → AsksOrNot line
@@ -184,7 +195,10 @@ ask_cases line =
         | inl found ↦ subst AsksOrNot (sym found.1) (fragment_cases found.0)
         | inr no_fragment ↦ elim (front_cases (codes "drop" ++ space ∷ []) line) [
           | inl found ↦ subst AsksOrNot (sym found.1) (drop_cases found.0)
-          | inr no_drop ↦ inr (no_ask line no_slice no_fragment no_drop)
+          | inr no_drop ↦ elim (front_cases (codes "limit" ++ space ∷ []) line) [
+            | inl found ↦ subst AsksOrNot (sym found.1) (limit_line_cases found.0)
+            | inr no_limit ↦ inr (no_ask line no_slice no_fragment no_drop no_limit)
+          ]
         ]
       ]
     ]
@@ -194,6 +208,7 @@ pub ask_bytes : (line : List ℕ) (request : Request) (bytes : List ℕ) → Ask
 ask_bytes line (Slice entry) bytes asks = hex_bytes asks.0 bytes asks.2
 ask_bytes line (Fragment entry timestamp channel) bytes asks = hex_bytes asks.2 bytes asks.6
 ask_bytes line (Drop timestamp) bytes asks = rw asks.3 (λ i. omega arith)
+ask_bytes line (Limit max) bytes asks = rw asks.3 (λ i. omega arith)
 
 -- a line asks nothing else
 pub ask_one : (line : List ℕ) (r s : Request) (a b : List ℕ) → Asks line r a → Asks line s b → (r ≡ s) × (a ≡ b)
@@ -212,5 +227,10 @@ ask_one line (Fragment entry timestamp channel) s a b (time, number, text, parts
 ask_one line (Drop timestamp) s a b (time, parts, is, none) y =
     let again = asked_drop time s b (subst (λ l. Asks l s b) parts y) in (
       ap (λ (n : ℕ). Drop n) (number_one time timestamp again.0 is again.2) ∙ sym again.1,
+      none ∙ sym again.3,
+    )
+ask_one line (Limit max) s a b (text, parts, is, none) y =
+    let again = asked_limit text s b (subst (λ l. Asks l s b) parts y) in (
+      ap (λ (n : ℕ). Limit n) (limit_one text max again.0 is again.2) ∙ sym again.1,
       none ∙ sym again.3,
     )

@@ -5,11 +5,11 @@ use Rattle.std.specs.Prelude.{IfSome, IfNone, MatchOption}
 use Rattle.std.proofs.lemmas.List.{append_cancel_left}
 use Rattle.std.specs.Prelude.{codes}
 use Rattle.frame_bench.specs.Lines.{space, words}
-use Rattle.frame_bench.specs.Requests.{Asks, IsHex, IsNumber, entry_word}
+use Rattle.frame_bench.specs.Requests.{Asks, IsHex, IsNumber, IsLimit, entry_word}
 use Rattle.frame_bench.specs.declared.requests.Entry.{Entry}
 use Rattle.frame_bench.specs.declared.requests.Entry.TheVariants.{Ethernet, LinuxSll, Ip}
 use Rattle.frame_bench.specs.declared.requests.Request.{Request}
-use Rattle.frame_bench.specs.declared.requests.Request.TheVariants.{Slice, Fragment, Drop}
+use Rattle.frame_bench.specs.declared.requests.Request.TheVariants.{Slice, Fragment, Drop, Limit}
 use Rattle.frame_bench.proofs.TextLemmas.{NumberAt, number_at_one}
 
 -- behind the word comes a space or does not
@@ -69,6 +69,7 @@ asked_slice rest (Slice entry) said (text, parts, is) = (
 )
 asked_slice rest (Fragment entry timestamp channel) said asks = other_word 115 102 _ _ asks.3 (omega arith)
 asked_slice rest (Drop timestamp) said asks = other_word 115 100 _ _ asks.1 (omega arith)
+asked_slice rest (Limit max) said asks = other_word 115 108 _ _ asks.1 (omega arith)
 
 pub asked_fragment : (rest : List ℕ) (request : Request) (said : List ℕ)
     → Asks (codes "frag" ++ space ∷ rest) request said
@@ -89,6 +90,7 @@ asked_fragment rest (Fragment entry timestamp channel) said (time, number, text,
   ),
 )
 asked_fragment rest (Drop timestamp) said asks = other_word 102 100 _ _ asks.1 (omega arith)
+asked_fragment rest (Limit max) said asks = other_word 102 108 _ _ asks.1 (omega arith)
 
 pub asked_drop : (rest : List ℕ) (request : Request) (said : List ℕ)
     → Asks (codes "drop" ++ space ∷ rest) request said
@@ -99,6 +101,20 @@ asked_drop rest (Drop timestamp) said (time, parts, is, none) = (
   timestamp,
   refl,
   subst (λ t. IsNumber t timestamp) (sym (append_cancel_left (codes "drop" ++ space ∷ []) rest time parts)) is,
+  none,
+)
+asked_drop rest (Limit max) said asks = other_word 100 108 _ _ asks.1 (omega arith)
+
+pub asked_limit : (rest : List ℕ) (request : Request) (said : List ℕ)
+    → Asks (codes "limit" ++ space ∷ rest) request said
+    → (max : ℕ) × (request ≡ Limit max) × IsLimit rest max × (said ≡ [])
+asked_limit rest (Slice entry) said asks = other_word 108 115 _ _ asks.1 (omega arith)
+asked_limit rest (Fragment entry timestamp channel) said asks = other_word 108 102 _ _ asks.3 (omega arith)
+asked_limit rest (Drop timestamp) said asks = other_word 108 100 _ _ asks.1 (omega arith)
+asked_limit rest (Limit max) said (text, parts, is, none) = (
+  max,
+  refl,
+  subst (λ t. IsLimit t max) (sym (append_cancel_left (codes "limit" ++ space ∷ []) rest text parts)) is,
   none,
 )
 

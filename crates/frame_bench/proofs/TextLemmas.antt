@@ -10,7 +10,7 @@ use Rattle.std.proofs.lemmas.Fmt.{IsAscii-from_digits}
 use Rattle.std.proofs.lemmas.Str.{IsUtf8-from_ascii}
 use Rattle.std.proofs.lemmas.Str.Parse.{digit_from_value}
 use Rattle.frame_bench.specs.Lines.{space}
-use Rattle.frame_bench.specs.Requests.{IsNumber}
+use Rattle.frame_bench.specs.Requests.{IsNumber, IsLimit}
 
 -- the byte is not in the text
 abbrev pub IsWithout : ℕ → List ℕ → Type 0
@@ -83,6 +83,10 @@ number_utf8 text number is = IsUtf8-from_ascii text (IsAscii-from_digits text is
 pub number_one : (text : List ℕ) (a b : ℕ) → IsNumber text a → IsNumber text b → a ≡ b
 number_one text a b x y = sym x.2 ∙ y.2
 
+-- nor another limit
+pub limit_one : (text : List ℕ) (a b : ℕ) → IsLimit text a → IsLimit text b → a ≡ b
+limit_one text a b x y = number_one text a b x.0 y.0
+
 -- each byte is a digit, or one is none
 digits_cases : (text : List ℕ) → AllDigits 10 text ⊎ (AllDigits 10 text → ⊥)
 digits_cases [] = inl tt
@@ -110,6 +114,20 @@ number_cases text =
         | inr none ↦ inr (λ number is. omega (arith, is.0.0, none))
       ]
       | inr other ↦ inr (λ number is. other is.0.1)
+    ]
+
+-- nor a limit
+pub limit_cases : (text : List ℕ) → ((limit : ℕ) × IsLimit text limit) ⊎ ((limit : ℕ) → IsLimit text limit → ⊥)
+limit_cases text =
+    elim (number_cases text) [
+      | inl found ↦ elim (cases_lt 5 (length text)) [
+        | inl long ↦ inr (λ limit is. omega (arith, is.1, long))
+        | inr short ↦ elim (cases_lt 65535 found.0) [
+          | inl great ↦ inr (λ limit is. omega (arith, is.2, number_one text limit found.0 is.0 found.1, great))
+          | inr small ↦ inl (found.0, (found.1, short, small))
+        ]
+      ]
+      | inr none ↦ inr (λ limit is. none limit is.0)
     ]
 
 -- a number and a space stand at the front of a text

@@ -1,15 +1,15 @@
 -- The answers to the lines of a text. A line is answered behind the lines before it.
 use Rattle.std.specs.Prelude.{◌≡◌, ℕ, ◌⊎◌, List, [], ◌∷◌, ◌++◌, codes}
 use Rattle.frame_bench.specs.Lines.{line_feed, lines_of}
-use Rattle.frame_bench.specs.PoolCalls.{NumberCall, AreCalls}
+use Rattle.frame_bench.specs.PoolCalls.{PoolHistory, IsHistory}
 use Rattle.frame_bench.specs.Replies.{IsReply}
 use Rattle.frame_bench.specs.Requests.{Asks}
 use Rattle.frame_bench.specs.declared.requests.Request.{Request}
 
--- the reply to a request about these bytes, behind the calls that some lines make
+-- the reply to a request about these bytes, on the pool that some lines made
 abbrev pub IsReplyAfter : List (List ℕ) → Request → List ℕ → List ℕ → Type 0
 IsReplyAfter before request bytes reply =
-    (calls : List NumberCall) × AreCalls before calls × IsReply calls request bytes reply
+    (history : PoolHistory) × IsHistory before history × IsReply history request bytes reply
 
 -- the answer to a line behind others: what is replied to its request, or `err line` where it is none
 abbrev pub IsAnswer : List (List ℕ) → List ℕ → List ℕ → Type 0

@@ -4,7 +4,7 @@ use Rattle.std.specs.Option.{option_map}
 use Rattle.ep_defrag.specs.declared.ip_defrag_pool.IpDefragPool.{IpDefragPool}
 use Rattle.ep_defrag.specs.declared.ip_frag_id.IpFragId.{IpFragId}
 use Rattle.ep_defrag.specs.Calls.{Call, gives_frame, drops_streams, Kept, table_after}
-use Rattle.ep_defrag.specs.Pools.{HoldsTable}
+use Rattle.ep_defrag.specs.Pools.{limit_of, HoldsTable}
 use Rattle.ep_defrag.specs.Streams.{packet_fragment}
 use Rattle.ep_packet.specs.declared.err.slice_error.SliceError.{SliceError}
 use Rattle.ep_packet.specs.Fragments.{fragment_of}
@@ -13,7 +13,7 @@ use Rattle.ep_packet.specs.Layers.{Layers}
 use Rattle.ep_packet.specs.Refusals.{RefusesFrame}
 use Rattle.frame_bench.specs.Requests.{Asks, frame_entry}
 use Rattle.frame_bench.specs.declared.requests.Request.{Request}
-use Rattle.frame_bench.specs.declared.requests.Request.TheVariants.{Slice, Fragment, Drop}
+use Rattle.frame_bench.specs.declared.requests.Request.TheVariants.{Slice, Fragment, Drop, Limit}
 
 -- a call of the program's pool
 abbrev pub NumberCall : Type 0
@@ -23,36 +23,54 @@ NumberCall = Call ℕ ℕ ℕ
 abbrev pub frame_call : Layers → ℕ → ℕ → NumberCall
 frame_call layers timestamp channel = gives_frame (option_map packet_fragment (fragment_of layers)) timestamp channel
 
--- The calls that a request about these bytes makes. Those about a frame's layers make none, and so do bytes that are no
--- frame.
-abbrev pub AreRequestCalls : Request → List ℕ → List NumberCall → Type 0
-AreRequestCalls (Slice entry) bytes calls = calls ≡ []
-AreRequestCalls (Fragment entry timestamp channel) bytes calls =
-    ((layers : Layers) × IsFrame (frame_entry entry) bytes layers × (calls ≡ frame_call layers timestamp channel ∷ []))
-    ⊎ ((error : SliceError) × RefusesFrame (frame_entry entry) bytes error × (calls ≡ []))
-AreRequestCalls (Drop timestamp) bytes calls = calls ≡ drops_streams timestamp ∷ []
+-- What became of the program's pool: its limit, which the last line `limit` gave, or else 65535, and the calls that were
+-- made on it since, in their order.
+pub record PoolHistory : Type 0 where
+  pub limit : ℕ
+  pub calls : List NumberCall
 
--- the calls that a line makes: those of its request, and none where it is none
-abbrev pub AreLineCalls : List ℕ → List NumberCall → Type 0
-AreLineCalls line calls =
-    ((request : Request) × (bytes : List ℕ) × Asks line request bytes × AreRequestCalls request bytes calls)
-    ⊎ (((request : Request) (bytes : List ℕ) → Asks line request bytes → ⊥) × (calls ≡ []))
+abbrev pub new_pool : ℕ → PoolHistory
+new_pool limit = record { limit = limit; calls = [] }
 
--- the calls that lines make, in their order
-abbrev pub AreCalls : List (List ℕ) → List NumberCall → Type 0
-AreCalls [] calls = calls ≡ []
-AreCalls (line ∷ lines) calls =
-    (first others : List NumberCall) × AreLineCalls line first × AreCalls lines others × (calls ≡ first ++ others)
+abbrev pub with_call : PoolHistory → NumberCall → PoolHistory
+with_call history call = record { limit = history.limit; calls = history.calls ++ call ∷ [] }
 
--- What is kept of each stream after calls on a new pool. A drop keeps the streams whose timestamp isn't below its
--- value.
-abbrev pub table_behind : List NumberCall → IpFragId ℕ → Option (Kept ℕ)
-table_behind calls = table_after nat_eq nat_le calls
+-- What a request about these bytes makes of a pool. One about a frame's layers makes no call, and so do bytes that are no
+-- frame; a limit begins a new pool.
+abbrev pub IsAfterRequest : PoolHistory → Request → List ℕ → PoolHistory → Type 0
+IsAfterRequest before (Slice entry) bytes after = after ≡ before
+IsAfterRequest before (Fragment entry timestamp channel) bytes after =
+    ((layers : Layers) × IsFrame (frame_entry entry) bytes layers
+    × (after ≡ with_call before (frame_call layers timestamp channel)))
+    ⊎ ((error : SliceError) × RefusesFrame (frame_entry entry) bytes error × (after ≡ before))
+IsAfterRequest before (Drop timestamp) bytes after = after ≡ with_call before (drops_streams timestamp)
+IsAfterRequest before (Limit max) bytes after = after ≡ new_pool max
 
--- the pool holds what is kept after these calls
-abbrev pub HoldsCalls : List NumberCall → IpDefragPool ℕ ℕ → Type 0
-HoldsCalls calls pool = HoldsTable nat_eq pool (table_behind calls)
+-- what a line makes of it: what its request does, and nothing where it is none
+abbrev pub IsAfterLine : PoolHistory → List ℕ → PoolHistory → Type 0
+IsAfterLine before line after =
+    ((request : Request) × (bytes : List ℕ) × Asks line request bytes × IsAfterRequest before request bytes after)
+    ⊎ (((request : Request) (bytes : List ℕ) → Asks line request bytes → ⊥) × (after ≡ before))
 
--- the pool holds what is kept after the calls that these lines make
+-- what lines make of it, in their order
+abbrev pub IsAfterLines : PoolHistory → List (List ℕ) → PoolHistory → Type 0
+IsAfterLines before [] after = after ≡ before
+IsAfterLines before (line ∷ lines) after =
+    (next : PoolHistory) × IsAfterLine before line next × IsAfterLines next lines after
+
+-- what became of the pool behind these lines, the first of the text
+abbrev pub IsHistory : List (List ℕ) → PoolHistory → Type 0
+IsHistory lines history = IsAfterLines (new_pool 65535) lines history
+
+-- What is kept of each stream of such a pool. A drop keeps the streams whose timestamp isn't below its value.
+abbrev pub table_behind : PoolHistory → IpFragId ℕ → Option (Kept ℕ)
+table_behind history = table_after history.limit nat_eq nat_le history.calls
+
+-- the pool has this limit, and holds what is kept after these calls
+pub record HoldsHistory (history : PoolHistory) (pool : IpDefragPool ℕ ℕ) : Type 0 where
+  pub limit : limit_of pool ≡ history.limit
+  pub table : HoldsTable nat_eq pool (table_behind history)
+
+-- the pool is what these lines made of it
 abbrev pub HoldsLines : List (List ℕ) → IpDefragPool ℕ ℕ → Type 0
-HoldsLines lines pool = (calls : List NumberCall) × AreCalls lines calls × HoldsCalls calls pool
+HoldsLines lines pool = (history : PoolHistory) × IsHistory lines history × HoldsHistory history pool

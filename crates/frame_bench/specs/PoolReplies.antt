@@ -9,7 +9,7 @@ use Rattle.ep_packet.specs.Frame.{IsFrame}
 use Rattle.ep_packet.specs.Layers.{Layers}
 use Rattle.ep_packet.specs.Refusals.{RefusesFrame}
 use Rattle.frame_bench.specs.Lines.{words}
-use Rattle.frame_bench.specs.PoolCalls.{NumberCall, frame_call, table_behind}
+use Rattle.frame_bench.specs.PoolCalls.{NumberCall, PoolHistory, frame_call, table_behind}
 use Rattle.frame_bench.specs.Requests.{frame_entry}
 use Rattle.frame_bench.specs.SliceReplies.{hex_text, refusal_text}
 use Rattle.frame_bench.specs.declared.requests.Entry.{Entry}
@@ -33,14 +33,14 @@ pool_answer_text (fragment_refused error) = pool_error_text error
 pool_answer_text streams_dropped = codes "ok"
 pool_answer_text buffer_returned = []
 
--- the answer to a call, behind others on a new pool
-abbrev pub call_reply : List NumberCall → NumberCall → List ℕ
-call_reply calls call = pool_answer_text (answer_to (table_behind calls) call)
+-- the answer to a call, on the pool that has this behind it
+abbrev pub call_reply : PoolHistory → NumberCall → List ℕ
+call_reply history call = pool_answer_text (answer_to history.limit (table_behind history) call)
 
--- The reply about bytes from an entry on, behind some calls: what the pool answers the frame that they are, or why they
--- are none.
-abbrev pub IsFragmentReply : List NumberCall → Entry → ℕ → ℕ → List ℕ → List ℕ → Type 0
-IsFragmentReply calls entry timestamp channel bytes reply =
+-- The reply about bytes from an entry on, on the pool that has this behind it: what the pool answers the frame that they
+-- are, or why they are none.
+abbrev pub IsFragmentReply : PoolHistory → Entry → ℕ → ℕ → List ℕ → List ℕ → Type 0
+IsFragmentReply history entry timestamp channel bytes reply =
     ((layers : Layers) × IsFrame (frame_entry entry) bytes layers
-    × (reply ≡ call_reply calls (frame_call layers timestamp channel)))
+    × (reply ≡ call_reply history (frame_call layers timestamp channel)))
     ⊎ ((error : SliceError) × RefusesFrame (frame_entry entry) bytes error × (reply ≡ refusal_text error))

@@ -8,7 +8,7 @@ use Rattle.frame_bench.specs.Lines.{words}
 use Rattle.frame_bench.specs.declared.requests.Entry.{Entry}
 use Rattle.frame_bench.specs.declared.requests.Entry.TheVariants.{Ethernet, LinuxSll, Ip}
 use Rattle.frame_bench.specs.declared.requests.Request.{Request}
-use Rattle.frame_bench.specs.declared.requests.Request.TheVariants.{Slice, Fragment, Drop}
+use Rattle.frame_bench.specs.declared.requests.Request.TheVariants.{Slice, Fragment, Drop, Limit}
 
 -- the word that names an entry
 abbrev pub entry_word : Entry → List ℕ
@@ -31,6 +31,10 @@ abbrev pub IsNumber : List ℕ → ℕ → Type 0
 IsNumber text number =
     IsNumeral 10 text × (length text ≤ 20) × (digits_value 10 text ≡ number) × (number < 2 ^ 64)
 
+-- the limit that a text says: 1 to 5 decimal digits of a value of at most 65535
+abbrev pub IsLimit : List ℕ → ℕ → Type 0
+IsLimit text limit = IsNumber text limit × (length text ≤ 5) × (limit ≤ 65535)
+
 -- the line asks this of these bytes, in words that exactly one space parts
 abbrev pub Asks : List ℕ → Request → List ℕ → Type 0
 Asks line (Slice entry) bytes =
@@ -40,3 +44,5 @@ Asks line (Fragment entry timestamp channel) bytes =
     × IsNumber time timestamp × IsNumber number channel × IsHex text bytes
 Asks line (Drop timestamp) bytes =
     (time : List ℕ) × (line ≡ words (codes "drop" ∷ time ∷ [])) × IsNumber time timestamp × (bytes ≡ [])
+Asks line (Limit max) bytes =
+    (text : List ℕ) × (line ≡ words (codes "limit" ∷ text ∷ [])) × IsLimit text max × (bytes ≡ [])

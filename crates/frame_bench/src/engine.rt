@@ -74,6 +74,8 @@ fn zeros(alloc: Global, len: usize) -> Result<Vec<u8>, AllocError>
 /// The pool after the lines that have ended, the line that has begun, and room for what its answer needs.
 #[derive(Drop)]
 struct Session {
+    /// What a new pool takes its memory from.
+    alloc: Global,
     /// The pool. Timestamps and channels are numbers.
     pool: IpDefragPool<u64, u64>,
     /// What came of the line so far.
@@ -91,6 +93,7 @@ impl Session {
         ensures holds { HoldsLines [] result.pool }
     {
         Session {
+            alloc,
             pool: IpDefragPool::new(alloc),
             line: Vec::new(alloc),
             bytes: Vec::new(alloc),
@@ -124,11 +127,18 @@ impl Session {
             HoldsLines (before ++ (self.old.line.items ++ end.now) ∷ []) self.new.pool) }
     {
         if self.line.is_empty() {
-            push_line(&mut self.output, &mut self.pool, end, &mut self.bytes)?;
+            push_line(
+                self.alloc,
+                &mut self.output,
+                &mut self.pool,
+                end,
+                &mut self.bytes,
+            )?;
             return Ok(());
         }
         self.line.extend_from_slice(end)?;
         push_line(
+            self.alloc,
             &mut self.output,
             &mut self.pool,
             self.line.as_slice(),
@@ -147,6 +157,7 @@ impl Session {
         self.output.clear();
         if !self.line.is_empty() {
             push_line(
+                self.alloc,
                 &mut self.output,
                 &mut self.pool,
                 self.line.as_slice(),

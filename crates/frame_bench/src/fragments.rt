@@ -1,8 +1,8 @@
-//! What the lines `frag` and `drop` ask.
+//! What the lines `frag`, `drop` and `limit` ask.
 
 ghost use Rattle.std.specs.Prelude.{◌≡◌, ◌∷◌, ◌++◌, ℕ, List, IfNone, IfOk, IfSome, codes};
 ghost use Rattle.frame_bench.specs.Lines.{space};
-ghost use Rattle.frame_bench.specs.Requests.{Asks, IsNumber};
+ghost use Rattle.frame_bench.specs.Requests.{Asks, IsNumber, IsLimit};
 ghost use Rattle.frame_bench.specs.declared.requests.Request.{Request};
 
 use crate::hex_text::decode;
@@ -48,6 +48,28 @@ pub fn parse_drop(text: &[u8], bytes: &mut Vec<u8>) -> Option<Request>
     bytes.clear();
     let timestamp = number(text)?;
     Some(Request::Drop { timestamp })
+}
+
+/// What a line asks that has this text behind `limit` and a space, where it does. No bytes are then left in `bytes`.
+pub fn parse_limit(text: &[u8], bytes: &mut Vec<u8>) -> Option<Request>
+    ensures some { IfSome result (λ request. Asks (codes "limit" ++ space ∷ text.now) request bytes.new.items) }
+    ensures none { IfNone result ((request : Request) (said : List ℕ) →
+        Asks (codes "limit" ++ space ∷ text.now) request said → ⊥) }
+{
+    bytes.clear();
+    let max = limit(text)?;
+    Some(Request::Limit { max })
+}
+
+/// The limit that a text says, where it does: 1 to 5 decimal digits of a value that fits.
+fn limit(text: &[u8]) -> Option<u16>
+    ensures some { IfSome result (IsLimit text.now) }
+    ensures none { IfNone result ((value : ℕ) → IsLimit text.now value → ⊥) }
+{
+    if text.len() > 5 {
+        return None;
+    }
+    u16::try_from(number(text)?).ok()
 }
 
 /// The number at the front of a text, and what stands behind it and a space.

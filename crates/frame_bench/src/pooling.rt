@@ -8,7 +8,7 @@ ghost use Rattle.ep_defrag.specs.Refusals.{is_want_of_memory};
 ghost use Rattle.ep_defrag.specs.declared.ip_defrag_error.IpDefragError.TheVariants.{SegmentTooBig};
 ghost use Rattle.ep_packet.specs.Layers.{layers_of};
 ghost use Rattle.frame_bench.specs.Lines.{space};
-ghost use Rattle.frame_bench.specs.PoolCalls.{NumberCall, AreRequestCalls, HoldsCalls, frame_call};
+ghost use Rattle.frame_bench.specs.PoolCalls.{PoolHistory, IsAfterRequest, HoldsHistory, frame_call, with_call};
 ghost use Rattle.frame_bench.specs.PoolReplies.{IsFragmentReply, call_reply, pool_answer_text, pool_error_text};
 ghost use Rattle.frame_bench.specs.declared.requests.Request.TheVariants as request;
 
@@ -29,12 +29,12 @@ pub fn push_fragment(
     channel: u64,
     bytes: &[u8],
 ) -> Result<(), AllocError>
-    ensures reply { OnOk result ((calls : List NumberCall) → HoldsCalls calls pool.old → (reply : List ℕ)
-        × IsFragmentReply calls entry timestamp channel bytes.now reply
+    ensures reply { OnOk result ((history : PoolHistory) → HoldsHistory history pool.old → (reply : List ℕ)
+        × IsFragmentReply history entry timestamp channel bytes.now reply
         × (output.new.items ≡ output.old.items ++ reply)) }
-    ensures holds { OnOk result ((calls : List NumberCall) → HoldsCalls calls pool.old → (made : List NumberCall)
-        × AreRequestCalls (request.Fragment entry timestamp channel) bytes.now made
-        × HoldsCalls (calls ++ made) pool.new) }
+    ensures holds { OnOk result ((history : PoolHistory) → HoldsHistory history pool.old → (after : PoolHistory)
+        × IsAfterRequest history (request.Fragment entry timestamp channel) bytes.now after
+        × HoldsHistory after pool.new) }
 {
     match slice_at(entry, bytes) {
         Ok(packet) => push_frame(output, pool, &packet, timestamp, channel),
@@ -50,10 +50,10 @@ fn push_frame(
     timestamp: u64,
     channel: u64,
 ) -> Result<(), AllocError>
-    ensures reply { OnOk result ((calls : List NumberCall) → HoldsCalls calls pool.old → output.new.items
-        ≡ output.old.items ++ call_reply calls (frame_call (layers_of packet.now) timestamp channel)) }
-    ensures holds { OnOk result ((calls : List NumberCall) → HoldsCalls calls pool.old →
-        HoldsCalls (calls ++ frame_call (layers_of packet.now) timestamp channel ∷ []) pool.new) }
+    ensures reply { OnOk result ((history : PoolHistory) → HoldsHistory history pool.old → output.new.items
+        ≡ output.old.items ++ call_reply history (frame_call (layers_of packet.now) timestamp channel)) }
+    ensures holds { OnOk result ((history : PoolHistory) → HoldsHistory history pool.old →
+        HoldsHistory (with_call history (frame_call (layers_of packet.now) timestamp channel)) pool.new) }
 {
     let answer = pool.process_sliced_packet(packet, timestamp, channel);
     push_pool_answer(output, &answer)?;
@@ -66,7 +66,7 @@ fn give_back(
     pool: &mut IpDefragPool<u64, u64>,
     answer: Result<Option<IpDefragPayloadVec>, IpDefragError>,
 )
-    ensures { (calls : List NumberCall) → HoldsCalls calls pool.old → HoldsCalls calls pool.new }
+    ensures { (history : PoolHistory) → HoldsHistory history pool.old → HoldsHistory history pool.new }
 {
     if let Ok(Some(payload)) = answer {
         pool.return_buf(payload);
@@ -75,8 +75,8 @@ fn give_back(
 
 /// Drops the streams whose timestamp is below this one.
 pub fn drop_below(pool: &mut IpDefragPool<u64, u64>, timestamp: u64)
-    ensures { (calls : List NumberCall) → HoldsCalls calls pool.old →
-        HoldsCalls (calls ++ drops_streams timestamp ∷ []) pool.new }
+    ensures { (history : PoolHistory) → HoldsHistory history pool.old →
+        HoldsHistory (with_call history (drops_streams timestamp)) pool.new }
 {
     pool.retain(
         |kept: &u64| -> bool

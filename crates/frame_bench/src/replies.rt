@@ -3,18 +3,19 @@
 ghost use Rattle.std.specs.Prelude.{◌≡◌, ◌∷◌, ◌++◌, [], ℕ, List, OnOk};
 ghost use Rattle.frame_bench.specs.Answers.{IsAnswer};
 ghost use Rattle.frame_bench.specs.Lines.{line_feed};
-ghost use Rattle.frame_bench.specs.PoolCalls.{NumberCall, AreRequestCalls, HoldsCalls, HoldsLines};
+ghost use Rattle.frame_bench.specs.PoolCalls.{PoolHistory, IsAfterRequest, HoldsHistory, HoldsLines};
 ghost use Rattle.frame_bench.specs.Replies.{IsReply};
 
 use crate::pooling::{drop_below, push_fragment};
 use crate::requests::{Request, parse};
 use crate::slicing::push_slice;
 use ep_defrag::IpDefragPool;
-use std::alloc::AllocError;
+use std::alloc::{AllocError, Global};
 
 /// Appends the answer to a line behind any others, after which the pool stands, and a line feed. What `bytes` holds is
-/// overwritten.
+/// overwritten. A new pool takes its memory from `alloc`.
 pub fn push_line(
+    alloc: Global,
     output: &mut Vec<u8>,
     pool: &mut IpDefragPool<u64, u64>,
     line: &[u8],
@@ -25,13 +26,14 @@ pub fn push_line(
     ensures holds { OnOk result ((before : List (List ℕ)) → HoldsLines before pool.old →
         HoldsLines (before ++ line.now ∷ []) pool.new) }
 {
-    push_answer(output, pool, line, bytes)?;
+    push_answer(alloc, output, pool, line, bytes)?;
     output.push(b'\n')?;
     Ok(())
 }
 
 /// Appends the answer to a line.
 fn push_answer(
+    alloc: Global,
     output: &mut Vec<u8>,
     pool: &mut IpDefragPool<u64, u64>,
     line: &[u8],
@@ -43,22 +45,23 @@ fn push_answer(
         HoldsLines (before ++ line.now ∷ []) pool.new) }
 {
     match parse(line, bytes)? {
-        Some(request) => push_reply(output, pool, request, bytes.as_slice()),
+        Some(request) => push_reply(alloc, output, pool, request, bytes.as_slice()),
         None => output.extend_from_slice(b"err line"),
     }
 }
 
 /// Appends the reply to a request.
 fn push_reply(
+    alloc: Global,
     output: &mut Vec<u8>,
     pool: &mut IpDefragPool<u64, u64>,
     request: Request,
     bytes: &[u8],
 ) -> Result<(), AllocError>
-    ensures reply { OnOk result ((calls : List NumberCall) → HoldsCalls calls pool.old → (reply : List ℕ)
-        × IsReply calls request bytes.now reply × (output.new.items ≡ output.old.items ++ reply)) }
-    ensures holds { OnOk result ((calls : List NumberCall) → HoldsCalls calls pool.old → (made : List NumberCall)
-        × AreRequestCalls request bytes.now made × HoldsCalls (calls ++ made) pool.new) }
+    ensures reply { OnOk result ((history : PoolHistory) → HoldsHistory history pool.old → (reply : List ℕ)
+        × IsReply history request bytes.now reply × (output.new.items ≡ output.old.items ++ reply)) }
+    ensures holds { OnOk result ((history : PoolHistory) → HoldsHistory history pool.old → (after : PoolHistory)
+        × IsAfterRequest history request bytes.now after × HoldsHistory after pool.new) }
 {
     match request {
         Request::Slice(entry) => push_slice(output, entry, bytes),
@@ -69,6 +72,10 @@ fn push_reply(
         } => push_fragment(output, pool, entry, timestamp, channel, bytes),
         Request::Drop { timestamp } => {
             drop_below(pool, timestamp);
+            output.extend_from_slice(b"ok")
+        }
+        Request::Limit { max } => {
+            *pool = IpDefragPool::with_limit(alloc, max);
             output.extend_from_slice(b"ok")
         }
     }

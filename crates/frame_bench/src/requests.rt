@@ -6,7 +6,7 @@ ghost use Rattle.frame_bench.specs.Requests.{Asks, entry_word};
 ghost use Rattle.frame_bench.specs.declared.requests.Entry.{Entry};
 ghost use Rattle.frame_bench.specs.declared.requests.Request.{Request};
 
-use crate::fragments::{parse_drop, parse_fragment};
+use crate::fragments::{parse_drop, parse_fragment, parse_limit};
 use crate::hex_text::decode;
 use crate::texts::behind;
 use std::alloc::AllocError;
@@ -41,6 +41,11 @@ pub enum Request {
         /// The least timestamp that is kept.
         timestamp: u64,
     },
+    /// That a new pool takes the place of the one before, with its streams.
+    Limit {
+        /// The greatest length of a payload, in bytes.
+        max: u16,
+    },
 }
 
 /// What a line asks, where it does. The bytes that it says are then left in `bytes`.
@@ -55,8 +60,11 @@ pub fn parse(line: &[u8], bytes: &mut Vec<u8>) -> Result<Option<Request>, AllocE
     if let Some(rest) = behind(line, b"frag") {
         return parse_fragment(rest, bytes);
     }
-    match behind(line, b"drop") {
-        Some(rest) => Ok(parse_drop(rest, bytes)),
+    if let Some(rest) = behind(line, b"drop") {
+        return Ok(parse_drop(rest, bytes));
+    }
+    match behind(line, b"limit") {
+        Some(rest) => Ok(parse_limit(rest, bytes)),
         None => Ok(None),
     }
 }

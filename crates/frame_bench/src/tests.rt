@@ -7,6 +7,7 @@ mod floods;
 mod fragments;
 mod frames;
 mod ip;
+mod limits;
 mod lines;
 mod streams;
 

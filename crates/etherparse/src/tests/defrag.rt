@@ -11,6 +11,7 @@ use std::process::Abort;
 mod buffers;
 mod frames;
 mod late_ends;
+mod limits;
 pub(crate) mod lists;
 pub(crate) mod pool;
 mod sections;

@@ -3,7 +3,7 @@
 
 use super::cuts::{CUTS, push_refusal};
 use super::streams::{SINGLE, Turn, WHOLE, ending_of};
-use super::{fragments, frames, texts_of};
+use super::{fragments, frames, limits, texts_of};
 use crate::run_error::RunError;
 use std::alloc::{AllocError, Global};
 use std::io::ErrorKind;
@@ -192,7 +192,7 @@ fn random_pieces(rt: HostRuntime) -> Result<(), Fail> {
     let (input, wanted) = texts_of(rt.alloc(), &frames::ROWS)?;
     for _ in 0..50 {
         assert_random(&rt, rt.alloc(), &mut numbers, (&input, &wanted))?;
-        for (input, wanted) in fragments::RUNS {
+        for (input, wanted) in fragments::RUNS.iter().chain(&limits::RUNS) {
             let texts = (input.as_bytes(), wanted.as_bytes());
             assert_random(&rt, rt.alloc(), &mut numbers, texts)?;
         }

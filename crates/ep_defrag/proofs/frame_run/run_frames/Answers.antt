@@ -15,6 +15,7 @@ loop-call-init g c = record {
   each = tt;
   answered = λ decide decided. ap (map read_answer) c.in-Ok.ensures.items;
   held = λ decide decided. c.new-pool.ensures.holds;
+  limit = c.new-pool.ensures.limit;
   no_memory = search rules;
   whole = search rules;
   counted = search rules;
@@ -40,14 +41,17 @@ loop-call-preserved g c =
           ap (map read_answer) pushed
           ∙ map-append read_answer c.loop-call.answers.items (answer ∷ [])
           ∙ ap (λ answers. answers ++ read_answer answer ∷ []) (known.answered decide decided)
-          ∙ ap (λ last. frame_answers_to eq decide reads ++ last ∷ [])
-          (c.in-Ok-answer_frame.ensures.answer read only.is (table_after eq decide (pool_calls reads))
-          (known.held decide decided))
-          ∙ sym (frame_answers-push eq decide [] reads read);
+          ∙ ap (λ last. frame_answers_to 65535 eq decide reads ++ last ∷ [])
+          (rw known.limit
+          at (c.in-Ok-answer_frame.ensures.answer read only.is (table_after 65535 eq decide (pool_calls reads))
+          (known.held decide decided)))
+          ∙ sym (frame_answers-push 65535 eq decide [] reads read);
       held = λ decide decided.
-          HoldsTable-same eq c.answer_frame.new.pool _ _ (λ name. sym (table_after_read eq decide reads read name))
-          (c.in-Ok-answer_frame.ensures.holds read only.is decide decided (table_after eq decide (pool_calls reads))
-          (known.held decide decided));
+          HoldsTable-same eq c.answer_frame.new.pool _ _ (λ name. sym (table_after_read 65535 eq decide reads read name))
+          (rw known.limit
+          at (c.in-Ok-answer_frame.ensures.holds read only.is decide decided
+          (table_after 65535 eq decide (pool_calls reads)) (known.held decide decided)));
+      limit = c.in-Ok-answer_frame.ensures.limit ∙ known.limit;
       no_memory = rw pushed
           (All-push (λ (answer : FrameAnswer). IsFalse (frame_answer_wants_memory answer)) c.loop-call.answers.items
           answer known.no_memory c.in-Ok-answer_frame.ensures.no_memory);
@@ -120,7 +124,7 @@ returns-clause-cuts g c = λ reads read decide decided.
     all_taken c.loop-call.yielded c.loop-call.call-iterator.rest.items c.args.calls.items known.whole
     (sym c.loop-call.call-iterator.rest.ok.0 ∙ c.in-None.ensures.steps.0) in
     let same = one_reading c.loop-call.yielded known.reads reads known.each (rw all read) in
-    read_cuts_at g.CustomChannelId.PartialEq.eq decide reads c.loop-call.answers.items
+    read_cuts_at 65535 g.CustomChannelId.PartialEq.eq decide reads c.loop-call.answers.items
     (rw same (known.answered decide decided))
 
 -- the calls before the one at which it stops are those that were made
@@ -150,5 +154,6 @@ returns-in_default-answer_frame-clause-stopped g c = λ _ reads read decide deci
     let before : take c.len-at.result c.args.calls.items ≡ taken = rw (at, ← all) place.0 in
     let same = one_reading taken known.reads reads known.each (rw (← before) read) in
     rw (at, ← all, place.1, same)
-    (c.in_default-answer_frame.ensures.memory (table_after eq decide (pool_calls known.reads))
-    (known.held decide decided))
+    (rw known.limit
+    at (c.in_default-answer_frame.ensures.memory (table_after 65535 eq decide (pool_calls known.reads))
+    (known.held decide decided)))

@@ -7,27 +7,27 @@ use Rattle.ep_defrag.proofs.Frames.{answers_in}
 use Rattle.ep_defrag.proofs.laws.built_cuts_come_out.Goals as goal
 
 pub returns-clause-alone : goal.returns-clause-alone
-returns-clause-alone g c keep name payload cuts short built under =
+returns-clause-alone g c limit keep name payload cuts short built under =
     let eq = g.CustomChannelId.PartialEq.eq in
     let read_back = c.built_fragments.ensures.read_back in
     let have_bytes = c.built_fragments.ensures.bytes in
     let decided = c.frames.ensures.slices in
     let are = recursion_from_All (IsBuiltCut payload) _ built in
     let named = recursion_from_All (IsUnder eq name) _ under in
-    sym (answers_all read_back have_bytes decided eq keep name payload [] cuts are named)
-    ∙ come read_back have_bytes decided eq keep name payload g.met.CustomChannelId.Eq.laws short [] _ cuts tt are
-    (keeps_all read_back have_bytes decided eq keep name payload cuts)
-    (frames_all read_back have_bytes decided eq keep name payload cuts are named)
+    sym (answers_all read_back have_bytes decided limit eq keep name payload [] cuts are named)
+    ∙ come read_back have_bytes decided limit eq keep name payload g.met.CustomChannelId.Eq.laws short [] _ cuts tt are
+    (keeps_all read_back have_bytes decided limit eq keep name payload cuts)
+    (frames_all read_back have_bytes decided limit eq keep name payload cuts are named)
 
 pub returns-clause-among : goal.returns-clause-among
-returns-clause-among g c keep name payload cuts calls short built keeps same =
+returns-clause-among g c limit keep name payload cuts calls short built keeps same =
     come c.built_fragments.ensures.read_back c.built_fragments.ensures.bytes c.frames.ensures.slices
-    g.CustomChannelId.PartialEq.eq keep name payload g.met.CustomChannelId.Eq.laws short [] calls cuts tt
+    limit g.CustomChannelId.PartialEq.eq keep name payload g.met.CustomChannelId.Eq.laws short [] calls cuts tt
     (recursion_from_All (IsBuiltCut payload) _ built)
     (recursion_from_All (KeepsAll keep) _ keeps) same
 
 pub returns-clause-read : goal.returns-clause-read
-returns-clause-read g c keep name payload cuts reads short built keeps same =
+returns-clause-read g c limit keep name payload cuts reads short built keeps same =
     let eq = g.CustomChannelId.PartialEq.eq in
-    ap (answers_to_frames eq name (pool_calls reads)) (answers_in eq keep [] reads)
-    ∙ returns-clause-among g c keep name payload cuts (pool_calls reads) short built keeps same
+    ap (answers_to_frames eq name (pool_calls reads)) (answers_in limit eq keep [] reads)
+    ∙ returns-clause-among g c limit keep name payload cuts (pool_calls reads) short built keeps same

@@ -4,5 +4,5 @@ use Rattle.ep_defrag.proofs.Cuts.{cut_fits_after}
 use Rattle.ep_defrag.proofs.laws.cut_fits.Goals as goal
 
 pub returns : goal.returns
-returns c payload cuts cut short all is_cut shape =
-    cut_fits_after payload cuts cut short (recursion_from_All (IsCut payload) cuts all) is_cut shape
+returns c limit payload cuts cut short all is_cut shape =
+    cut_fits_after payload limit cuts cut short (recursion_from_All (IsCut payload) cuts all) is_cut shape

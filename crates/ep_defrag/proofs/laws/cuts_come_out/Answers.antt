@@ -5,13 +5,13 @@ use Rattle.ep_defrag.proofs.Alone.{cuts_only, cuts_come, all_cuts}
 use Rattle.ep_defrag.proofs.laws.cuts_come_out.Goals as goal
 
 pub returns-clause-only : goal.returns-clause-only
-returns-clause-only g c keep name calls payload short gives =
-    cuts_only g.CustomChannelId.PartialEq.eq keep payload short g.met.CustomChannelId.Eq.laws name calls gives
+returns-clause-only g c limit keep name calls payload short gives =
+    cuts_only limit g.CustomChannelId.PartialEq.eq keep payload short g.met.CustomChannelId.Eq.laws name calls gives
 
 pub returns-clause-comes : goal.returns-clause-comes
-returns-clause-comes g c keep name calls payload short gives final covers =
+returns-clause-comes g c limit keep name calls payload short gives final covers =
     let eq = g.CustomChannelId.PartialEq.eq in
     let laws = g.met.CustomChannelId.Eq.laws in
-    cuts_come eq keep payload short laws name calls gives
+    cuts_come limit eq keep payload short laws name calls gives
     ((complete_cuts payload (fragments_of (calls_of eq name calls))
-    (all_cuts eq keep payload short laws name calls gives)).1 (final, covers))
+    (all_cuts limit eq keep payload short laws name calls gives)).1 (final, covers))

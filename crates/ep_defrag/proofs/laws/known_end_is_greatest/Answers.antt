@@ -7,10 +7,10 @@ use Rattle.ep_defrag.proofs.laws.known_end_is_greatest.Goals as goal
 
 pub returns-clause-end : goal.returns-clause-end
 returns-clause-end c accepted end fit known =
-    ap (λ found. unwrap_or found (reach_of accepted)) (sym known) ∙ end_is_greatest accepted fit
+    ap (λ found. unwrap_or found (reach_of accepted)) (sym known) ∙ end_is_greatest 65535 accepted fit
 
 pub returns-clause-data : goal.returns-clause-data
-returns-clause-data c accepted fit = length-assembled accepted ∙ end_is_greatest accepted fit
+returns-clause-data c accepted fit = length-assembled accepted ∙ end_is_greatest 65535 accepted fit
 
 pub returns-clause-held : goal.returns-clause-held
 returns-clause-held c buffer accepted held = data_len buffer accepted held

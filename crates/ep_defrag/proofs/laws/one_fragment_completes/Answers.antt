@@ -2,4 +2,5 @@ use Rattle.ep_defrag.proofs.Completing.{one_fits, one_completes}
 use Rattle.ep_defrag.proofs.laws.one_fragment_completes.Goals as goal
 
 pub returns : goal.returns
-returns c accepted bytes fit len = (one_fits accepted fit bytes len, one_completes accepted fit bytes len)
+returns c limit accepted bytes fit len =
+    (one_fits limit accepted fit bytes len, one_completes limit accepted fit bytes len)

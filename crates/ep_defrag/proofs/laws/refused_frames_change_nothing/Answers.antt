@@ -3,4 +3,4 @@ use Rattle.ep_defrag.proofs.Frames.{answers_in}
 use Rattle.ep_defrag.proofs.laws.refused_frames_change_nothing.Goals as goal
 
 pub returns : goal.returns
-returns g c keep reads = answers_in g.CustomChannelId.PartialEq.eq keep [] reads
+returns g c limit keep reads = answers_in limit g.CustomChannelId.PartialEq.eq keep [] reads

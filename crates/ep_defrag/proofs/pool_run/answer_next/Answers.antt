@@ -1,5 +1,5 @@
 use Rattle.std.proofs.Common.{sym, ◌∙◌, of_calls}
-use Rattle.ep_defrag.proofs.Taking.{frame_answer, frame_holds, frame_memory}
+use Rattle.ep_defrag.proofs.Taking.{frame_answer, frame_holds, frame_memory, frame_limit}
 use Rattle.ep_defrag.proofs.pool_run.answer_next.Goals as goal
 
 pub returns-then-lacks_memory-clause-memory : goal.returns-then-lacks_memory-clause-memory
@@ -25,6 +25,11 @@ returns-else-lacks_memory-clause-holds g c = λ decide decided table held.
 
 pub returns-else-lacks_memory-clause-no_memory : goal.returns-else-lacks_memory-clause-no_memory
 returns-else-lacks_memory-clause-no_memory g c = sym c.lacks_memory.ensures ∙ c.if-lacks_memory.false
+
+pub returns-else-lacks_memory-clause-limit : goal.returns-else-lacks_memory-clause-limit
+returns-else-lacks_memory-clause-limit g c =
+    frame_limit g.CustomChannelId.PartialEq.eq c.args.pool.now c.process_sliced_packet-answer.new.self _ _
+    c.process_sliced_packet-answer.result _ c.process_sliced_packet-answer.ensures
 
 pub returns-in-Drop-clause-holds : goal.returns-in-Drop-clause-holds
 returns-in-Drop-clause-holds g c = λ decide decided table held.

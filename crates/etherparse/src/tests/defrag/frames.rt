@@ -17,7 +17,7 @@ fn run_with_limits(
     calls: Vec<FrameCall<u64, u8, u64>>,
 ) -> Result<(Vec<FrameAnswer>, IpDefragPool<u64, u8>), RunStop>
     ensures { IfOk result (λ run. (reads : List (ReadCall _ _ _)) → AreReadAs calls.entry.items reads →
-        map read_answer run.0.items ≡ frame_answers_to ⟦<u8 as PartialEq>⟧.eq nat_le reads) }
+        map read_answer run.0.items ≡ frame_answers_to 65535 ⟦<u8 as PartialEq>⟧.eq nat_le reads) }
 {
     run_frames(
         alloc,

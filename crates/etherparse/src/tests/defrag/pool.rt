@@ -198,7 +198,7 @@ pub(super) fn run_with_limits(
     calls: Vec<PoolCall<u64, Halved, u64>>,
 ) -> Result<(Vec<PoolAnswer>, IpDefragPool<u64, Halved>), RunStop>
     ensures { IfOk result (λ run. map plain_answer run.0.items
-        ≡ answers_to ⟦<Halved as PartialEq>⟧.eq nat_le (map plain_call calls.entry.items)) }
+        ≡ answers_to 65535 ⟦<Halved as PartialEq>⟧.eq nat_le (map plain_call calls.entry.items)) }
 {
     run_calls(
         alloc,

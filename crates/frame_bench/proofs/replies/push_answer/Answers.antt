@@ -1,8 +1,8 @@
-use Rattle.std.proofs.Common.{◌≡◌, ◌∷◌, ◌++◌, ℕ, List, [], inl, inr, refl, sym, subst, append-nil}
+use Rattle.std.proofs.Common.{◌≡◌, ◌∷◌, ◌++◌, ℕ, List, [], inl, inr, refl}
 use Rattle.std.proofs.lemmas.Result.{on_ok_weaker}
 use Rattle.ep_defrag.specs.declared.ip_defrag_pool.IpDefragPool.{IpDefragPool}
 use Rattle.frame_bench.specs.Answers.{IsAnswer}
-use Rattle.frame_bench.specs.PoolCalls.{NumberCall, AreRequestCalls, HoldsCalls, HoldsLines}
+use Rattle.frame_bench.specs.PoolCalls.{PoolHistory, IsAfterRequest, HoldsHistory, HoldsLines}
 use Rattle.frame_bench.specs.Replies.{IsReply}
 use Rattle.frame_bench.specs.Requests.{Asks}
 use Rattle.frame_bench.specs.declared.requests.Request.{Request}
@@ -12,31 +12,30 @@ use Rattle.frame_bench.proofs.replies.push_answer.Goals as goal
 -- the reply to what a line asks is the answer to the line
 reply_answers : (line : List ℕ) (request : Request) (bytes old new : List ℕ) (pool : IpDefragPool ℕ ℕ)
     → Asks line request bytes
-    → ((calls : List NumberCall) → HoldsCalls calls pool → (reply : List ℕ) × IsReply calls request bytes reply
+    → ((history : PoolHistory) → HoldsHistory history pool → (reply : List ℕ) × IsReply history request bytes reply
     × (new ≡ old ++ reply))
     → (before : List (List ℕ)) → HoldsLines before pool → (answer : List ℕ) × IsAnswer before line answer
     × (new ≡ old ++ answer)
-reply_answers line request bytes old new pool asks replied before (calls, are, held) =
-    let reply = replied calls held in
-    (reply.0, inl (request, bytes, asks, (calls, are, reply.1)), reply.2)
+reply_answers line request bytes old new pool asks replied before (history, are, held) =
+    let reply = replied history held in
+    (reply.0, inl (request, bytes, asks, (history, are, reply.1)), reply.2)
 
--- the calls of what a line asks are those of the line
+-- what is made of the pool by what a line asks is what the line makes of it
 reply_holds : (line : List ℕ) (request : Request) (bytes : List ℕ) (pool next : IpDefragPool ℕ ℕ)
     → Asks line request bytes
-    → ((calls : List NumberCall) → HoldsCalls calls pool → (made : List NumberCall)
-    × AreRequestCalls request bytes made × HoldsCalls (calls ++ made) next)
+    → ((history : PoolHistory) → HoldsHistory history pool → (after : PoolHistory)
+    × IsAfterRequest history request bytes after × HoldsHistory after next)
     → (before : List (List ℕ)) → HoldsLines before pool → HoldsLines (before ++ line ∷ []) next
-reply_holds line request bytes pool next asks made before (calls, are, held) =
-    let more = made calls held in
-    HoldsLines-push before line calls more.0 next are (inl (request, bytes, asks, more.1)) more.2
+reply_holds line request bytes pool next asks made before (history, are, held) =
+    let more = made history held in
+    HoldsLines-push before line history more.0 next are (inl (request, bytes, asks, more.1)) more.2
 
--- a line that asks nothing makes no call
+-- a line that asks nothing makes nothing of it
 nothing_holds : (line : List ℕ) (pool : IpDefragPool ℕ ℕ)
     → ((request : Request) (bytes : List ℕ) → Asks line request bytes → ⊥)
     → (before : List (List ℕ)) → HoldsLines before pool → HoldsLines (before ++ line ∷ []) pool
-nothing_holds line pool none before (calls, are, held) =
-    HoldsLines-push before line calls [] pool are (inr (none, refl))
-    (subst (λ t. HoldsCalls t pool) (sym (append-nil calls)) held)
+nothing_holds line pool none before (history, are, held) =
+    HoldsLines-push before line history history pool are (inr (none, refl)) held
 
 pub returns-in-Some-clause-answer : goal.returns-in-Some-clause-answer
 returns-in-Some-clause-answer c =

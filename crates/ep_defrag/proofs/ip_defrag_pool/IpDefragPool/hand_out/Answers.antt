@@ -10,21 +10,21 @@ returns-in_err-stream-clause-payload g c =
       c.from_residual.ensures,
       ← c.self.view_is,
       absent_stream g.CustomChannelId.PartialEq.eq g.met.CustomChannelId.Eq.laws _ (λ i a b. c.names.ensures a b i)
-          c.self.inside.streams.entries c.args.id.now (sym c.in_err-stream.ensures.value),
+          c.self.inside.limit c.self.inside.streams.entries c.args.id.now (sym c.in_err-stream.ensures.value),
     ) refl
 
 pub returns-in_err-stream-clause-ends : goal.returns-in_err-stream-clause-ends
 returns-in_err-stream-clause-ends g c =
     rw (← c.self.view_is)
     (removed_stream g.CustomChannelId.PartialEq.eq g.met.CustomChannelId.Eq.laws _ (λ i a b. c.names.ensures a b i)
-    c.self.inside.streams.entries c.remove.new.self.entries c.args.id.now
+    c.self.inside.limit c.self.inside.streams.entries c.remove.new.self.entries c.args.id.now
     c.remove.ensures.unique c.remove.ensures.updates.1 c.remove.ensures.entries)
 
 pub returns-clause-payload : goal.returns-clause-payload
 returns-clause-payload g c =
     let is =
     present_stream g.CustomChannelId.PartialEq.eq g.met.CustomChannelId.Eq.laws _ (λ i a b. c.names.ensures a b i)
-    c.self.inside.streams.entries c.args.id.now c.in_ok-stream.stream
+    c.self.inside.limit c.self.inside.streams.entries c.args.id.now c.in_ok-stream.stream
     (sym c.in_ok-stream.ensures.value) in
     rw (← c.self.view_is, is.named)
     (ap (λ payload. Some payload) (c.payload_of.ensures ∙ ap {B = Payload} (λ bytes. record {
@@ -37,5 +37,5 @@ pub returns-clause-ends : goal.returns-clause-ends
 returns-clause-ends g c =
     rw (← c.self.view_is)
     (removed_stream g.CustomChannelId.PartialEq.eq g.met.CustomChannelId.Eq.laws _ (λ i a b. c.names.ensures a b i)
-    c.self.inside.streams.entries c.remove.new.self.entries c.args.id.now
+    c.self.inside.limit c.self.inside.streams.entries c.remove.new.self.entries c.args.id.now
     c.remove.ensures.unique c.remove.ensures.updates.1 c.remove.ensures.entries)

@@ -10,7 +10,7 @@ pub begin-requires : goal.begin-requires
 begin-requires g c =
     rw c.get_mut.follows.holds-at-none
     (absent_stream g.CustomChannelId.PartialEq.eq g.met.CustomChannelId.Eq.laws _ (λ i a b. c.names.ensures a b i)
-    c.self.inside.streams.entries c.args.id (sym c.in_default.ensures.value))
+    c.self.inside.limit c.self.inside.streams.entries c.args.id (sym c.in_default.ensures.value))
 
 pub returns-in-Err : goal.returns-in-Err
 returns-in-Err g c =
@@ -18,12 +18,12 @@ returns-in-Err g c =
     let next : OpenStream _ = record { buffer = c.add.new.buffer; timestamp = was.timestamp } in
     let of =
     present_stream g.CustomChannelId.PartialEq.eq g.met.CustomChannelId.Eq.laws _ (λ i a b. c.names.ensures a b i)
-    c.self.inside.streams.entries c.args.id was
+    c.self.inside.limit c.self.inside.streams.entries c.args.id was
     (sym c.in-Some.ensures.value) in
     let written = c.get_mut.follows.holds next in
     let now =
     written_stream g.CustomChannelId.PartialEq.eq g.met.CustomChannelId.Eq.laws _ (λ i a b. c.names.ensures a b i)
-    c.self.inside.streams.entries (c.get_mut.follows.lender next).entries c.args.id written.4 was next
+    c.self.inside.limit c.self.inside.streams.entries (c.get_mut.follows.lender next).entries c.args.id written.4 was next
     of written.0 in
     rw (← c.self.view_is)
     (goes_on_refused g.CustomChannelId.PartialEq.eq g.met.CustomChannelId.Eq.laws _ _ c.args.id _ c.args.timestamp
@@ -36,12 +36,12 @@ returns-then-not-is_whole g c =
     let next : OpenStream _ = record { buffer = c.add.new.buffer; timestamp = c.args.timestamp } in
     let of =
     present_stream g.CustomChannelId.PartialEq.eq g.met.CustomChannelId.Eq.laws _ (λ i a b. c.names.ensures a b i)
-    c.self.inside.streams.entries c.args.id was
+    c.self.inside.limit c.self.inside.streams.entries c.args.id was
     (sym c.in-Some.ensures.value) in
     let written = c.get_mut.follows.holds next in
     let now =
     written_stream g.CustomChannelId.PartialEq.eq g.met.CustomChannelId.Eq.laws _ (λ i a b. c.names.ensures a b i)
-    c.self.inside.streams.entries (c.get_mut.follows.lender next).entries c.args.id written.4 was next
+    c.self.inside.limit c.self.inside.streams.entries (c.get_mut.follows.lender next).entries c.args.id written.4 was next
     of written.0 in
     rw (← c.self.view_is)
     (goes_on_more g.CustomChannelId.PartialEq.eq g.met.CustomChannelId.Eq.laws _ _ c.args.id _ c.args.timestamp
@@ -55,12 +55,12 @@ returns g c =
     let next : OpenStream _ = record { buffer = c.add.new.buffer; timestamp = c.args.timestamp } in
     let of =
     present_stream g.CustomChannelId.PartialEq.eq g.met.CustomChannelId.Eq.laws _ (λ i a b. c.names.ensures a b i)
-    c.self.inside.streams.entries c.args.id was
+    c.self.inside.limit c.self.inside.streams.entries c.args.id was
     (sym c.in-Some.ensures.value) in
     let written = c.get_mut.follows.holds next in
     let now =
     written_stream g.CustomChannelId.PartialEq.eq g.met.CustomChannelId.Eq.laws _ (λ i a b. c.names.ensures a b i)
-    c.self.inside.streams.entries (c.get_mut.follows.lender next).entries c.args.id written.4 was next
+    c.self.inside.limit c.self.inside.streams.entries (c.get_mut.follows.lender next).entries c.args.id written.4 was next
     of written.0 in
     rw (← c.self.view_is)
     (goes_on_whole g.CustomChannelId.PartialEq.eq g.met.CustomChannelId.Eq.laws _ _ c.args.id _ c.args.timestamp

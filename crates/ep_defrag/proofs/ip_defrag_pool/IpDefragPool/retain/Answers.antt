@@ -10,7 +10,7 @@ returns-clause-answered g c =
       search (of_calls, rules),
       search (of_calls, rules),
       search (of_calls, rules),
-    )) _ c.self.inside.streams.entries c.retain.new.self.entries refl
+    )) c.self.inside.limit _ c.self.inside.streams.entries c.retain.new.self.entries refl
     c.retain.ensures.filtered)
 
 pub returns-clause-holds : goal.returns-clause-holds

@@ -8,7 +8,7 @@ use Rattle.ep_defrag.proofs.Calls.{table_after-push, answers_after-push}
 use Rattle.ep_defrag.proofs.Tables.{HoldsTable-same}
 use Rattle.ep_defrag.proofs.Alone.{cuts_at}
 use Rattle.ep_defrag.proofs.Lists.{all_taken, before_and_at}
-use Rattle.ep_defrag.proofs.pool_run.run_calls.Goals as goal
+use Rattle.ep_defrag.proofs.pool_run.run_calls_with_limit.Goals as goal
 
 pub loop-call-preserved : goal.loop-call-preserved
 loop-call-preserved g c =
@@ -16,6 +16,7 @@ loop-call-preserved g c =
     let call = c.in-Some.call in
     let answer = c.in-Ok-answer_next.answer in
     let eq = g.CustomChannelId.PartialEq.eq in
+    let max = c.args.max in
     let sofar = map plain_call c.loop-call.yielded in
     let more : map plain_call (c.loop-call.yielded ++ call ∷ []) ≡ sofar ++ plain_call call ∷ [] =
     map-append plain_call c.loop-call.yielded (call ∷ []) in
@@ -27,15 +28,19 @@ loop-call-preserved g c =
           ap (map plain_answer) pushed
           ∙ map-append plain_answer c.loop-call.answers.items (answer ∷ [])
           ∙ ap (λ answers. answers ++ plain_answer answer ∷ []) (known.answered decide decided)
-          ∙ ap (λ last. answers_to eq decide sofar ++ last ∷ [])
-          (c.in-Ok-answer_next.ensures.answer (table_after eq decide sofar) (known.held decide decided))
-          ∙ sym (answers_after-push eq decide [] sofar (plain_call call))
-          ∙ ap (answers_to eq decide) (sym more);
+          ∙ ap (λ last. answers_to max eq decide sofar ++ last ∷ [])
+          (rw known.limit
+          at (c.in-Ok-answer_next.ensures.answer (table_after max eq decide sofar) (known.held decide decided)))
+          ∙ sym (answers_after-push max eq decide [] sofar (plain_call call))
+          ∙ ap (answers_to max eq decide) (sym more);
       held = λ decide decided.
           rw more
           (HoldsTable-same eq c.answer_next.new.pool _ _
-          (λ name. sym (table_after-push eq decide sofar (plain_call call) name))
-          (c.in-Ok-answer_next.ensures.holds decide decided (table_after eq decide sofar) (known.held decide decided)));
+          (λ name. sym (table_after-push max eq decide sofar (plain_call call) name))
+          (rw known.limit
+          at (c.in-Ok-answer_next.ensures.holds decide decided (table_after max eq decide sofar)
+          (known.held decide decided))));
+      limit = c.in-Ok-answer_next.ensures.limit ∙ known.limit;
       no_memory = rw pushed
           (All-push (λ (answer : PoolAnswer). IsFalse (answer_wants_memory answer)) c.loop-call.answers.items answer
           known.no_memory c.in-Ok-answer_next.ensures.no_memory);
@@ -100,13 +105,14 @@ returns-in_default-answer_next-clause-stopped g c = λ _ decide decided d.
     let at : c.len-at.result ≡ length taken = omega (arith, known.counted) in
     let place = before_and_at taken left call d in
     rw (at, ← all, place.0, place.1)
-    (c.in_default-answer_next.ensures.memory
-    (table_after g.CustomChannelId.PartialEq.eq decide (map plain_call taken)) (known.held decide decided))
+    (rw known.limit
+    at (c.in_default-answer_next.ensures.memory
+    (table_after c.args.max g.CustomChannelId.PartialEq.eq decide (map plain_call taken)) (known.held decide decided)))
 
 pub returns-clause-cuts : goal.returns-clause-cuts
 returns-clause-cuts g c = λ decide decided at call answer is_call is_answer payload cuts.
     let all : c.loop-call.yielded ≡ c.args.calls.items =
     all_taken c.loop-call.yielded c.loop-call.call-iterator.rest.items c.args.calls.items c.loop-call.invariant.whole
     (sym c.loop-call.call-iterator.rest.ok.0 ∙ c.in-None.ensures.steps.0) in
-    cuts_at g.CustomChannelId.PartialEq.eq decide plain_call plain_answer c.args.calls.items c.loop-call.answers.items
+    cuts_at c.args.max g.CustomChannelId.PartialEq.eq decide plain_call plain_answer c.args.calls.items c.loop-call.answers.items
     (rw all at (c.loop-call.invariant.answered decide decided)) at call answer is_call is_answer payload cuts
