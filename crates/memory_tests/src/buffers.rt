@@ -1,0 +1,186 @@
+//! Fragments of one payload: an accepted one asks for memory at most twice, and no other asks.
+
+use crate::checks::*;
+use crate::samples::*;
+use etherparse::defrag::*;
+use etherparse::*;
+use std::alloc::Global;
+use std::process::Abort;
+
+/// A fragment at an offset in units of 8 bytes, whether more follow, and its bytes.
+type Step = (u16, bool, &'static [u8]);
+
+fn new_buffer(alloc: Global) -> IpDefragBuf {
+    IpDefragBuf::new(IpNumber::UDP, Vec::new(alloc), Vec::new(alloc))
+}
+
+/// A fragment is accepted, and where that was refused, when it is added again.
+fn adds(
+    rt: &(impl Abort + Print),
+    buffer: &mut IpDefragBuf,
+    name: &str,
+    (units, more_fragments, payload): Step,
+) {
+    let len = usize::from(units)
+        .saturating_mul(8)
+        .saturating_add(payload.len());
+    let mut answer = buffer.add(offset(rt, units), more_fragments, payload);
+    if answer == Err(IpDefragError::AllocationFailure { len }) {
+        refused(rt, name);
+        answer = buffer.add(offset(rt, units), more_fragments, payload);
+    }
+    same(rt, &answer, &Ok(()));
+}
+
+/// Fragments that are accepted in turn make these bytes, whole.
+fn makes(rt: &(impl Abort + Print), alloc: Global, name: &str, steps: &[Step], bytes: &[u8]) {
+    let mut buffer = new_buffer(alloc);
+    for step in steps {
+        adds(rt, &mut buffer, name, *step);
+    }
+    same(rt, &buffer.is_complete(), &true);
+    same(rt, &buffer.data().as_slice(), &bytes);
+}
+
+const IN_ORDER: [Step; 3] = [
+    (0, true, b"abcdefgh"),
+    (1, true, b"ijklmnop"),
+    (2, false, b"qrst"),
+];
+
+#[test]
+fn in_order(rt: HostRuntime) {
+    makes(
+        &rt,
+        rt.alloc(),
+        "add, in order",
+        &IN_ORDER,
+        b"abcdefghijklmnopqrst",
+    );
+}
+
+const REVERSED: [Step; 3] = [
+    (2, false, b"qrst"),
+    (1, true, b"ijklmnop"),
+    (0, true, b"abcdefgh"),
+];
+
+#[test]
+fn reversed(rt: HostRuntime) {
+    makes(
+        &rt,
+        rt.alloc(),
+        "add, reversed",
+        &REVERSED,
+        b"abcdefghijklmnopqrst",
+    );
+}
+
+const APART: [Step; 3] = [
+    (0, true, b"abcdefgh"),
+    (2, false, b"qrst"),
+    (1, true, b"ijklmnop"),
+];
+
+#[test]
+fn apart(rt: HostRuntime) {
+    makes(
+        &rt,
+        rt.alloc(),
+        "add, apart",
+        &APART,
+        b"abcdefghijklmnopqrst",
+    );
+}
+
+const OVERLAPPING: [Step; 3] = [
+    (0, true, b"abcdefghijklmnop"),
+    (1, false, b"IJKLMNOPqrst"),
+    (0, true, b"ABCDEFGHi_______"),
+];
+
+#[test]
+fn overlapping(rt: HostRuntime) {
+    makes(
+        &rt,
+        rt.alloc(),
+        "add, overlapping",
+        &OVERLAPPING,
+        b"ABCDEFGHi_______qrst",
+    );
+}
+
+/// 2,000 bytes, and a final fragment without bytes.
+const LARGE_AND_EMPTY: [Step; 2] = [(0, true, &[7; 2000]), (250, false, b"")];
+
+#[test]
+fn large_and_empty(rt: HostRuntime) {
+    makes(
+        &rt,
+        rt.alloc(),
+        "add, large and empty",
+        &LARGE_AND_EMPTY,
+        &[7; 2000],
+    );
+}
+
+/// A clone, and where that was refused, the one that is made then.
+fn copy(rt: &(impl Abort + Print), buffer: &IpDefragBuf) -> IpDefragBuf {
+    match buffer.clone() {
+        Ok(copy) => copy,
+        Err(_) => {
+            refused(rt, "clone of IpDefragBuf");
+            buffer.clone().expect(rt, "refused twice")
+        }
+    }
+}
+
+#[test]
+fn clones(rt: HostRuntime) {
+    let mut buffer = new_buffer(rt.alloc());
+    adds(&rt, &mut buffer, "setup", (0, true, b"abcdefgh"));
+    same(&rt, &copy(&rt, &buffer), &buffer);
+}
+
+/// A fragment is refused with this error.
+fn refuses(
+    rt: &impl Abort,
+    buffer: &mut IpDefragBuf,
+    (units, more_fragments, payload): Step,
+    error: IpDefragError,
+) {
+    same(
+        rt,
+        &buffer.add(offset(rt, units), more_fragments, payload),
+        &Err(error),
+    );
+}
+
+/// What is in place or refused asks for no memory, nor does what only looks.
+#[test]
+fn without_memory(rt: HostRuntime) {
+    let mut buffer = new_buffer(rt.alloc());
+    let unaligned = |offset| IpDefragError::UnalignedFragmentPayloadLen {
+        offset,
+        payload_len: 7,
+    };
+    refuses(
+        &rt,
+        &mut buffer,
+        (1, true, b"1234567"),
+        unaligned(offset(&rt, 1)),
+    );
+    adds(&rt, &mut buffer, "setup", (0, true, b"abcdefgh"));
+    same(&rt, &buffer.add(offset(&rt, 0), true, b"ABCDEFGH"), &Ok(()));
+    refuses(
+        &rt,
+        &mut buffer,
+        (1, true, b"1234567"),
+        unaligned(offset(&rt, 1)),
+    );
+    same(&rt, &buffer.is_complete(), &false);
+    let (bytes, sections) = buffer.take_bufs();
+    let buffer = IpDefragBuf::new(IpNumber::UDP, bytes, sections);
+    same(&rt, &buffer.is_complete(), &false);
+    asks_once(&rt, rt.alloc());
+}

@@ -1,0 +1,132 @@
+//! Frames with each kind of the builder's steps are written with one request for memory. Where that is refused, the
+//! answer says so and the vector is as it was.
+
+use crate::checks::*;
+use crate::samples::*;
+use etherparse::err::packet::BuildWriteError;
+use etherparse::*;
+use std::alloc::Global;
+use std::process::Abort;
+
+/// The last header of a frame.
+#[derive(Clone, Copy)]
+enum Last {
+    Arp,
+    Ipv4,
+    Udp,
+    Tcp,
+    Icmpv4,
+    Icmpv6,
+    Extensions,
+    Cooked,
+}
+
+/// An Ethernet II header.
+fn ethernet() -> PacketBuilderStep<Ethernet2Header> {
+    PacketBuilder::ethernet2([1; 6], [2; 6])
+}
+
+/// Appends a frame.
+fn append(rt: &impl Abort, last: Last, buf: &mut Vec<u8>) -> Result<(), BuildWriteError> {
+    let payload = b"abcdefgh";
+    match last {
+        Last::Arp => ethernet()
+            .single_vlan(VlanId::ZERO)
+            .arp(longest_arp(rt))
+            .write(buf),
+        Last::Ipv4 => ethernet()
+            .ipv4([1; 4], [2; 4], 1)
+            .write(buf, IpNumber(253), payload),
+        Last::Udp => ethernet()
+            .ipv4([192, 168, 1, 1], [192, 168, 1, 2], 20)
+            .udp(21, 1234)
+            .write(buf, payload),
+        Last::Tcp => PacketBuilder::ipv4([1; 4], [2; 4], 1)
+            .tcp(1, 2, 3, 4)
+            .write(buf, payload),
+        Last::Icmpv4 => {
+            let ip = ethernet()
+                .double_vlan(VlanId::ZERO, VlanId::ZERO)
+                .ipv4([1; 4], [2; 4], 1);
+            ip.icmpv4_echo_request(1, 2).write(buf, payload)
+        }
+        Last::Icmpv6 => {
+            let ip = PacketBuilder::ipv6([1; 16], [2; 16], 1);
+            ip.icmpv6_echo_reply(1, 2).write(buf, payload)
+        }
+        Last::Extensions => ethernet()
+            .ip(longest_ipv6(rt))
+            .udp(1, 2)
+            .write(buf, payload),
+        Last::Cooked => {
+            let link = PacketBuilder::linux_sll(LinuxSllPacketType::HOST, 6, [1; 8]);
+            link.ip(longest_ipv4(rt)).udp(1, 2).write(buf, payload)
+        }
+    }
+}
+
+/// A frame of so many bytes is written behind what a vector holds, and where that was refused, when it is asked again.
+fn builds(rt: &(impl Abort + Print), buf: &mut Vec<u8>, last: Last, len: usize) {
+    let before = buf.len();
+    let mut answer = append(rt, last, buf);
+    if answer == Err(BuildWriteError::OutOfMemory) {
+        refused(rt, "write of the builder");
+        same(rt, &buf.len(), &before);
+        answer = append(rt, last, buf);
+    }
+    same(rt, &answer, &Ok(()));
+    same(rt, &buf.len().saturating_sub(before), &len);
+}
+
+/// The same into an empty vector.
+fn builds_alone(rt: &(impl Abort + Print), alloc: Global, last: Last, len: usize) {
+    builds(rt, &mut Vec::new(alloc), last, len);
+}
+
+#[test]
+fn of_arp(rt: HostRuntime) {
+    builds_alone(&rt, rt.alloc(), Last::Arp, 14 + 4 + 1028);
+}
+
+#[test]
+fn of_ip(rt: HostRuntime) {
+    builds_alone(&rt, rt.alloc(), Last::Ipv4, 14 + 20 + 8);
+}
+
+#[test]
+fn of_udp(rt: HostRuntime) {
+    builds_alone(&rt, rt.alloc(), Last::Udp, 14 + 20 + 8 + 8);
+}
+
+#[test]
+fn of_tcp(rt: HostRuntime) {
+    builds_alone(&rt, rt.alloc(), Last::Tcp, 20 + 20 + 8);
+}
+
+#[test]
+fn of_icmpv4(rt: HostRuntime) {
+    builds_alone(&rt, rt.alloc(), Last::Icmpv4, 14 + 8 + 20 + 8 + 8);
+}
+
+#[test]
+fn of_icmpv6(rt: HostRuntime) {
+    builds_alone(&rt, rt.alloc(), Last::Icmpv6, 40 + 8 + 8);
+}
+
+#[test]
+fn of_extension_headers(rt: HostRuntime) {
+    builds_alone(&rt, rt.alloc(), Last::Extensions, 14 + 9268 + 8 + 8);
+}
+
+#[test]
+fn of_cooked_captures(rt: HostRuntime) {
+    builds_alone(&rt, rt.alloc(), Last::Cooked, 16 + 1088 + 8 + 8);
+}
+
+/// Behind bytes that fill a vector.
+#[test]
+fn behind_bytes(rt: HostRuntime) {
+    let mut buf = full(&rt, rt.alloc(), b"abc");
+    builds(&rt, &mut buf, Last::Udp, 14 + 20 + 8 + 8);
+    same(&rt, &buf.get(..3), &Some(b"abc".as_slice()));
+}

@@ -1,0 +1,133 @@
+//! Payloads that are given back to a pool: their memory serves the streams that begin later.
+
+use crate::checks::*;
+use crate::samples::*;
+use etherparse::defrag::*;
+use etherparse::*;
+use std::alloc::Global;
+use std::process::Abort;
+
+type Pool = IpDefragPool<u64, u8>;
+
+/// Two fragments of a payload, of which the second is final and starts where the first ends.
+type Halves = (&'static [u8], &'static [u8]);
+
+/// The answer to a fragment of a stream, and where that was refused, the answer to it when it comes again.
+fn answer(
+    rt: &(impl Abort + Print),
+    pool: &mut Pool,
+    identification: u16,
+    fragment: &Fragment,
+) -> Option<IpDefragPayloadVec> {
+    match pool.process_fragment(name(identification), fragment, 1) {
+        Ok(answer) => answer,
+        Err(_) => {
+            refused(rt, "process_fragment");
+            let again = pool.process_fragment(name(identification), fragment, 1);
+            again.expect(rt, "refused twice")
+        }
+    }
+}
+
+/// The payload of a stream of two fragments.
+fn completed(
+    rt: &(impl Abort + Print),
+    pool: &mut Pool,
+    identification: u16,
+    (first, last): Halves,
+) -> IpDefragPayloadVec {
+    let fragment = Fragment {
+        offset: offset(rt, 0),
+        more_fragments: true,
+        payload: first,
+    };
+    same(rt, &answer(rt, pool, identification, &fragment), &None);
+    let units = u16::try_from(first.len() / 8).unwrap_or(0);
+    let fragment = Fragment {
+        offset: offset(rt, units),
+        more_fragments: false,
+        payload: last,
+    };
+    answer(rt, pool, identification, &fragment).expect(rt, "whole")
+}
+
+/// 64 bytes.
+const LONG: Halves = (
+    b"abcdefghijklmnopqrstuvwxyzabcdefghijklmnopqrstuvwxyzabcd",
+    b"efghijkl",
+);
+
+/// A stream of 64 bytes ends, and its payload may go back. Then one of 16 bytes has these bytes alone.
+fn long_then_short(rt: &(impl Abort + Print), alloc: Global, gives_back: bool) {
+    let mut pool = IpDefragPool::new(alloc);
+    let long = completed(rt, &mut pool, 1, LONG);
+    same(rt, &long.payload.len(), &64);
+    if gives_back {
+        pool.return_buf(long);
+    }
+    let short = completed(rt, &mut pool, 2, (b"01234567", b"89ABCDEF"));
+    same(
+        rt,
+        &short.payload.as_slice(),
+        &b"0123456789ABCDEF".as_slice(),
+    );
+    asks_once(rt, alloc);
+}
+
+#[test]
+fn given_back(rt: HostRuntime) {
+    long_then_short(&rt, rt.alloc(), true);
+}
+
+/// The same, but for the requests that the memory of the first payload would have spared.
+#[test]
+fn not_given_back(rt: HostRuntime) {
+    long_then_short(&rt, rt.alloc(), false);
+}
+
+/// Streams of two fragments, one after the other, whose payloads go back: after the first one none asks for memory.
+#[test]
+fn steady(rt: HostRuntime) {
+    let mut pool = IpDefragPool::new(rt.alloc());
+    for identification in 0..100 {
+        let whole = completed(&rt, &mut pool, identification, (b"abcdefgh", b"ijkl"));
+        pool.return_buf(whole);
+    }
+    asks_once(&rt, rt.alloc());
+}
+
+/// A stream begins with 2,000 bytes and ends with none, and one begins with none.
+#[test]
+fn large_and_empty(rt: HostRuntime) {
+    let mut pool = IpDefragPool::new(rt.alloc());
+    let large = completed(&rt, &mut pool, 1, (&[7; 2000], b""));
+    same(&rt, &large.payload.len(), &2000);
+    let short = completed(&rt, &mut pool, 2, (b"", b"abc"));
+    same(&rt, &short.payload.as_slice(), &b"abc".as_slice());
+}
+
+/// A last fragment that is in place hands out the payload without asking for memory, and the payload goes back.
+#[test]
+fn hand_out_in_place(rt: HostRuntime) {
+    let mut pool = IpDefragPool::new(rt.alloc());
+    let first = Fragment {
+        offset: offset(&rt, 0),
+        more_fragments: true,
+        payload: b"abcdefghijklmnop",
+    };
+    same(&rt, &answer(&rt, &mut pool, 1, &first), &None);
+    let last = Fragment {
+        offset: offset(&rt, 1),
+        more_fragments: false,
+        payload: b"IJKLMNOP",
+    };
+    let handed_out = pool.process_fragment(name(1), &last, 1);
+    let whole = handed_out.expect(&rt, "refused").expect(&rt, "whole");
+    same(
+        &rt,
+        &whole.payload.as_slice(),
+        &b"abcdefghIJKLMNOP".as_slice(),
+    );
+    pool.return_buf(whole);
+    asks_once(&rt, rt.alloc());
+}

@@ -1,0 +1,53 @@
+//! Calls that ask for no memory, whatever they are given: parsing, and what a value is asked or told.
+
+use crate::checks::*;
+use crate::samples::*;
+use etherparse::defrag::*;
+use etherparse::*;
+use std::process::Abort;
+
+/// Bytes are a frame or are none, by both parsers.
+fn reads(rt: &impl Abort, entry: Entry, bytes: &[u8], is_frame: bool) {
+    let sliced = SlicedPacket::from_entry(entry, bytes);
+    same(rt, &sliced.is_ok(), &is_frame);
+    let read = PacketHeaders::new().read_into(entry, bytes);
+    same(rt, &read.is_ok(), &is_frame);
+}
+
+#[test]
+fn parsing(rt: HostRuntime) {
+    reads(&rt, Entry::Ethernet, WHOLE_PACKET, true);
+    reads(&rt, Entry::Ethernet, VLAN_1_FIRST, true);
+    reads(&rt, Entry::LinuxSll, WHOLE_PACKET, false);
+    let packet = WHOLE_PACKET.get(14..).expect(&rt, "an Ethernet II header");
+    reads(&rt, Entry::EtherType(EtherType::IPV4), packet, true);
+    reads(&rt, Entry::Ip, packet, true);
+    reads(&rt, Entry::Ip, b"\x50", false);
+    asks_once(&rt, rt.alloc());
+}
+
+#[test]
+fn headers(rt: HostRuntime) {
+    let mut header = Ipv4Header::default();
+    same(&rt, &header.set_payload_len(16), &Ok(()));
+    same(&rt, &header.to_bytes().len(), &20);
+    let mut transport = TransportHeader::Udp(UdpHeader::default());
+    let set = transport.update_checksum_ipv4(&header, b"abcdefgh");
+    same(&rt, &set.is_ok(), &true);
+    let (mut extensions, first) = longest_extensions(&rt);
+    same(&rt, &extensions.set_next_headers(IpNumber::UDP), &first);
+    asks_once(&rt, rt.alloc());
+}
+
+#[test]
+fn sizes_and_ranges(rt: HostRuntime) {
+    let step = PacketBuilder::ethernet2([1; 6], [2; 6]).ipv4([1; 4], [2; 4], 1);
+    same(&rt, &step.udp(1, 2).size(8), &50);
+    let (first, last) = (
+        IpFragRange { start: 0, end: 8 },
+        IpFragRange { start: 8, end: 16 },
+    );
+    let union = IpFragRange { start: 0, end: 16 };
+    same(&rt, &first.merge(last), &Some(union));
+    asks_once(&rt, rt.alloc());
+}
