@@ -8,7 +8,7 @@
  * - A pointer is never null, also where the length beside it is 0, and no two pointers of a call overlap. A pointer to
  *   `len` bytes is to that many bytes, which are at most PTRDIFF_MAX.
  * - No call keeps a pointer, has a state or prints; any may be called from many threads at once. The calls that build
- *   frames take memory by malloc and give it back before they return; no other call takes any.
+ *   frames or write a text take memory by malloc and give it back before they return; no other call takes any.
  * - What a call fills in is numbers alone. Nothing in it points anywhere, and nothing has to be freed.
  * - size_t has 64 bits.
  *
@@ -19,7 +19,6 @@
 
 #include <stddef.h>
 #include <stdint.h>
-#include <stdio.h>
 
 #ifdef __cplusplus
 extern "C" {
@@ -178,43 +177,13 @@ struct etherparse_packet {
 uint32_t etherparse_slice(uint32_t entry, uint16_t ether_type, const uint8_t *bytes, size_t len,
                           struct etherparse_packet *packet);
 
-/* Writes the text of a refusal as snprintf does: at most `len` bytes, of which the last is zero, and answers how many bytes
- * the whole text has without the zero byte. It stands here in C, and is not proved. */
-static inline int etherparse_refusal_text(const struct etherparse_refusal *refusal, char *buffer, size_t len) {
-    static const char *const layers[] = {
-        "none",          "Ethernet2Header", "LinuxSllHeader",  "VlanHeader",           "MacsecHeader", "MacsecPacket",
-        "Arp",           "IpHeader",        "Ipv4Header",      "Ipv4Packet",           "IpAuthHeader", "Ipv6Header",
-        "Ipv6Packet",    "Ipv6ExtHeader",   "Ipv6FragHeader",  "UdpHeader",            "UdpPayload",   "TcpHeader",
-        "Icmpv4",        "Icmpv4Timestamp", "Icmpv4TimestampReply", "Icmpv6"};
-    static const char *const ends[] = {"Slice",                "MacsecShortLength", "Ipv4HeaderTotalLen",
-                                       "Ipv6HeaderPayloadLen", "UdpHeaderLen",      "ArpAddrLengths"};
-    static const char *const kinds[] = {"no refusal",
-                                        "Len",
-                                        "UnsupportedPacketTypeField",
-                                        "UnsupportedArpHardwareId",
-                                        "UnexpectedVersion",
-                                        "InvalidUnmodifiedShortLen",
-                                        "UnsupportedIpVersion",
-                                        "Ipv4HeaderLengthSmallerThanHeader",
-                                        "UnexpectedVersion",
-                                        "HeaderLengthSmallerThanHeader",
-                                        "UnexpectedVersion",
-                                        "ZeroPayloadLen",
-                                        "HopByHopNotAtStart",
-                                        "ZeroPayloadLen",
-                                        "DataOffsetTooSmall"};
-    /* a bit for each kind that holds a number */
-    const unsigned with_number = 1u << 2 | 1u << 3 | 1u << 6 | 1u << 7 | 1u << 8 | 1u << 9 | 1u << 10 | 1u << 14;
-    if (refusal->kind >= sizeof kinds / sizeof *kinds) return snprintf(buffer, len, "unknown refusal");
-    if (refusal->kind == ETHERPARSE_REFUSAL_LEN)
-        return snprintf(buffer, len, "%s: %zu bytes needed, %zu there (limit %s, offset %zu)",
-                        refusal->layer < sizeof layers / sizeof *layers ? layers[refusal->layer] : "unknown",
-                        refusal->required_len, refusal->len,
-                        refusal->len_source < sizeof ends / sizeof *ends ? ends[refusal->len_source] : "unknown",
-                        refusal->layer_start_offset);
-    if (with_number >> refusal->kind & 1) return snprintf(buffer, len, "%s %u", kinds[refusal->kind], (unsigned)refusal->number);
-    return snprintf(buffer, len, "%s", kinds[refusal->kind]);
-}
+/* Writes the text of a refusal, ended by a zero byte, to the front of `buffer`. Answers
+ * - ETHERPARSE_OK: `written` is the number of these bytes, the zero byte among them, at most 142;
+ * - ETHERPARSE_UNKNOWN_CHOICE: the numbers are those of no refusal, as where a frame was described; `written` is 0;
+ * - ETHERPARSE_TOO_SMALL: the buffer has too few bytes, and `written` says how many are needed;
+ * - ETHERPARSE_OUT_OF_MEMORY: `written` is 0.
+ * But for ETHERPARSE_OK the buffer is as it was. */
+uint32_t etherparse_refusal_text(const struct etherparse_refusal *refusal, char *buffer, size_t len, size_t *written);
 
 /* The Internet checksum (RFC 1071) of some bytes, as a number: write its upper byte first. An odd last byte counts as
  * the upper half of a word. */

@@ -31,8 +31,10 @@ int main(int argc, char **argv) {
         frames++;
         struct etherparse_packet packet;
         if (etherparse_slice(ETHERPARSE_ENTRY_ETHERNET, 0, frame, len, &packet) != ETHERPARSE_OK) {
-            char text[128];
-            etherparse_refusal_text(&packet.refusal, text, sizeof text);
+            char text[142];
+            size_t written;
+            if (etherparse_refusal_text(&packet.refusal, text, sizeof text, &written) != ETHERPARSE_OK)
+                return fprintf(stderr, "out of memory\n"), 1;
             printf("%lu: %s\n", frames, text);
             refused++;
             continue;

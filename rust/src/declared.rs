@@ -137,5 +137,11 @@ extern "C" {
         len: usize,
         packet: *mut Packet,
     ) -> u32;
+    pub fn etherparse_refusal_text(
+        refusal: *const Refusal,
+        buffer: *mut u8,
+        len: usize,
+        written: *mut usize,
+    ) -> u32;
     pub fn etherparse_checksum(bytes: *const u8, len: usize) -> u16;
 }

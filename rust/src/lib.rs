@@ -133,62 +133,21 @@ pub struct Refusal(pub declared::Refusal);
 
 impl fmt::Display for Refusal {
     fn fmt(&self, f: &mut fmt::Formatter<'_>) -> fmt::Result {
-        let why = &self.0;
-        let number = why.number;
-        match why.kind {
-            1 => write!(
-                f,
-                "{}: {} bytes needed, {} there (limit {:?}, offset {})",
-                layer_name(why.layer),
-                why.required_len,
-                why.len,
-                len_source(why.len_source),
-                why.layer_start_offset
-            ),
-            2 => write!(f, "UnsupportedPacketTypeField {number}"),
-            3 => write!(f, "UnsupportedArpHardwareId {number}"),
-            4 => write!(f, "UnexpectedVersion"),
-            5 => write!(f, "InvalidUnmodifiedShortLen"),
-            6 => write!(f, "UnsupportedIpVersion {number}"),
-            7 => write!(f, "Ipv4HeaderLengthSmallerThanHeader {number}"),
-            8 | 10 => write!(f, "UnexpectedVersion {number}"),
-            9 => write!(f, "HeaderLengthSmallerThanHeader {number}"),
-            11 | 13 => write!(f, "ZeroPayloadLen"),
-            12 => write!(f, "HopByHopNotAtStart"),
-            14 => write!(f, "DataOffsetTooSmall {number}"),
-            kind => write!(f, "refusal {kind}"),
+        let mut text = [0; 142];
+        let mut written = 0;
+        // SAFETY: all pointers are of references that live as long as the call, and none overlap.
+        let status = unsafe {
+            declared::etherparse_refusal_text(&self.0, text.as_mut_ptr(), text.len(), &mut written)
+        };
+        match status {
+            0 => f.write_str(&String::from_utf8_lossy(&text[..written - 1])),
+            2 => write!(f, "unknown refusal {}", self.0.kind),
+            _ => f.write_str("out of memory"),
         }
     }
 }
 
 impl std::error::Error for Refusal {}
-
-fn layer_name(layer: u32) -> &'static str {
-    const NAMES: [&str; 21] = [
-        "Ethernet2Header",
-        "LinuxSllHeader",
-        "VlanHeader",
-        "MacsecHeader",
-        "MacsecPacket",
-        "Arp",
-        "IpHeader",
-        "Ipv4Header",
-        "Ipv4Packet",
-        "IpAuthHeader",
-        "Ipv6Header",
-        "Ipv6Packet",
-        "Ipv6ExtHeader",
-        "Ipv6FragHeader",
-        "UdpHeader",
-        "UdpPayload",
-        "TcpHeader",
-        "Icmpv4",
-        "Icmpv4Timestamp",
-        "Icmpv4TimestampReply",
-        "Icmpv6",
-    ];
-    (layer as usize).checked_sub(1).and_then(|at| NAMES.get(at)).copied().unwrap_or("unknown")
-}
 
 fn len_source(number: u32) -> LenSource {
     match number {

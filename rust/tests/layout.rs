@@ -148,3 +148,65 @@ fn parts_lie_in_the_frame() {
     assert_eq!(whole.ip.map(|ip| (ip.version, ip.number, ip.identification, ip.header_len)), Some((6, 17, 9, 40)));
     assert_eq!((whole.ports, whole.payload), (Some((21, 1234)), &[1u8, 2][..]));
 }
+
+/// The text of each kind of refusal.
+#[test]
+fn refusals_have_their_texts() {
+    let kinds = [
+        (0, "unknown refusal 0"),
+        (2, "UnsupportedPacketTypeField 300"),
+        (3, "UnsupportedArpHardwareId 300"),
+        (4, "UnexpectedVersion"),
+        (5, "InvalidUnmodifiedShortLen"),
+        (6, "UnsupportedIpVersion 300"),
+        (7, "Ipv4HeaderLengthSmallerThanHeader 300"),
+        (8, "UnexpectedVersion 300"),
+        (9, "HeaderLengthSmallerThanHeader 300"),
+        (10, "UnexpectedVersion 300"),
+        (11, "ZeroPayloadLen"),
+        (12, "HopByHopNotAtStart"),
+        (13, "ZeroPayloadLen"),
+        (14, "DataOffsetTooSmall 300"),
+        (15, "unknown refusal 15"),
+    ];
+    for (kind, text) in kinds {
+        let refusal = Refusal { kind, number: 300, ..Refusal::default() };
+        assert_eq!(etherparse_c::Refusal(refusal).to_string(), text);
+    }
+    let layers = [
+        "Ethernet2Header", "LinuxSllHeader", "VlanHeader", "MacsecHeader", "MacsecPacket", "Arp", "IpHeader",
+        "Ipv4Header", "Ipv4Packet", "IpAuthHeader", "Ipv6Header", "Ipv6Packet", "Ipv6ExtHeader", "Ipv6FragHeader",
+        "UdpHeader", "UdpPayload", "TcpHeader", "Icmpv4", "Icmpv4Timestamp", "Icmpv4TimestampReply", "Icmpv6",
+    ];
+    let ends = [
+        "Slice", "MacsecShortLength", "Ipv4HeaderTotalLen", "Ipv6HeaderPayloadLen", "UdpHeaderLen", "ArpAddrLengths",
+    ];
+    for (layer, name) in (1..).zip(layers) {
+        for (len_source, end) in (0..).zip(ends) {
+            let most = usize::MAX;
+            let refusal =
+                Refusal { kind: 1, layer, len_source, number: 0, required_len: most, len: 0, layer_start_offset: 7 };
+            let text = format!("{name}: {most} bytes needed, 0 there (limit {end}, offset 7)");
+            assert_eq!(etherparse_c::Refusal(refusal).to_string(), text);
+        }
+    }
+}
+
+/// A text is written where it has room, and else nothing is.
+#[test]
+fn texts_need_room() {
+    let refusal = Refusal { kind: 12, ..Refusal::default() };
+    for len in 0..30 {
+        let mut buffer = [7; 30];
+        let mut written = 0;
+        // SAFETY: the buffer has at least as many bytes as is said.
+        let status = unsafe {
+            etherparse_c::declared::etherparse_refusal_text(&refusal, buffer.as_mut_ptr(), len, &mut written)
+        };
+        let is_there = len >= 19;
+        assert_eq!((status, written), (if is_there { 0 } else { 3 }, 19));
+        let text: &[u8] = if is_there { b"HopByHopNotAtStart\0" } else { &[] };
+        assert_eq!(buffer[..text.len()], *text);
+        assert!(buffer[text.len()..].iter().all(|byte| *byte == 7));
+    }
+}

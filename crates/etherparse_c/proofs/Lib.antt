@@ -1,3 +1,4 @@
 pub mod LenLemmas
 pub mod PlaceLemmas
 pub mod TagLemmas
+pub mod TextLemmas

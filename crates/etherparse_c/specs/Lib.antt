@@ -3,3 +3,5 @@ pub mod Places
 pub mod Refusals
 pub mod Answers
 pub mod Building
+pub mod Placing
+pub mod RefusalTexts

@@ -5,8 +5,10 @@ ghost use Rattle.ep_transport.specs.declared.transport_header.TransportHeader.Th
 ghost use Rattle.ep_build.specs.Steps.{ip_link, ip_step_headers};
 ghost use Rattle.etherparse_c.specs.Building.{IsBuildAnswer, echo_of, icmpv4_echo, icmpv6_echo, route_headers};
 ghost use Rattle.etherparse_c.specs.Building.{route_link, tcp_of, udp_between};
+ghost use Rattle.etherparse_c.specs.Placing.{IsPlaced};
 
 use crate::numbers;
+use crate::placing::placed;
 use crate::route::{Route, TcpFields};
 use etherparse::err::packet::BuildWriteError;
 use etherparse::{
@@ -187,10 +189,7 @@ fn copied(
     written: &mut usize,
 ) -> u32
     ensures { MatchResult built
-        (λ _. (written.new ≡ length frame.now)
-        × (((length frame.now ≤ length buffer.old) × (result ≡ 0)
-        × (buffer.new ≡ frame.now ++ drop (length frame.now) buffer.old))
-        ⊎ ((length buffer.old < length frame.now) × (result ≡ 3) × (buffer.new ≡ buffer.old))))
+        (λ _. IsPlaced frame.now buffer.old buffer.new written.new result)
         (λ error. (written.new ≡ 0) × (buffer.new ≡ buffer.old)
         × (((error ≡ BuildWriteError.OutOfMemory) × (result ≡ 5))
         ⊎ ((error ≡ BuildWriteError.OutOfMemory → ⊥) × (result ≡ 4)))) }
@@ -203,10 +202,5 @@ fn copied(
             numbers::TOO_LONG
         };
     }
-    *written = frame.len();
-    if buffer.len() < frame.len() {
-        return numbers::TOO_SMALL;
-    }
-    buffer[..frame.len()].copy_from_slice(frame);
-    numbers::OK
+    placed(frame, buffer, written)
 }

@@ -7,15 +7,19 @@
 mod building;
 mod checksum;
 mod describing;
+pub mod laws;
 mod net_part;
 mod numbers;
 mod packet;
+mod placing;
 mod refusing;
 mod route;
 mod slicing;
+mod texts;
 
 pub use building::{etherparse_build_icmp_echo, etherparse_build_tcp, etherparse_build_udp};
 pub use checksum::etherparse_checksum;
 pub use packet::{Ip, LinkExt, Packet, Part, Payload, Refusal};
 pub use route::{Route, TcpFields};
 pub use slicing::etherparse_slice;
+pub use texts::etherparse_refusal_text;

@@ -1,0 +1,70 @@
+-- The texts of refusals.
+use Rattle.std.proofs.Common.{◌≡◌, Option, Some, refl}
+use Rattle.ep_base.specs.declared.err.ip.HeaderError.TheVariants as ip_error
+use Rattle.ep_base.specs.declared.err.ip_auth.HeaderError.TheVariants as auth_error
+use Rattle.ep_base.specs.declared.err.ipv4.HeaderError.TheVariants as ipv4_error
+use Rattle.ep_base.specs.declared.err.ipv6.HeaderError.TheVariants as ipv6_error
+use Rattle.ep_base.specs.declared.err.ipv6_exts.HeaderError.TheVariants as exts_error
+use Rattle.ep_base.specs.declared.err.layer.Layer.{Layer}
+use Rattle.ep_base.specs.declared.err.layer.Layer.TheVariants as layer
+use Rattle.ep_base.specs.declared.err.len_error.LenError.{LenError}
+use Rattle.ep_base.specs.declared.err.linux_sll.HeaderError.TheVariants as linux_sll_error
+use Rattle.ep_base.specs.declared.err.macsec.HeaderError.TheVariants as macsec_error
+use Rattle.ep_base.specs.declared.err.tcp.HeaderError.TheVariants as tcp_error
+use Rattle.ep_base.specs.declared.len_source.LenSource.{LenSource}
+use Rattle.ep_base.specs.declared.len_source.LenSource.TheVariants as source
+use Rattle.ep_packet.specs.declared.err.slice_error.SliceError.{SliceError}
+use Rattle.ep_packet.specs.declared.err.slice_error.SliceError.TheVariants.{Len, LinuxSll, Macsec, Ip, Ipv4, Ipv6, Ipv4Exts, Ipv6Exts, Tcp}
+use Rattle.etherparse_c.specs.declared.packet.Refusal.{Refusal}
+use Rattle.etherparse_c.specs.Description.{source_number}
+use Rattle.etherparse_c.specs.Refusals.{layer_number, refusal_part}
+use Rattle.etherparse_c.specs.RefusalTexts.{AreTextsOfRefusals, layer_told, len_text_told, source_told}
+
+-- the number of a layer is its own
+layer_back : (it : Layer) → layer_told (layer_number it) ≡ Some it
+layer_back layer.Ethernet2Header = refl
+layer_back layer.LinuxSllHeader = refl
+layer_back layer.VlanHeader = refl
+layer_back layer.MacsecHeader = refl
+layer_back layer.MacsecPacket = refl
+layer_back layer.Arp = refl
+layer_back layer.IpHeader = refl
+layer_back layer.Ipv4Header = refl
+layer_back layer.Ipv4Packet = refl
+layer_back layer.IpAuthHeader = refl
+layer_back layer.Ipv6Header = refl
+layer_back layer.Ipv6Packet = refl
+layer_back layer.Ipv6ExtHeader = refl
+layer_back layer.Ipv6FragHeader = refl
+layer_back layer.UdpHeader = refl
+layer_back layer.UdpPayload = refl
+layer_back layer.TcpHeader = refl
+layer_back layer.Icmpv4 = refl
+layer_back layer.Icmpv4Timestamp = refl
+layer_back layer.Icmpv4TimestampReply = refl
+layer_back layer.Icmpv6 = refl
+
+-- and so is that of what sets an end
+source_back : (it : LenSource) → source_told (source_number it) ≡ Some it
+source_back source.Slice = refl
+source_back source.MacsecShortLength = refl
+source_back source.Ipv4HeaderTotalLen = refl
+source_back source.Ipv6HeaderPayloadLen = refl
+source_back source.UdpHeaderLen = refl
+source_back source.ArpAddrLengths = refl
+
+pub texts_of_refusals : AreTextsOfRefusals
+texts_of_refusals (Len error) = λ i. len_text_told (refusal_part (Len error)) (layer_back error.layer i) (source_back error.len_source i)
+texts_of_refusals (LinuxSll (linux_sll_error.UnsupportedPacketTypeField number)) = refl
+texts_of_refusals (LinuxSll (linux_sll_error.UnsupportedArpHardwareId number)) = refl
+texts_of_refusals (Macsec macsec_error.UnexpectedVersion) = refl
+texts_of_refusals (Macsec macsec_error.InvalidUnmodifiedShortLen) = refl
+texts_of_refusals (Ip (ip_error.UnsupportedIpVersion version)) = refl
+texts_of_refusals (Ip (ip_error.Ipv4HeaderLengthSmallerThanHeader ihl)) = refl
+texts_of_refusals (Ipv4 (ipv4_error.UnexpectedVersion version)) = refl
+texts_of_refusals (Ipv4 (ipv4_error.HeaderLengthSmallerThanHeader ihl)) = refl
+texts_of_refusals (Ipv6 (ipv6_error.UnexpectedVersion version)) = refl
+texts_of_refusals (Ipv4Exts auth_error.ZeroPayloadLen) = refl
+texts_of_refusals (Ipv6Exts exts_error.HopByHopNotAtStart) = refl
+texts_of_refusals (Ipv6Exts (exts_error.IpAuth auth_error.ZeroPayloadLen)) = refl
+texts_of_refusals (Tcp (tcp_error.DataOffsetTooSmall data_offset)) = refl
