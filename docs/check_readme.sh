@@ -3,7 +3,8 @@
 #
 # Commands are the lines of the README's blocks ```sh. Each block is run from the top of the clone, in one shell, up to
 # its first failure. A line whose comment begins with `long:` or `root:` takes minutes or needs root, and is skipped
-# unless it is asked for. What is committed is what is checked. The status is 0 where no command failed.
+# unless it is asked for. What is committed is what is checked. The README's example has to be the one in the crate that it
+# names. The status is 0 where no command failed.
 set -uo pipefail
 cd "$(dirname "$0")/.."
 skipped='long|root'
@@ -11,7 +12,7 @@ for argument in "$@"; do
     case $argument in
         --long) skipped=${skipped/long/-} ;;
         --root) skipped=${skipped/root/-} ;;
-        *) sed -n '2,6s/^# //p' "$0"; exit 2 ;;
+        *) sed -n '2,7s/^# //p' "$0"; exit 2 ;;
     esac
 done
 work=$(mktemp -d)
@@ -22,6 +23,11 @@ git clone --quiet . "$work/clone" || exit 1
 awk -v name="$work/block." '/^```sh$/ { open = 1; blocks++; next } /^```/ { open = 0 } open { print > (name blocks) }' \
     "$work/clone/README.md"
 status=0
+if ! sed -n '/^```rust$/,/^```$/p' "$work/clone/README.md" | sed '1d;$d' |
+    cmp - "$work/clone/crates/example_filter/src/main.rt"; then
+    echo "check_readme: the example is not crates/example_filter/src/main.rt" >&2
+    status=1
+fi
 ran=0
 left_out=0
 for block in $(ls "$work"/block.* | sort -V); do
