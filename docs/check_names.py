@@ -11,7 +11,7 @@ import sys
 from glob import glob
 
 # Names of the Rust crate, of Rust and of the toolchain, which no file of the repository has.
-OTHERS = {"TryFrom", "Seek", "to_packet", "splice", "in_lanes", "rattle", "kit", "crates", "txt", "antt", "edit", "sh"}
+OTHERS = {"TryFrom", "Seek", "to_packet", "splice", "in_lanes", "rattle", "kit", "crates", "txt", "antt", "edit", "sh", "rlib"}
 LIBRARIES = "ep_base ep_link ep_ext ep_ip ep_transport ep_packet ep_build ep_defrag etherparse_c capture_reader".split()
 CODE = ["crates/*/src/**/*.rt", "crates/*/specs/**/*.antt", "crates/*/proofs/**/*.antt", "crates/*/*.py"]
 CODE += ["crates/*/compare/*", "crates/*/must-fail/*", "include/*", "rust/**/*.rs", "examples/**/*", "docs/*.*", ".ci/*"]
