@@ -85,7 +85,7 @@ Waits (Ok MayEnd) = Unit {0}
 Waits (Ok (Cut error)) = Unit {0}
 Waits answer = ⊥
 
--- more bytes than a record may have
+-- the number of bytes of the longest record: where more are needed, fewer are there
 abbrev pub most_held : ℕ
 most_held = 16 + most_kept
 
