@@ -1,4 +1,4 @@
-# Writes small.pcap, a capture of six packets: python3 captures.py data/small.pcap
+# Writes small.pcap, a capture of thirteen packets: python3 captures.py data/small.pcap
 import struct,sys
 def ck(b):
     s=sum((b[i]<<8)+(b[i+1] if i+1<len(b) else 0) for i in range(0,len(b),2))
@@ -18,7 +18,15 @@ packets=[(1600000000,100,eth(0x800,ip4(17,udp(21,1234,b"12345678")),5),None),
 (1599999999,999999,eth(0x806,bytes.fromhex("0001080006040001020000000001c0a80101000000000000c0a80102")),None),
 (1600000001,50,eth(0x800,ip4(17,udp(21,1234,b"12345678")))[:30],70),
 (1600000002,0,b"\x01\x02",None),
-(1600000002,5,eth(0x86dd,bytes.fromhex("6000000000083a40")+bytes(15)+b"\1"+bytes(15)+b"\2"+bytes.fromhex("8000000000010001")),None)]
+(1600000002,5,eth(0x86dd,bytes.fromhex("6000000000083a40")+bytes(15)+b"\1"+bytes(15)+b"\2"+bytes.fromhex("8000000000010001")),None),
+(1600000002,10,eth(0x806,bytes.fromhex("0001080006040002020000000002c0a80102020000000001c0a80101")),None),
+(1600000002,20,eth(0x800,ip4(17,bytes(24),0x2000|185,ident=4660)),None),
+(1600000002,30,eth(0x800,ip4(1,bytes.fromhex("0303000000000000")+ip4(17,udp(21,1234,b"")))),None),
+(1600000002,40,eth(0x86dd,bytes.fromhex("6000000000180040")+bytes.fromhex("20010db8000000000001000000000001fe80000000000000000000ff00000002")
++bytes.fromhex("2c00010400000000")+bytes.fromhex("11000009deadbeef")+bytes(8)),None),
+(1600000002,50,eth(0x88e5,bytes.fromhex("2c00000000070200000000010001")+bytes(20)),None),
+(1600000002,60,eth(0x88cc,bytes(46)),None),
+(1600000002,70,eth(0x800,b"\x65"+ip4(17,udp(21,1234,b""))[1:]),None)]
 def pcap(order="<",nano=False,link=1):
     out=struct.pack(order+"IHHIIII",0xa1b23c4d if nano else 0xa1b2c3d4,2,4,0,0,65535,link)
     for s,f,b,o in packets: out+=struct.pack(order+"IIII",s,f*(1000 if nano else 1),len(b),o or len(b))+b

@@ -1,5 +1,5 @@
 -- The lines of a capture's packets.
-use Rattle.std.specs.Prelude.{◌≡◌, ℕ, ◌+◌, ◌-◌, ◌*◌, ◌/◌, ◌%◌, ◌==◌, ◌⊎◌, nat_lt, if◌then◌else◌}
+use Rattle.std.specs.Prelude.{◌≡◌, ℕ, ◌+◌, ◌-◌, ◌*◌, ◌/◌, ◌%◌, ◌≤◌, ◌==◌, nat_lt, if◌then◌else◌}
 use Rattle.std.specs.Prelude.{List, [], ◌∷◌, ◌++◌, Option, Some, None, codes, drop, length}
 use Rattle.std.specs.Fmt.{decimal}
 use Rattle.capture_reader.specs.Captures.{Item, heading, packet, Stage, at_start, in_records, stage_after}
@@ -11,25 +11,17 @@ use Rattle.capture_reader.specs.declared.heading.Resolution.TheVariants.{Micros,
 use Rattle.capture_reader.specs.declared.refusal.CaptureError.{CaptureError}
 use Rattle.ep_packet.specs.declared.entry.Entry.{Entry}
 use Rattle.ep_packet.specs.declared.entry.Entry.TheVariants.{Ethernet, LinuxSll, Ip}
-use Rattle.ep_packet.specs.declared.err.slice_error.SliceError.{SliceError}
-use Rattle.ep_packet.specs.Frame.{IsFrame}
-use Rattle.ep_packet.specs.Layers.{Layers}
-use Rattle.ep_packet.specs.Refusals.{RefusesFrame}
-use Rattle.packet_dump.specs.Layers.{layers_text}
+use Rattle.packet_dump.specs.Contents.{Content, Holds, bytes_text, content_kind, content_text, shown_bytes, shows_kind}
 use Rattle.packet_dump.specs.Lines.{line_feed, space}
-use Rattle.packet_dump.specs.Refusals.{refusal_text}
+use Rattle.packet_dump.specs.declared.ending.Ending.{Ending}
+use Rattle.packet_dump.specs.declared.ending.Ending.TheVariants.{Whole, Enough, Broken}
+use Rattle.packet_dump.specs.declared.view.View.{View}
 
 -- ---- one line
 
 -- what packets of a link type begin with: Ethernet, Linux cooked captures, or IP for all others that are read
 abbrev pub entry_of : ℕ → Entry
 entry_of link = if link == 1 then Ethernet else (if link == 113 then LinuxSll else Ip)
-
--- the text of the layers of the frame that the bytes are, or of why they are none
-abbrev pub IsBody : Entry → List ℕ → List ℕ → Type 0
-IsBody entry bytes body =
-    ((layers : Layers) × IsFrame entry bytes layers × (body ≡ layers_text layers))
-    ⊎ ((error : SliceError) × RefusesFrame entry bytes error × (body ≡ refusal_text error))
 
 -- how many fractions make a second
 abbrev pub units_of : Resolution → ℕ
@@ -54,12 +46,32 @@ abbrev pub cut_text : ℕ → ℕ → List ℕ
 cut_text kept original =
     if nat_lt kept original then codes " cut " ++ decimal kept ++ codes " of " ++ decimal original else []
 
--- The line of a packet: its number, its time since the first, its layers or why it is refused, and how much was kept.
-abbrev pub IsLine : Heading → ℕ → ℕ → PlainPacket → List ℕ → Type 0
-IsLine head number first one line =
-    (body : List ℕ) × IsBody (entry_of (link_of head.network)) one.bytes body
-    × (line ≡ decimal number ++ space ∷ time_text (units_of head.resolution) first (time_of head one) ++ body
-    ++ cut_text (length one.bytes) one.original_len ++ line_feed ∷ [])
+-- what a line begins with: the packet's number, and its time since the first
+abbrev pub start_text : Heading → ℕ → ℕ → PlainPacket → List ℕ
+start_text head number first one =
+    decimal number ++ space ∷ time_text (units_of head.resolution) first (time_of head one)
+
+-- what it ends with: how much was kept, these rows of bytes, and a line feed
+abbrev pub end_text : PlainPacket → List ℕ → List ℕ
+end_text one rows = cut_text (length one.bytes) one.original_len ++ rows ++ line_feed ∷ []
+
+-- The line of a packet: its number, its time since the first, its layers or why it is refused, how much was kept, and
+-- the bytes where they are wanted.
+abbrev pub line_text : View → Heading → ℕ → ℕ → PlainPacket → Content → List ℕ
+line_text view head number first one content =
+    start_text head number first one ++ content_text content
+    ++ end_text one (bytes_text view.hex (shown_bytes content one.bytes))
+
+-- what is written of a packet that holds this: its line, where it is of a kind that is shown
+abbrev pub shown_text : View → Heading → ℕ → ℕ → PlainPacket → Content → List ℕ
+shown_text view head number first one content =
+    if shows_kind view.only (content_kind content) then line_text view head number first one content else []
+
+-- what is written of a packet
+abbrev pub IsLine : View → Heading → ℕ → ℕ → PlainPacket → List ℕ → Type 0
+IsLine view head number first one text =
+    (content : Content) × Holds (entry_of (link_of head.network)) one.bytes content
+    × (text ≡ shown_text view head number first one content)
 
 -- ---- many lines
 
@@ -94,35 +106,50 @@ abbrev pub progress_behind : Progress → List Item → Progress
 progress_behind before [] = before
 progress_behind before (item ∷ items) = progress_behind (progress_after before item) items
 
--- a packet in front of which a heading was read has a line
-abbrev pub IsPacketText : Stage → ℕ → Option ℕ → PlainPacket → List ℕ → Type 0
-IsPacketText at_start number first one text = ⊥
-IsPacketText (in_records head) number first one text =
-    IsLine head (number + 1) (first_time first (time_of head one)) one text
+-- what is written of a packet, in front of which a heading was read
+abbrev pub IsPacketText : View → Stage → ℕ → Option ℕ → PlainPacket → List ℕ → Type 0
+IsPacketText view at_start number first one text = ⊥
+IsPacketText view (in_records head) number first one text =
+    IsLine view head (number + 1) (first_time first (time_of head one)) one text
 
 -- a heading has none
-abbrev pub IsItemText : Progress → Item → List ℕ → Type 0
-IsItemText before (heading head) text = text ≡ []
-IsItemText before (packet one) text = IsPacketText before.stage before.number before.first one text
+abbrev pub IsItemText : View → Progress → Item → List ℕ → Type 0
+IsItemText view before (heading head) text = text ≡ []
+IsItemText view before (packet one) text = IsPacketText view before.stage before.number before.first one text
 
 -- the text is that of these items, one behind the other
-abbrev pub AreTexts : Progress → List Item → List ℕ → Type 0
-AreTexts before [] text = text ≡ []
-AreTexts before (item ∷ items) text =
-    (one rest : List ℕ) × IsItemText before item one × (text ≡ one ++ rest)
-    × AreTexts (progress_after before item) items rest
+abbrev pub AreTexts : View → Progress → List Item → List ℕ → Type 0
+AreTexts view before [] text = text ≡ []
+AreTexts view before (item ∷ items) text =
+    (one rest : List ℕ) × IsItemText view before item one × (text ≡ one ++ rest)
+    × AreTexts view (progress_after before item) items rest
+
+-- how many packets these items are
+abbrev pub packets_in : List Item → ℕ
+packets_in items = (progress_behind none_read items).number
+
+-- the text is that of these items, which have no more packets than are wanted
+abbrev pub AreShown : View → List Item → List ℕ → Type 0
+AreShown view items text = (packets_in items ≤ view.most) × AreTexts view none_read items text
 
 -- ---- whole runs
 
--- What was read is a capture and what was written its packets' lines, or it is refused with this error, and what was
--- written is the lines of the packets in front of it.
-abbrev pub IsDump : Option CaptureError → List ℕ → List ℕ → Type 0
-IsDump None read written = (items : List Item) × IsCapture read items × AreTexts none_read items written
-IsDump (Some error) read written =
-    (items : List Item) × RefusesCapture read (items, error) × AreTexts none_read items written
+-- the bytes begin with these items
+abbrev pub Begin : List ℕ → List Item → Type 0
+Begin bytes items = (behind : List ℕ) × AreItems at_start items × (bytes ≡ items_bytes at_start items ++ behind)
+
+-- What was read is a capture and what was written its packets' lines; or it begins with as many packets as are wanted,
+-- and what was written is their lines; or it is refused with this error, and what was written is the lines of the
+-- packets in front of it, of which there are so many.
+abbrev pub IsDump : View → Ending → List ℕ → List ℕ → Type 0
+IsDump view Whole read written = (items : List Item) × IsCapture read items × AreShown view items written
+IsDump view Enough read written =
+    (items : List Item) × Begin read items × (packets_in items ≡ view.most) × AreShown view items written
+IsDump view (Broken packets error) read written =
+    (items : List Item) × RefusesCapture read (items, error) × (packets ≡ packets_in items)
+    × AreShown view items written
 
 -- what was written begins the lines of the packets at the front of what was read
-abbrev pub BeginsDump : List ℕ → List ℕ → Type 0
-BeginsDump read written =
-    (items : List Item) × (behind more : List ℕ) × AreItems at_start items
-    × (read ≡ items_bytes at_start items ++ behind) × AreTexts none_read items (written ++ more)
+abbrev pub BeginsDump : View → List ℕ → List ℕ → Type 0
+BeginsDump view read written =
+    (items : List Item) × (more : List ℕ) × Begin read items × AreShown view items (written ++ more)

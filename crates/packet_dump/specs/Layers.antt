@@ -1,83 +1,40 @@
 -- The text of a frame's layers, a space before each.
-use Rattle.std.specs.Prelude.{ℕ, ◌+◌, ◌/◌, ◌%◌, nat_lt, if◌then◌else◌, List, [], ◌∷◌, ◌++◌, length, slice_index}
-use Rattle.std.specs.Prelude.{Option, Some, None, codes}
+use Rattle.std.specs.Prelude.{ℕ, List, [], ◌++◌, Option, Some, None, codes}
 use Rattle.std.specs.Fmt.{decimal}
-use Rattle.ep_link.specs.LinkExtensions.{LinkExtension, vlan, macsec}
-use Rattle.ep_link.specs.LinkSlices.{LinkLayer, ethernet2, linux_sll, ether_payload, linux_sll_payload}
-use Rattle.ep_packet.specs.Layers.{Layers, NetLayer, ipv4, ipv6, arp}
-use Rattle.ep_transport.specs.declared.transport_header.TransportHeader.{TransportHeader}
-use Rattle.ep_transport.specs.declared.transport_header.TransportHeader.TheVariants as header
+use Rattle.std.specs.Int.{w16, to_be_bytes}
+use Rattle.ep_base.specs.IpPayload.{IpPayload}
+use Rattle.ep_base.specs.declared.ether_type.EtherType.{EtherType}
+use Rattle.ep_packet.specs.FrameBytes.{last_payload}
+use Rattle.ep_packet.specs.Layers.{Layers, NetLayer, net_payload}
+use Rattle.ep_packet.specs.Payloads.{payload_ether_type_in}
 use Rattle.ep_transport.specs.TransportParts.{TransportLayer}
+use Rattle.packet_dump.specs.Addresses.{hex_text}
+use Rattle.packet_dump.specs.Links.{extensions_text, link_text}
+use Rattle.packet_dump.specs.Nets.{net_text}
+use Rattle.packet_dump.specs.Transports.{len_text, transport_text}
 
--- the digit of a number below 16
-abbrev pub hex_digit : ℕ → ℕ
-hex_digit number = if nat_lt number 10 then 48 + number else 87 + number
+-- the payload of an IP packet in which no transport layer is read: its protocol number and its length
+abbrev pub ip_payload_text : Option IpPayload → List ℕ
+ip_payload_text (Some payload) = codes " protocol " ++ decimal payload.number ++ len_text payload.bytes
+ip_payload_text None = []
 
--- a byte by two digits
-abbrev pub hex_pair : ℕ → List ℕ
-hex_pair byte = hex_digit (byte / 16) ∷ hex_digit (byte % 16) ∷ []
+-- an ether type, where it is known
+abbrev pub ether_type_text : Option EtherType → List ℕ
+ether_type_text (Some type) = codes " type 0x" ++ hex_text (to_be_bytes w16 type.0)
+ether_type_text None = []
 
--- the byte between two of a hardware address, `:`
-abbrev pub colon : ℕ
-colon = 58
+-- what no layer was read in: the payload of an IP packet, or else that of the link layer and its extensions
+abbrev pub unread_text : Option NetLayer → Option EtherType → List ℕ → List ℕ
+unread_text (Some net) type payload = ip_payload_text (net_payload net)
+unread_text None type payload = ether_type_text type ++ len_text payload
 
--- a hardware address of six bytes
-unfoldable pub mac_text : List ℕ → List ℕ
-mac_text address =
-    hex_pair (slice_index address 0) ++ colon ∷ hex_pair (slice_index address 1) ++ colon ∷ hex_pair (slice_index address 2)
-    ++ colon ∷ hex_pair (slice_index address 3) ++ colon ∷ hex_pair (slice_index address 4)
-    ++ colon ∷ hex_pair (slice_index address 5)
-
--- an address of IPv4
-unfoldable pub ipv4_text : List ℕ → List ℕ
-ipv4_text address =
-    decimal (slice_index address 0) ++ codes "." ++ decimal (slice_index address 1) ++ codes "."
-    ++ decimal (slice_index address 2) ++ codes "." ++ decimal (slice_index address 3)
-
--- a link layer: Ethernet with its addresses; without a header there is no text
-abbrev pub link_text : Option LinkLayer → List ℕ
-link_text (Some (ethernet2 ethernet payload)) =
-    codes " eth " ++ mac_text ethernet.source ++ codes " > " ++ mac_text ethernet.destination
-link_text (Some (linux_sll sll payload)) = codes " sll"
-link_text (Some (ether_payload type source payload)) = []
-link_text (Some (linux_sll_payload protocol payload)) = []
-link_text None = []
-
--- a link extension: a VLAN with its identifier
-abbrev pub extension_text : LinkExtension → List ℕ
-extension_text (vlan tag payload) = codes " vlan:" ++ decimal tag.vlan_id
-extension_text (macsec tag payload) = codes " macsec"
-
--- link extensions, from the outside in
-abbrev pub extensions_text : List LinkExtension → List ℕ
-extensions_text [] = []
-extensions_text (extension ∷ others) = extension_text extension ++ extensions_text others
-
--- a net layer: IPv4 with its addresses
-abbrev pub net_text : Option NetLayer → List ℕ
-net_text (Some (ipv4 ip extensions payload)) = codes " ipv4 " ++ ipv4_text ip.source ++ codes " > " ++ ipv4_text ip.destination
-net_text (Some (ipv6 ip extensions payload)) = codes " ipv6"
-net_text (Some (arp packet)) = codes " arp"
-net_text None = []
-
--- ports, and the length of a payload
-abbrev pub ports_text : ℕ → ℕ → List ℕ → List ℕ
-ports_text source destination payload =
-    decimal source ++ codes " > " ++ decimal destination ++ codes " len " ++ decimal (length payload)
-
--- a transport header in front of a payload
-abbrev pub transport_header_text : TransportHeader → List ℕ → List ℕ
-transport_header_text (header.Udp udp) payload = codes " udp " ++ ports_text udp.source_port udp.destination_port payload
-transport_header_text (header.Tcp tcp) payload = codes " tcp " ++ ports_text tcp.source_port tcp.destination_port payload
-transport_header_text (header.Icmpv4 icmp) payload = codes " icmpv4"
-transport_header_text (header.Icmpv6 icmp) payload = codes " icmpv6"
-
--- a transport layer
-abbrev pub transport_text : Option TransportLayer → List ℕ
-transport_text (Some layer) = transport_header_text layer.header layer.payload
-transport_text None = []
+-- the transport layer, or else what no layer was read in
+abbrev pub inner_text : Option TransportLayer → List ℕ → List ℕ
+inner_text (Some layer) unread = transport_text layer
+inner_text None unread = unread
 
 -- all layers, from the outside in
 abbrev pub layers_text : Layers → List ℕ
 layers_text layers =
-    link_text layers.link ++ extensions_text layers.link_exts ++ net_text layers.net ++ transport_text layers.transport
+    link_text layers.link ++ extensions_text layers.link_exts ++ net_text layers.net
+    ++ inner_text layers.transport (unread_text layers.net (payload_ether_type_in layers) (last_payload layers))

@@ -1,7 +1,13 @@
+pub mod Addresses
+pub mod Contents
 pub mod Dumps
+pub mod Icmp
 pub mod Layers
 pub mod Lines
+pub mod Links
+pub mod Nets
 pub mod Refusals
 pub mod Sessions
 pub mod Texts
+pub mod Transports
 pub mod WatchedWords

@@ -1,21 +1,27 @@
 -- What is known between two pieces of a capture.
-use Rattle.std.specs.Prelude.{◌≡◌, ℕ, ◌+◌, ◌≤◌, List, ◌++◌, Option, Some, None}
+use Rattle.std.specs.Prelude.{◌≡◌, ℕ, ◌+◌, ◌≤◌, List, ◌++◌, Option, Some}
 use Rattle.std.specs.Io.KnownBytes.{Appends, Consumes}
 use Rattle.capture_reader.specs.Captures.{Item, IsCapture, RefusesCapture}
 use Rattle.capture_reader.specs.Readers.{Reads, reader_left, reader_offset}
 use Rattle.capture_reader.specs.Classic.{PlainPacket}
 use Rattle.capture_reader.specs.declared.heading.Heading.{Heading}
 use Rattle.capture_reader.specs.declared.refusal.CaptureError.{CaptureError}
-use Rattle.packet_dump.specs.Dumps.{AreTexts, IsLine, first_time, none_read, progress_behind, time_of}
+use Rattle.packet_dump.specs.Dumps.{AreTexts, Begin, IsLine, first_time, none_read, packets_in, progress_behind, time_of}
 use Rattle.packet_dump.specs.WatchedWords.{inner_of}
+use Rattle.packet_dump.specs.declared.ending.Ending.{Ending}
+use Rattle.packet_dump.specs.declared.ending.Ending.TheVariants as ending
 use Rattle.packet_dump.specs.declared.session.Session.{Session}
 use Rattle.packet_dump.specs.declared.session.Standing.{Standing}
-use Rattle.packet_dump.specs.declared.session.Standing.TheVariants.{MayEnd, Cut, Refused}
+use Rattle.packet_dump.specs.declared.session.Standing.TheVariants.{MayEnd, Enough, Cut, Refused}
+use Rattle.packet_dump.specs.declared.view.View.{View}
 use Rattle.packet_dump.specs.declared.watched.Watched.{Watched}
 
--- the session took these bytes, read these items at their front, and knows how many packets and when the first came
-pub record Stands (session : Session) (read : List ℕ) (items : List Item) : Type 0 where
+-- The session shows so much, took these bytes, read these items at their front, and knows how many packets, which are no
+-- more than are wanted, and when the first came.
+pub record Stands (view : View) (session : Session) (read : List ℕ) (items : List Item) : Type 0 where
+  pub view_is : session.view ≡ view
   pub reads : Reads session.capture read items
+  pub within : session.number ≤ view.most
   pub number : session.number ≡ (progress_behind none_read items).number
   pub first : session.first ≡ (progress_behind none_read items).first
 
@@ -28,35 +34,38 @@ abbrev pub Counts : Session → Type 0
 Counts session = session.number ≤ reader_offset session.capture
 
 -- how a capture stands that ends behind these bytes, of which these items were read
-abbrev pub StandsSo : Standing → List ℕ → List Item → Type 0
-StandsSo MayEnd read items = IsCapture read items
-StandsSo (Cut error) read items = RefusesCapture read (items, error)
-StandsSo (Refused error) read items = RefusesCapture read (items, error)
+abbrev pub StandsSo : View → Standing → List ℕ → List Item → Type 0
+StandsSo view MayEnd read items = IsCapture read items
+StandsSo view Enough read items = Begin read items × (packets_in items ≡ view.most)
+StandsSo view (Cut error) read items = RefusesCapture read (items, error)
+StandsSo view (Refused error) read items = RefusesCapture read (items, error)
 
 -- more items were read, and their text was put together
-pub record Drained (session : Session) (read : List ℕ) (items : List Item) (text : List ℕ) : Type 0 where
+pub record Drained (view : View) (session : Session) (read : List ℕ) (items : List Item) (text : List ℕ) : Type 0 where
   pub more : List Item
-  pub stands : Stands session read (items ++ more)
-  pub texts : AreTexts none_read (items ++ more) (text ++ session.output.items)
+  pub stands : Stands view session read (items ++ more)
+  pub texts : AreTexts view none_read (items ++ more) (text ++ session.output.items)
 
 -- the same, and the capture stands so
-abbrev pub Drains : Session → Standing → List ℕ → List Item → List ℕ → Type 0
-Drains session standing read items text =
-    (drained : Drained session read items text) × StandsSo standing read (items ++ drained.more)
+abbrev pub Drains : View → Session → Standing → List ℕ → List Item → List ℕ → Type 0
+Drains view session standing read items text =
+    (drained : Drained view session read items text) × StandsSo view standing read (items ++ drained.more)
 
 -- a packet was counted, and its line put together
 pub record PushesLine (old new : Session) (head : Heading) (one : PlainPacket) : Type 0 where
+  pub view : new.view ≡ old.view
   pub line : List ℕ
-  pub is : IsLine head (old.number + 1) (first_time old.first (time_of head one)) one line
+  pub is : IsLine old.view head (old.number + 1) (first_time old.first (time_of head one)) one line
   pub output : new.output.items ≡ old.output.items ++ line
   pub number : new.number ≡ old.number + 1
   pub first : new.first ≡ Some (first_time old.first (time_of head one))
 
--- the error of a capture that ends so
-abbrev pub error_of : Standing → Option CaptureError
-error_of MayEnd = None
-error_of (Cut error) = Some error
-error_of (Refused error) = Some error
+-- how a run ends where the capture stands so and so many packets were read
+abbrev pub ending_of : Standing → ℕ → Ending
+ending_of MayEnd packets = ending.Whole
+ending_of Enough packets = ending.Enough
+ending_of (Cut error) packets = ending.Broken packets error
+ending_of (Refused error) packets = ending.Broken packets error
 
 -- A reader that had some bytes left has others left now, and a writer that held some bytes holds others now: what was
 -- read and what was written are so related. Of a reader or a writer that does not tell its bytes, any may have moved.

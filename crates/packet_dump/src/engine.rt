@@ -5,34 +5,36 @@ ghost use Rattle.packet_dump.specs.Dumps.{BeginsDump, IsDump};
 ghost use Rattle.packet_dump.specs.Sessions.{Transfers};
 ghost use Rattle.packet_dump.specs.WatchedWords.{has_ended, has_failed, reads_left};
 
+use crate::ending::Ending;
 use crate::run_error::RunError;
 use crate::session::{Session, Standing};
+use crate::view::View;
 use crate::watched::Watched;
-use capture_reader::CaptureError;
 use std::alloc::{AllocError, Global};
 use std::io::{Read, Write};
 
 /// How many bytes are read at a time, at most.
 const PIECE_LEN: usize = 65_536;
 
-/// Writes the lines of the packets of the capture that the reader gives, until it has ended or what it gave is refused,
-/// and says why it is no whole capture, if it is none. Neither may have failed before, nor the reader have ended.
+/// Writes the lines of the packets of the capture that the reader gives, until it has ended, as many packets were read as
+/// are wanted, or what it gave is refused, and says which. Neither may have failed before, nor the reader have ended.
 ///
 /// The reader is read in pieces of 64 KiB, and what was read of them is written before the next is read.
 pub fn run<R: Read, W: Write>(
     alloc: Global,
+    view: View,
     reader: &mut Watched<R>,
     writer: &mut Watched<W>,
-) -> Result<Option<CaptureError>, RunError>
+) -> Result<Ending, RunError>
     requires reader_sound { has_failed reader.old ≡ false }
     requires reader_open { has_ended reader.old ≡ false }
     requires reads { reads_left reader.old ≤ 2 ^ 47 }
     requires writer_sound { has_failed writer.old ≡ false }
 
     // What was written is the lines of what was read, and at an error begins them.
-    ensures ok { IfOk result (λ found. Transfers (IsDump found) R.remaining reader.old reader.new
+    ensures ok { IfOk result (λ ending. Transfers (IsDump view ending) R.remaining reader.old reader.new
         W.contents writer.old writer.new) }
-    ensures err { OnErr result (Transfers BeginsDump R.remaining reader.old reader.new
+    ensures err { OnErr result (Transfers (BeginsDump view) R.remaining reader.old reader.new
         W.contents writer.old writer.new) }
 
     // The error says which of the two failed.
@@ -41,12 +43,12 @@ pub fn run<R: Read, W: Write>(
 {
     let mut buffer = zeros(alloc, PIECE_LEN)?;
     let piece = buffer.as_mut_slice();
-    let mut session = Session::new(alloc);
+    let mut session = Session::new(alloc, view);
     'pieces: loop {
         let standing = session.drain()?;
         writer.write_all(session.output.as_slice())?;
-        if reader.ended() || matches!(standing, Standing::Refused(_)) {
-            return Ok(standing.error());
+        if reader.ended() || matches!(standing, Standing::Enough | Standing::Refused(_)) {
+            return Ok(session.ending(standing));
         }
         let count = reader.read(piece)?;
         session.take(&piece[..count])?;

@@ -2,50 +2,84 @@
 //!
 //! `packet_dump FILE` reads a file, and `packet_dump` or `packet_dump -` standard input. A line has the packet's number,
 //! its time since the first one in seconds, its layers from the outside in, or why it is refused, and how much of it was
-//! kept where that is not all.
+//! kept where that is not all. `packet_dump --help` lists the options.
 #![tactic(auto)]
 
+mod addresses;
 mod decimals;
+pub mod ending;
 pub mod engine;
+mod icmp_messages;
 mod layers;
 mod lines;
+mod links;
+mod nets;
+mod options;
 mod refusals;
 pub mod run_error;
 mod session;
+mod transports;
+pub mod view;
 pub mod watched;
 
+use crate::ending::Ending;
 use crate::engine::run;
+use crate::options::{Request, UsageError, parse};
 use crate::run_error::RunError;
+use crate::view::View;
 use crate::watched::Watched;
-use capture_reader::CaptureError;
+use capture_reader::Refusal;
 use std::process::ExitCode;
 use std::rt::{Env, Files};
 use std::{env, fs};
 
+/// The text of `--help`.
+const HELP: &str = "usage: packet_dump [OPTION..] [FILE]
+
+Prints a line for each packet of a capture (pcap): the packet's number, its time
+since the first one, its layers from the outside in or why it is refused, and
+how much of it was kept. Without FILE, or where it is -, standard input is read.
+
+  --count N      stop behind the Nth packet
+  --only KIND    only packets of a kind: udp, tcp, icmp, arp or refused
+  --hex          the bytes of payloads too, 16 in a row
+  --help         this text
+  --version      the version
+
+It ends with 0, with 1 where the capture is none or is cut, a file cannot be
+read or a line not be written, and with 2 where the command line is wrong.";
+
+/// The text of `--version`.
+const VERSION: &str = "packet_dump 0.1.0";
+
 fn main(rt: HostRuntime) -> ExitCode {
-    let Ok(mut args) = env::args(&rt) else {
+    let Ok(args) = env::args(&rt) else {
         return said(&rt, "packet_dump: the arguments cannot be read", 1);
     };
-    let _ = args.next();
-    let path = args.next();
-    if args.next().is_some() {
-        return said(&rt, "usage: packet_dump [FILE]", 2);
+    let mut words = Vec::new(rt.alloc());
+    for word in args {
+        if words.push(word).is_err() {
+            return said(&rt, "packet_dump: out of memory", 1);
+        }
     }
-    let mut writer = Watched::new(rt.stdout());
-    let outcome = match &path {
-        Some(path) if path.as_str() != "-" => {
-            let Ok(file) = fs::open(&rt, path.as_str()) else {
-                return said(&rt, "packet_dump: the file cannot be opened", 1);
-            };
-            let mut reader = Watched::new(file);
-            run(rt.alloc(), &mut reader, &mut writer)
-        }
-        _ => {
-            let mut reader = Watched::new(rt.stdin());
-            run(rt.alloc(), &mut reader, &mut writer)
-        }
+    let behind_name = match words.as_slice() {
+        [_, behind @ ..] => behind,
+        [] => &[],
     };
-    ended(&rt, outcome)
+    match parse(behind_name) {
+        Ok(Request::Help) => printed(&rt, HELP),
+        Ok(Request::Version) => printed(&rt, VERSION),
+        Ok(Request::Dump { view, path }) => dump(&rt, view, path),
+        Err(error) => refused(&rt, &error),
+    }
+}
+
+/// Prints a text, and ends.
+fn printed(rt: &impl Print, text: &str) -> ExitCode {
+    match rt.println(text) {
+        Ok(()) => ExitCode::SUCCESS,
+        Err(_) => ExitCode::from(1),
+    }
 }
 
 /// Says a line on standard error, and ends with a status.
@@ -54,14 +88,65 @@ fn said(rt: &impl Eprint, line: &str, status: u8) -> ExitCode {
     ExitCode::from(status)
 }
 
+/// Says what is wrong with the command line, and ends.
+fn refused(rt: &impl Eprint, error: &UsageError<'_>) -> ExitCode {
+    let _ = match error {
+        UsageError::UnknownOption(word) => eprintln!(rt; "packet_dump: no option {word}"),
+        UsageError::NoValue(option) => eprintln!(rt; "packet_dump: {option} needs a value"),
+        UsageError::NotACount(word) => eprintln!(rt; "packet_dump: no number of packets: {word}"),
+        UsageError::NotAKind(word) => {
+            eprintln!(rt; "packet_dump: no kind of packets: {word} (udp, tcp, icmp, arp, refused)")
+        }
+        UsageError::SecondFile(word) => eprintln!(rt; "packet_dump: a second file: {word}"),
+    };
+    said(rt, "packet_dump --help lists the options", 2)
+}
+
+/// Writes the lines of a file or of standard input.
+fn dump(rt: &HostRuntime, view: View, path: Option<&str>) -> ExitCode {
+    let mut writer = Watched::new(rt.stdout());
+    let outcome = match path {
+        Some(path) => {
+            let Ok(file) = fs::open(rt, path) else {
+                let _ = eprintln!(rt; "packet_dump: {path} cannot be opened");
+                return ExitCode::from(1);
+            };
+            let mut reader = Watched::new(file);
+            run(rt.alloc(), view, &mut reader, &mut writer)
+        }
+        None => {
+            let mut reader = Watched::new(rt.stdin());
+            run(rt.alloc(), view, &mut reader, &mut writer)
+        }
+    };
+    ended(rt, outcome)
+}
+
 /// How the program ends after a run.
-fn ended(rt: &impl Eprint, outcome: Result<Option<CaptureError>, RunError>) -> ExitCode {
+fn ended(rt: &impl Eprint, outcome: Result<Ending, RunError>) -> ExitCode {
     match outcome {
-        Ok(None) => ExitCode::SUCCESS,
-        Ok(Some(error)) => {
-            let _ = eprintln!(rt; "packet_dump: {error}");
+        Ok(Ending::Whole | Ending::Enough) => ExitCode::SUCCESS,
+        Ok(Ending::Broken { packets, error }) => {
+            let _ = eprintln!(rt; "packet_dump: {packets} packets were read; {error}");
+            if let Some(line) = hint(error.refusal) {
+                let _ = rt.eprintln(line);
+            }
             ExitCode::from(1)
         }
         Err(error) => said(rt, error.text(), 1),
+    }
+}
+
+/// What can be done about a file that is not read.
+fn hint(refusal: Refusal) -> Option<&'static str> {
+    match refusal {
+        Refusal::UnsupportedLinkType { .. } => Some(
+            "packet_dump: what is read is Ethernet, raw IP, and Linux cooked captures \
+            (tcpdump -y LINUX_SLL -i any)",
+        ),
+        Refusal::UnknownMagic { magic: 0x0a0d_0d0a } => {
+            Some("packet_dump: pcapng is not read; editcap -F pcap IN OUT makes a pcap file of it")
+        }
+        _ => None,
     }
 }

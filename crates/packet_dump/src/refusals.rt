@@ -1,8 +1,7 @@
 //! The text of a refusal.
 
-ghost use Rattle.std.specs.Prelude.{◌≡◌, ◌∷◌, ◌++◌, [], OnOk};
-ghost use Rattle.packet_dump.specs.Lines.{space};
-ghost use Rattle.packet_dump.specs.Refusals.{reason_text, refusal_text};
+ghost use Rattle.std.specs.Prelude.{◌≡◌, ◌++◌, OnOk};
+ghost use Rattle.packet_dump.specs.Refusals.{len_error_text, limit_text, needed_text, reason_text, refusal_text};
 
 use crate::decimals;
 use ep_base::err::{LenError, ip, ip_auth, ipv4, ipv6, ipv6_exts, linux_sll, macsec, tcp};
@@ -17,71 +16,96 @@ pub fn push_refusal(output: &mut Vec<u8>, error: &SliceError) -> Result<(), Allo
     push_reason(output, error)
 }
 
-/// Appends why bytes are refused.
+/// Appends why bytes are refused, in the words of the error. It costs what is written, where `write!` costs several
+/// calls.
 fn push_reason(output: &mut Vec<u8>, error: &SliceError) -> Result<(), AllocError>
     ensures { OnOk result (output.new.items ≡ output.old.items ++ reason_text error.now) }
 {
     match error {
         SliceError::Len(error) => push_len_error(output, error),
         SliceError::LinuxSll(linux_sll::HeaderError::UnsupportedPacketTypeField { packet_type }) =>
-            { decimals::push_behind(output, b"sll-packet-type ", u64::from(*packet_type)) }
+            {
+                decimals::push_behind(
+                    output,
+                    b"UnsupportedPacketTypeField ",
+                    u64::from(*packet_type),
+                )
+            }
         SliceError::LinuxSll(
             linux_sll::HeaderError::UnsupportedArpHardwareId { arp_hardware_type },
-        ) => { decimals::push_behind(output, b"sll-arp-hardware ", u64::from(*arp_hardware_type)) }
+        ) => {
+            decimals::push_behind(
+                output,
+                b"UnsupportedArpHardwareId ",
+                u64::from(*arp_hardware_type),
+            )
+        }
         SliceError::Macsec(macsec::HeaderError::UnexpectedVersion) => {
-            output.extend_from_slice(b"macsec-version")
+            output.extend_from_slice(b"UnexpectedVersion")
         }
         SliceError::Macsec(macsec::HeaderError::InvalidUnmodifiedShortLen) => {
-            output.extend_from_slice(b"macsec-short-length")
+            output.extend_from_slice(b"InvalidUnmodifiedShortLen")
         }
         SliceError::Ip(ip::HeaderError::UnsupportedIpVersion { version_number }) => {
-            decimals::push_behind(output, b"ip-version ", u64::from(*version_number))
+            decimals::push_behind(output, b"UnsupportedIpVersion ", u64::from(*version_number))
         }
         SliceError::Ip(ip::HeaderError::Ipv4HeaderLengthSmallerThanHeader { ihl }) => {
-            decimals::push_behind(output, b"ip-ihl ", u64::from(*ihl))
+            decimals::push_behind(
+                output,
+                b"Ipv4HeaderLengthSmallerThanHeader ",
+                u64::from(*ihl),
+            )
         }
         SliceError::Ipv4(ipv4::HeaderError::UnexpectedVersion { version_number }) => {
-            decimals::push_behind(output, b"ipv4-version ", u64::from(*version_number))
+            decimals::push_behind(output, b"UnexpectedVersion ", u64::from(*version_number))
         }
         SliceError::Ipv4(ipv4::HeaderError::HeaderLengthSmallerThanHeader { ihl }) => {
-            decimals::push_behind(output, b"ipv4-ihl ", u64::from(*ihl))
+            decimals::push_behind(output, b"HeaderLengthSmallerThanHeader ", u64::from(*ihl))
         }
         SliceError::Ipv6(ipv6::HeaderError::UnexpectedVersion { version_number }) => {
-            decimals::push_behind(output, b"ipv6-version ", u64::from(*version_number))
+            decimals::push_behind(output, b"UnexpectedVersion ", u64::from(*version_number))
         }
         SliceError::Ipv4Exts(ip_auth::HeaderError::ZeroPayloadLen) => {
-            output.extend_from_slice(b"ipv4-auth-zero")
+            output.extend_from_slice(b"ZeroPayloadLen")
         }
         SliceError::Ipv6Exts(ipv6_exts::HeaderError::HopByHopNotAtStart) => {
-            output.extend_from_slice(b"ipv6-hop-by-hop")
+            output.extend_from_slice(b"HopByHopNotAtStart")
         }
         SliceError::Ipv6Exts(
             ipv6_exts::HeaderError::IpAuth(ip_auth::HeaderError::ZeroPayloadLen),
-        ) => output.extend_from_slice(b"ipv6-auth-zero"),
+        ) => output.extend_from_slice(b"ZeroPayloadLen"),
         SliceError::Tcp(tcp::HeaderError::DataOffsetTooSmall { data_offset }) => {
-            decimals::push_behind(output, b"tcp-data-offset ", u64::from(*data_offset))
+            decimals::push_behind(output, b"DataOffsetTooSmall ", u64::from(*data_offset))
         }
     }
 }
 
-/// Appends the numbers and names of a layer that has too few bytes.
+/// Appends which layer has too few bytes, how many it needs, how many are there, what set that, and where it begins.
 fn push_len_error(output: &mut Vec<u8>, error: &LenError) -> Result<(), AllocError>
-    ensures { OnOk result (output.new.items ≡ output.old.items ++ reason_text (SliceError.Len error.now)) }
+    ensures { OnOk result (output.new.items ≡ output.old.items ++ len_error_text error.now) }
 {
-    let offset = error.layer_start_offset;
-    decimals::push_behind(output, b"len ", error.required_len as u64)?;
-    decimals::push_behind(output, b" ", error.len as u64)?;
-    output.push(b' ')?;
-    push_word(output, error.len_source.name())?;
-    push_word(output, error.layer.name())?;
-    decimals::push(output, offset as u64)
+    push_needed(output, error)?;
+    push_limit(output, error)?;
+    output.extend_from_slice(b")")
 }
 
-/// Appends a word and a space.
-fn push_word(output: &mut Vec<u8>, word: &str) -> Result<(), AllocError>
-    ensures { OnOk result (output.new.items ≡ output.old.items ++ (word.now ++ space ∷ [])) }
+/// Appends how many bytes a layer needs, and how many are there.
+fn push_needed(output: &mut Vec<u8>, error: &LenError) -> Result<(), AllocError>
+    ensures { OnOk result (output.new.items ≡ output.old.items ++ needed_text error.now) }
 {
-    output.extend_from_slice(word.as_bytes())?;
-    output.push(b' ')?;
-    Ok(())
+    let required_len = error.required_len;
+    let len = error.len;
+    output.extend_from_slice(error.layer.name().as_bytes())?;
+    decimals::push_behind(output, b": ", required_len as u64)?;
+    decimals::push_behind(output, b" bytes needed, ", len as u64)
+}
+
+/// Appends what set how many are there, and where the layer begins.
+fn push_limit(output: &mut Vec<u8>, error: &LenError) -> Result<(), AllocError>
+    ensures { OnOk result (output.new.items ≡ output.old.items ++ limit_text error.now) }
+{
+    let offset = error.layer_start_offset;
+    output.extend_from_slice(b" there (limit ")?;
+    output.extend_from_slice(error.len_source.name().as_bytes())?;
+    decimals::push_behind(output, b", offset ", offset as u64)
 }

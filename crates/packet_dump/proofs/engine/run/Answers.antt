@@ -15,7 +15,7 @@ returns-in_err-write_all-clause-err g c =
     let holds = contents (inner_of c.pieces.writer) in
     let then_holds = contents (inner_of c.write_all.new.self) in
     at_exit c.from_residual-in_err-write_all.result
-    (Moves-front c.pieces.session c.drain.new.self c.in_ok-standing.standing (remaining (inner_of c.args.reader.now))
+    (Moves-front c.args.view c.pieces.session c.drain.new.self c.in_ok-standing.standing (remaining (inner_of c.args.reader.now))
     (remaining (inner_of c.pieces.reader)) (contents (inner_of c.args.writer.now)) holds then_holds
     c.pieces.invariant.0 c.in_ok-standing.ensures.drains
     (subst (AppendsFront holds then_holds) c.as_slice.ensures.value c.in_err-write_all.ensures.front))
@@ -29,8 +29,8 @@ returns-then-ended-clause-ok g c =
     let held = contents (inner_of c.args.writer.now) in
     let holds = contents (inner_of c.pieces.writer) in
     let then_holds = contents (inner_of c.write_all.new.self) in
-    subst (λ e. Moves (IsDump e) had has held then_holds) (sym c.error.ensures)
-    (Moves-ended c.pieces.session c.drain.new.self c.in_ok-standing.standing had has held holds then_holds
+    subst (λ e. Moves (IsDump c.args.view e) had has held then_holds) (sym c.ending.ensures)
+    (Moves-ended c.args.view c.pieces.session c.drain.new.self c.in_ok-standing.standing had has held holds then_holds
     c.pieces.invariant.0 c.in_ok-standing.ensures.drains
     (subst (Appends holds then_holds) c.as_slice.ensures.value c.in_ok-write_all.ensures.all))
 
@@ -45,9 +45,9 @@ returns-in_err-count-clause-err g c =
     let holds = contents (inner_of c.pieces.writer) in
     let then_holds = contents (inner_of c.write_all.new.self) in
     at_exit c.from_residual-in_err-count.result
-    (Moves-begun c.drain.new.self had then_has held then_holds
-    (Moves-kept c.drain.new.self had has then_has held then_holds
-    (Moves-drained c.pieces.session c.drain.new.self c.in_ok-standing.standing had has held holds then_holds
+    (Moves-begun c.args.view c.drain.new.self had then_has held then_holds
+    (Moves-kept c.args.view c.drain.new.self had has then_has held then_holds
+    (Moves-drained c.args.view c.pieces.session c.drain.new.self c.in_ok-standing.standing had has held holds then_holds
     c.pieces.invariant.0 c.in_ok-standing.ensures.drains
     (subst (Appends holds then_holds) c.as_slice.ensures.value c.in_ok-write_all.ensures.all))
     c.in_err-count.ensures.bytes))
@@ -63,8 +63,8 @@ returns-in_err-take-clause-err g c =
     let holds = contents (inner_of c.pieces.writer) in
     let then_holds = contents (inner_of c.write_all.new.self) in
     at_exit c.from_residual-in_err-take.result
-    (Moves-piece c.drain.new.self (take c.in_ok-count.count c.read.new.piece) had has then_has held then_holds
-    (Moves-drained c.pieces.session c.drain.new.self c.in_ok-standing.standing had has held holds then_holds
+    (Moves-piece c.args.view c.drain.new.self (take c.in_ok-count.count c.read.new.piece) had has then_has held then_holds
+    (Moves-drained c.args.view c.pieces.session c.drain.new.self c.in_ok-standing.standing had has held holds then_holds
     c.pieces.invariant.0 c.in_ok-standing.ensures.drains
     (subst (Appends holds then_holds) c.as_slice.ensures.value c.in_ok-write_all.ensures.all))
     c.in_ok-count.ensures.bytes.0)
@@ -83,9 +83,9 @@ pieces-preserved g c =
     let taken = c.in_ok-take.ensures in
     let counted = c.in_ok-count.ensures.counted in
     let before = c.pieces.invariant.5 in (
-      Moves-taken c.drain.new.self c.take.new.self (take c.in_ok-count.count c.read.new.piece) had has then_has held
+      Moves-taken c.args.view c.drain.new.self c.take.new.self (take c.in_ok-count.count c.read.new.piece) had has then_has held
           then_holds
-          (Moves-drained c.pieces.session c.drain.new.self c.in_ok-standing.standing had has held holds then_holds
+          (Moves-drained c.args.view c.pieces.session c.drain.new.self c.in_ok-standing.standing had has held holds then_holds
           c.pieces.invariant.0 drained.drains
           (subst (Appends holds then_holds) c.as_slice.ensures.value c.in_ok-write_all.ensures.all))
           c.in_ok-count.ensures.bytes.0 taken.stands,
@@ -95,3 +95,10 @@ pieces-preserved g c =
       taken.counts drained.counts,
       grind (arith, common_steps, taken.taken, drained.taken, counted, before),
     )
+
+pub returns-in_err-standing-clause-err : goal.returns-in_err-standing-clause-err
+returns-in_err-standing-clause-err g c =
+    at_exit c.from_residual-in_err-standing.result
+    (Moves-begun c.args.view c.pieces.session (g.R.Read.remaining (inner_of c.args.reader.now))
+    (g.R.Read.remaining (inner_of c.pieces.reader)) (g.W.Write.contents (inner_of c.args.writer.now))
+    (g.W.Write.contents (inner_of c.pieces.writer)) c.pieces.invariant.0)

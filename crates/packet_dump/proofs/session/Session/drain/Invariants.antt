@@ -3,12 +3,13 @@ use Rattle.capture_reader.specs.Captures.{Item}
 use Rattle.capture_reader.specs.Readers.{reader_left}
 use Rattle.packet_dump.specs.Dumps.{AreTexts, none_read}
 use Rattle.packet_dump.specs.Sessions.{Counts, Drained, Stands, taken_by}
+use Rattle.packet_dump.specs.declared.view.View.{View}
 use Rattle.packet_dump.proofs.session.Session.drain.Given as goal
 
 abbrev pub invariant-items : goal.invariant-items
 invariant-items l =
-    ((read : List ℕ) (items : List Item) (text : List ℕ) → Stands l.fn.self read items → AreTexts none_read items text
-    → Drained l.self read items text) × (taken_by l.self ≡ taken_by l.fn.self) × Counts l.self
+    ((view : View) (read : List ℕ) (items : List Item) (text : List ℕ) → Stands view l.fn.self read items
+    → AreTexts view none_read items text → Drained view l.self read items text) × (taken_by l.self ≡ taken_by l.fn.self) × Counts l.self
 
 abbrev pub decreases-items : goal.decreases-items
 decreases-items l = reader_left l.self.capture

@@ -20,6 +20,6 @@ returns-clause-line c =
     (λ pushed (head : Heading) (is : reader_stage self.capture ≡ in_records head).
     let shown : Some c.in-Some.heading ≡ Some head = cc (said, found, ap heading_in is) in
     pushes self _ c.in-Some.heading head (packet_of c.packet-packet.result) _ c.unwrap_or-first.result
-    (some_same c.in-Some.heading head shown) c.packet-packet.ensures
+    refl (some_same c.in-Some.heading head shown) c.packet-packet.ensures
     (c.unwrap_or-first.ensures ∙ first_is self.first c.time_of-this.result
     ∙ ap (first_time self.first) c.time_of-this.ensures) refl refl pushed) c.push_line.ensures

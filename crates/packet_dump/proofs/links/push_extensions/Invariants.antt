@@ -1,7 +1,7 @@
 use Rattle.std.proofs.Common.{◌≡◌, ◌++◌, map, drop}
 use Rattle.ep_link.specs.LinkExtensions.{link_extension_of}
-use Rattle.packet_dump.specs.Layers.{extensions_text}
-use Rattle.packet_dump.proofs.layers.push_extensions.Given as goal
+use Rattle.packet_dump.specs.Links.{extensions_text}
+use Rattle.packet_dump.proofs.links.push_extensions.Given as goal
 
 -- what is appended and what is still to be appended are what is to be appended from here on
 abbrev pub invariant-loop-extension : goal.invariant-loop-extension

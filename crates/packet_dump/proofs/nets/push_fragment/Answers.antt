@@ -1,0 +1,18 @@
+use Rattle.std.proofs.Common.{◌++◌, ◌*◌, ◌∙◌}
+use Rattle.std.proofs.lemmas.Result.{on_ok_weaker}
+use Rattle.std.specs.Prelude.{codes}
+use Rattle.std.specs.Fmt.{decimal}
+use Rattle.packet_dump.specs.Nets.{more_text}
+use Rattle.packet_dump.proofs.LineLemmas.{three_parts}
+use Rattle.packet_dump.proofs.nets.push_fragment.Goals as goal
+
+pub returns : goal.returns
+returns c =
+    let start = c.args.output.now.items in
+    on_ok_weaker c.push_more.result
+    (λ last.
+    three_parts start c.push_behind.new.output.items c.push_behind-2.new.output.items c.push_more.new.output.items
+    (codes " fragment id " ++ decimal c.from.result) (codes " offset " ++ decimal (8 * c.from-2.result))
+    (more_text c.args.more) c.in_ok-push_behind.ensures c.in_ok-push_behind-2.ensures last
+    ∙ (λ i. start ++ ((codes " fragment id " ++ decimal (c.from.ensures i))
+    ++ (codes " offset " ++ decimal (8 * c.from-2.ensures i)) ++ more_text c.args.more))) c.push_more.ensures

@@ -1,0 +1,12 @@
+use Rattle.std.proofs.Common.{◌≡◌, ◌++◌}
+use Rattle.ep_ext.specs.Ipv6Slices.{ipv6_slice_parts, parts_left}
+use Rattle.packet_dump.specs.Nets.{parts_text}
+use Rattle.packet_dump.proofs.nets.push_ipv6_extensions.Given as goal
+
+-- what is appended and what is still to be appended are what is to be appended from here on
+abbrev pub invariant-loop-extension : goal.invariant-loop-extension
+invariant-loop-extension l =
+    (l.output.items ++ parts_text (parts_left l.extension-iterator)
+    ≡ l.initial.output.items ++ parts_text (ipv6_slice_parts l.fn.extensions))
+    × (goal.iterator-loop-extension).can_next l.extension-iterator
+    × (goal.iterator-loop-extension).is_finite l.extension-iterator

@@ -1,0 +1,23 @@
+use Rattle.std.proofs.Common.{◌++◌, ◌∙◌}
+use Rattle.std.proofs.lemmas.Result.{on_ok_weaker}
+use Rattle.std.specs.Prelude.{codes}
+use Rattle.std.specs.Fmt.{decimal}
+use Rattle.ep_transport.specs.TcpSlices.{tcp_slice_header}
+use Rattle.packet_dump.specs.Transports.{acknowledgment_text, flags_text, state_text}
+use Rattle.packet_dump.proofs.LineLemmas.{four_parts}
+use Rattle.packet_dump.proofs.transports.push_state.Goals as goal
+
+pub returns : goal.returns
+unfolding state_text
+returns c =
+    let start = c.args.output.now.items in
+    let flags = flags_text (tcp_slice_header c.args.segment.now) in
+    let acknowledgment = acknowledgment_text (tcp_slice_header c.args.segment.now) in
+    let number = c.from.ensures ∙ c.sequence_number.ensures in
+    on_ok_weaker c.push_acknowledgment.result
+    (λ last.
+    four_parts start c.extend_from_slice.new.self.items c.push_flags.new.output.items c.push_behind.new.output.items
+    c.push_acknowledgment.new.output.items (codes " [") flags (codes "] seq " ++ decimal c.from.result) acknowledgment
+    c.in_ok-extend_from_slice.ensures.items c.in_ok-push_flags.ensures c.in_ok-push_behind.ensures last
+    ∙ (λ i. start ++ (codes " [" ++ flags ++ (codes "] seq " ++ decimal (number i)) ++ acknowledgment)))
+    c.push_acknowledgment.ensures

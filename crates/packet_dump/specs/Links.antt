@@ -1,0 +1,71 @@
+-- The text of link layers and link extensions, a space before each.
+use Rattle.std.specs.Prelude.{ℕ, ◌==◌, min, if◌then◌else◌, List, [], ◌∷◌, ◌++◌, take, Option, Some, None, codes}
+use Rattle.std.specs.Fmt.{decimal}
+use Rattle.std.specs.Int.{w64, to_be_bytes}
+use Rattle.ep_link.specs.LinkExtensions.{LinkExtension, vlan, macsec}
+use Rattle.ep_link.specs.LinkSlices.{LinkLayer, ethernet2, linux_sll, ether_payload, linux_sll_payload}
+use Rattle.ep_link.specs.declared.link.linux_sll_header.LinuxSllHeader.{LinuxSllHeader}
+use Rattle.ep_link.specs.declared.link_ext.macsec_header.MacsecHeader.{MacsecHeader}
+use Rattle.ep_link.specs.declared.link_ext.macsec_ptype.MacsecPType.{MacsecPType}
+use Rattle.ep_link.specs.declared.link_ext.macsec_ptype.MacsecPType.TheVariants.{Unmodified, Modified, Encrypted, EncryptedUnmodified}
+use Rattle.packet_dump.specs.Addresses.{hex_text, mac_text, octets_text}
+
+-- which way a packet of a Linux cooked capture went
+abbrev pub way_name : ℕ → List ℕ
+way_name type =
+    if type == 0 then codes "host" else
+    (if type == 1 then codes "broadcast" else
+    (if type == 2 then codes "multicast" else
+    (if type == 3 then codes "other-host" else
+    (if type == 4 then codes "outgoing" else
+    (if type == 5 then codes "loopback" else
+    (if type == 6 then codes "user" else codes "kernel"))))))
+
+-- the sender's address, of which up to 8 bytes are there
+abbrev pub sll_sender : LinuxSllHeader → List ℕ
+sll_sender header = take (min header.sender_address_valid_length 8) header.sender_address
+
+-- an address, where it has bytes
+abbrev pub sender_text : List ℕ → List ℕ
+sender_text [] = []
+sender_text (byte ∷ bytes) = codes " from " ++ octets_text (byte ∷ bytes)
+
+-- a Linux cooked capture: which way the packet went, and the sender's address
+abbrev pub sll_text : LinuxSllHeader → List ℕ
+sll_text header = codes " sll " ++ way_name header.packet_type.0 ++ sender_text (sll_sender header)
+
+-- a link layer: Ethernet with its addresses; without a header there is no text
+abbrev pub link_text : Option LinkLayer → List ℕ
+link_text (Some (ethernet2 ethernet payload)) =
+    codes " eth " ++ mac_text ethernet.source ++ codes " > " ++ mac_text ethernet.destination
+link_text (Some (linux_sll sll payload)) = sll_text sll
+link_text (Some (ether_payload type source payload)) = []
+link_text (Some (linux_sll_payload protocol payload)) = []
+link_text None = []
+
+-- what was done to the payload of a MACsec packet, where anything was
+abbrev pub change_text : MacsecPType → List ℕ
+change_text (Unmodified type) = []
+change_text Modified = codes " modified"
+change_text Encrypted = codes " encrypted"
+change_text EncryptedUnmodified = codes " encrypted-unmodified"
+
+-- a secure channel identifier, where there is one
+abbrev pub channel_text : Option ℕ → List ℕ
+channel_text (Some sci) = codes " sci " ++ hex_text (to_be_bytes w64 sci)
+channel_text None = []
+
+-- a MACsec tag: its packet number, the channel, and what was done to the payload
+abbrev pub macsec_text : MacsecHeader → List ℕ
+macsec_text tag =
+    codes " macsec pn " ++ decimal tag.packet_nr ++ channel_text tag.sci ++ change_text tag.ptype
+
+-- a link extension: a VLAN with its identifier
+abbrev pub extension_text : LinkExtension → List ℕ
+extension_text (vlan tag payload) = codes " vlan:" ++ decimal tag.vlan_id
+extension_text (macsec tag payload) = macsec_text tag
+
+-- link extensions, from the outside in
+abbrev pub extensions_text : List LinkExtension → List ℕ
+extensions_text [] = []
+extensions_text (extension ∷ others) = extension_text extension ++ extensions_text others

@@ -1,0 +1,83 @@
+-- The text of net layers, a space before each.
+use Rattle.std.specs.Prelude.{ℕ, ◌*◌, ◌==◌, ◌&&◌, Bool, true, false, if◌then◌else◌, List, [], ◌∷◌, ◌++◌, length, Option, Some, None, codes}
+use Rattle.std.specs.Fmt.{decimal}
+use Rattle.ep_ext.specs.ExtensionParts.{ExtensionPart, hop_by_hop, destination_options, routing, fragment, authentication}
+use Rattle.ep_ip.specs.Ipv4.{is_ipv4_fragment}
+use Rattle.ep_ip.specs.declared.ipv4_header.Ipv4Header.{Ipv4Header}
+use Rattle.ep_ip.specs.declared.ipv6_header.Ipv6Header.{Ipv6Header}
+use Rattle.ep_link.specs.Arp.{Arp}
+use Rattle.ep_packet.specs.Layers.{NetLayer, ipv4, ipv6, arp}
+use Rattle.packet_dump.specs.Addresses.{ipv4_text, ipv6_text, octets_text}
+
+-- that more fragments follow, where they do
+abbrev pub more_text : Bool → List ℕ
+more_text more = if more then codes " more" else []
+
+-- a fragment: what it is a fragment of, the place of its first byte, and whether more follow
+abbrev pub fragment_text : ℕ → ℕ → Bool → List ℕ
+fragment_text identification offset more =
+    (codes " fragment id " ++ decimal identification) ++ (codes " offset " ++ decimal (8 * offset))
+    ++ more_text more
+
+-- what the header of an IPv4 packet says of fragments, where the packet carries one
+abbrev pub ipv4_fragment_text : Ipv4Header → List ℕ
+ipv4_fragment_text header =
+    if is_ipv4_fragment header
+    then fragment_text header.identification header.fragment_offset header.more_fragments else []
+
+-- an extension header: a fragment header with what it says, others by name
+abbrev pub part_text : ExtensionPart → List ℕ
+part_text (hop_by_hop header) = codes " hop-by-hop"
+part_text (destination_options header) = codes " destination-options"
+part_text (routing header) = codes " routing"
+part_text (fragment header) = fragment_text header.identification header.fragment_offset header.more_fragments
+part_text (authentication header) = codes " authentication"
+
+-- extension headers, in their order
+abbrev pub parts_text : List ExtensionPart → List ℕ
+parts_text [] = []
+parts_text (part ∷ others) = part_text part ++ parts_text others
+
+-- an address in an ARP packet: of IPv4 where the type and the length are its, others by their bytes
+abbrev pub protocol_address_text : ℕ → List ℕ → List ℕ
+protocol_address_text type address =
+    if (type == 0x0800) && (length address == 4) then ipv4_text address else octets_text address
+
+-- who is looked for, and who asks
+unfoldable pub who_has_text : Arp → List ℕ
+who_has_text packet =
+    codes " arp who-has " ++ protocol_address_text packet.proto_addr_type.0 packet.target_protocol_addr
+    ++ codes " tell " ++ protocol_address_text packet.proto_addr_type.0 packet.sender_protocol_addr
+
+-- who answers, and with which hardware address
+unfoldable pub reply_text : Arp → List ℕ
+reply_text packet =
+    codes " arp reply " ++ protocol_address_text packet.proto_addr_type.0 packet.sender_protocol_addr
+    ++ codes " is-at " ++ octets_text packet.sender_hw_addr
+
+-- a question, an answer, or others by the number of the operation
+abbrev pub operation_text : ℕ → Arp → List ℕ
+operation_text operation packet =
+    if operation == 1 then who_has_text packet else
+    (if operation == 2 then reply_text packet else codes " arp operation " ++ decimal operation)
+
+-- an ARP packet (RFC 826)
+abbrev pub arp_text : Arp → List ℕ
+arp_text packet = operation_text packet.operation.0 packet
+
+-- an IPv4 header: its addresses, and what it says of fragments
+abbrev pub ipv4_header_text : Ipv4Header → List ℕ
+ipv4_header_text header =
+    codes " ipv4 " ++ ipv4_text header.source ++ codes " > " ++ ipv4_text header.destination
+    ++ ipv4_fragment_text header
+
+-- an IPv6 header: its addresses
+abbrev pub ipv6_header_text : Ipv6Header → List ℕ
+ipv6_header_text header = codes " ipv6 " ++ ipv6_text header.source ++ codes " > " ++ ipv6_text header.destination
+
+-- a net layer: IP with its addresses, what it says of fragments, and its extension headers
+abbrev pub net_text : Option NetLayer → List ℕ
+net_text (Some (ipv4 ip extensions payload)) = ipv4_header_text ip ++ parts_text extensions
+net_text (Some (ipv6 ip extensions payload)) = ipv6_header_text ip ++ parts_text extensions
+net_text (Some (arp packet)) = arp_text packet
+net_text None = []

@@ -1,0 +1,256 @@
+//! The text of ICMP messages of both versions.
+
+ghost use Rattle.std.specs.Prelude.{◌≡◌, ◌++◌, OnOk};
+ghost use Rattle.std.specs.Option.{option_copied};
+ghost use Rattle.packet_dump.specs.Icmp.{code_text, echo_text, exceeded_name, icmpv4_code_name, icmpv4_content_text};
+ghost use Rattle.packet_dump.specs.Icmp.{icmpv4_redirect_name, icmpv4_text, icmpv4_type_name, icmpv4_unreachable_name};
+ghost use Rattle.packet_dump.specs.Icmp.{icmpv6_code_name, icmpv6_content_text, icmpv6_text, icmpv6_type_name};
+ghost use Rattle.packet_dump.specs.Icmp.{icmpv6_unreachable_name, type_text};
+
+use crate::addresses::push_ipv4;
+use crate::decimals;
+use ep_transport::{IcmpEchoHeader, Icmpv4Type, Icmpv6Type};
+use std::alloc::AllocError;
+
+/// Appends the text of a message of ICMP: its type, its code, and what it says beside them.
+pub fn push_icmpv4(output: &mut Vec<u8>, message: &Icmpv4Type) -> Result<(), AllocError>
+    ensures { OnOk result (output.new.items ≡ output.old.items ++ icmpv4_text message.now) }
+{
+    let type_u8 = message.type_u8();
+    let code_u8 = message.code_u8();
+    output.extend_from_slice(b" icmpv4")?;
+    push_type(output, icmpv4_type_name(type_u8), type_u8)?;
+    push_code(output, icmpv4_code_name(type_u8, code_u8), code_u8)?;
+    push_icmpv4_content(output, message)
+}
+
+/// Appends the text of a message of ICMPv6: its type, its code, and what it says beside them.
+pub fn push_icmpv6(output: &mut Vec<u8>, message: &Icmpv6Type) -> Result<(), AllocError>
+    ensures { OnOk result (output.new.items ≡ output.old.items ++ icmpv6_text message.now) }
+{
+    let type_u8 = message.type_u8();
+    let code_u8 = message.code_u8();
+    output.extend_from_slice(b" icmpv6")?;
+    push_type(output, icmpv6_type_name(type_u8), type_u8)?;
+    push_code(output, icmpv6_code_name(type_u8, code_u8), code_u8)?;
+    push_icmpv6_content(output, message)
+}
+
+/// Appends a type, by its name or else by its number.
+fn push_type(
+    output: &mut Vec<u8>,
+    name: Option<&'static str>,
+    type_u8: u8,
+) -> Result<(), AllocError>
+    ensures { OnOk result (output.new.items ≡ output.old.items ++ type_text (option_copied name.entry) type_u8) }
+{
+    match name {
+        Some(name) => {
+            output.push(b' ')?;
+            output.extend_from_slice(name.as_bytes())
+        }
+        None => decimals::push_behind(output, b" type ", u64::from(type_u8)),
+    }
+}
+
+/// Appends a code, by its name or else by its number; the code 0 without a name says nothing.
+fn push_code(
+    output: &mut Vec<u8>,
+    name: Option<&'static str>,
+    code_u8: u8,
+) -> Result<(), AllocError>
+    ensures { OnOk result (output.new.items ≡ output.old.items ++ code_text (option_copied name.entry) code_u8) }
+{
+    match name {
+        Some(name) => {
+            output.push(b' ')?;
+            output.extend_from_slice(name.as_bytes())
+        }
+        None if code_u8 == 0 => Ok(()),
+        None => decimals::push_behind(output, b" code ", u64::from(code_u8)),
+    }
+}
+
+/// The name of a type of ICMP.
+fn icmpv4_type_name(type_u8: u8) -> Option<&'static str>
+    ensures { option_copied result ≡ icmpv4_type_name type_u8 }
+{
+    match type_u8 {
+        0 => Some("echo-reply"),
+        3 => Some("destination-unreachable"),
+        4 => Some("source-quench"),
+        5 => Some("redirect"),
+        8 => Some("echo-request"),
+        9 => Some("router-advertisement"),
+        10 => Some("router-solicitation"),
+        11 => Some("time-exceeded"),
+        12 => Some("parameter-problem"),
+        13 => Some("timestamp-request"),
+        14 => Some("timestamp-reply"),
+        _ => None,
+    }
+}
+
+/// The name of a code of ICMP.
+fn icmpv4_code_name(type_u8: u8, code_u8: u8) -> Option<&'static str>
+    ensures { option_copied result ≡ icmpv4_code_name type_u8 code_u8 }
+{
+    match type_u8 {
+        3 => icmpv4_unreachable_name(code_u8),
+        5 => icmpv4_redirect_name(code_u8),
+        11 => exceeded_name(code_u8),
+        _ => None,
+    }
+}
+
+/// The name of a code of an ICMP message about a destination that cannot be reached.
+fn icmpv4_unreachable_name(code_u8: u8) -> Option<&'static str>
+    ensures { option_copied result ≡ icmpv4_unreachable_name code_u8 }
+{
+    match code_u8 {
+        0 => Some("network"),
+        1 => Some("host"),
+        2 => Some("protocol"),
+        3 => Some("port"),
+        4 => Some("fragmentation-needed"),
+        5 => Some("source-route-failed"),
+        6 => Some("network-unknown"),
+        7 => Some("host-unknown"),
+        8 => Some("source-isolated"),
+        9 => Some("network-prohibited"),
+        10 => Some("host-prohibited"),
+        11 => Some("network-service"),
+        12 => Some("host-service"),
+        13 => Some("prohibited"),
+        14 => Some("precedence-violation"),
+        15 => Some("precedence-cutoff"),
+        _ => None,
+    }
+}
+
+/// The name of a code of a redirection.
+fn icmpv4_redirect_name(code_u8: u8) -> Option<&'static str>
+    ensures { option_copied result ≡ icmpv4_redirect_name code_u8 }
+{
+    match code_u8 {
+        0 => Some("network"),
+        1 => Some("host"),
+        2 => Some("network-service"),
+        3 => Some("host-service"),
+        _ => None,
+    }
+}
+
+/// The name of a code of a time that is exceeded, which is of ICMPv6 too.
+fn exceeded_name(code_u8: u8) -> Option<&'static str>
+    ensures { option_copied result ≡ exceeded_name code_u8 }
+{
+    match code_u8 {
+        0 => Some("in-transit"),
+        1 => Some("reassembly"),
+        _ => None,
+    }
+}
+
+/// The name of a type of ICMPv6.
+fn icmpv6_type_name(type_u8: u8) -> Option<&'static str>
+    ensures { option_copied result ≡ icmpv6_type_name type_u8 }
+{
+    match type_u8 {
+        1 => Some("destination-unreachable"),
+        2 => Some("packet-too-big"),
+        3 => Some("time-exceeded"),
+        4 => Some("parameter-problem"),
+        128 => Some("echo-request"),
+        129 => Some("echo-reply"),
+        130 => Some("listener-query"),
+        131 => Some("listener-report"),
+        132 => Some("listener-done"),
+        133 => Some("router-solicitation"),
+        134 => Some("router-advertisement"),
+        135 => Some("neighbor-solicitation"),
+        136 => Some("neighbor-advertisement"),
+        137 => Some("redirect"),
+        143 => Some("listener-report-v2"),
+        _ => None,
+    }
+}
+
+/// The name of a code of ICMPv6.
+fn icmpv6_code_name(type_u8: u8, code_u8: u8) -> Option<&'static str>
+    ensures { option_copied result ≡ icmpv6_code_name type_u8 code_u8 }
+{
+    match type_u8 {
+        1 => icmpv6_unreachable_name(code_u8),
+        3 => exceeded_name(code_u8),
+        _ => None,
+    }
+}
+
+/// The name of a code of an ICMPv6 message about a destination that cannot be reached.
+fn icmpv6_unreachable_name(code_u8: u8) -> Option<&'static str>
+    ensures { option_copied result ≡ icmpv6_unreachable_name code_u8 }
+{
+    match code_u8 {
+        0 => Some("no-route"),
+        1 => Some("prohibited"),
+        2 => Some("beyond-scope"),
+        3 => Some("address"),
+        4 => Some("port"),
+        5 => Some("source-policy"),
+        6 => Some("reject-route"),
+        _ => None,
+    }
+}
+
+/// Appends what a message of ICMP says beside its type and code: an echo's numbers, how much the next network takes, a
+/// gateway.
+fn push_icmpv4_content(output: &mut Vec<u8>, message: &Icmpv4Type) -> Result<(), AllocError>
+    ensures { OnOk result (output.new.items ≡ output.old.items ++ icmpv4_content_text message.now) }
+{
+    match message {
+        Icmpv4Type::EchoReply(echo) | Icmpv4Type::EchoRequest(echo) => push_echo(output, echo),
+        Icmpv4Type::DestinationUnreachable {
+            code: 4,
+            next_hop_mtu,
+        } => decimals::push_behind(output, b" mtu ", u64::from(*next_hop_mtu)),
+        Icmpv4Type::Redirect { gateway, .. } => {
+            output.extend_from_slice(b" to ")?;
+            push_ipv4(output, *gateway)
+        }
+        Icmpv4Type::TimestampRequest(times) | Icmpv4Type::TimestampReply(times) => {
+            decimals::push_behind(output, b" id ", u64::from(times.id))?;
+            decimals::push_behind(output, b" seq ", u64::from(times.seq))
+        }
+        Icmpv4Type::Unknown { .. }
+        | Icmpv4Type::DestinationUnreachable { .. }
+        | Icmpv4Type::TimeExceeded(_)
+        | Icmpv4Type::ParameterProblem { .. } => Ok(()),
+    }
+}
+
+/// Appends what a message of ICMPv6 says beside its type and code: an echo's numbers, how much a network takes.
+fn push_icmpv6_content(output: &mut Vec<u8>, message: &Icmpv6Type) -> Result<(), AllocError>
+    ensures { OnOk result (output.new.items ≡ output.old.items ++ icmpv6_content_text message.now) }
+{
+    match message {
+        Icmpv6Type::EchoRequest(echo) | Icmpv6Type::EchoReply(echo) => push_echo(output, echo),
+        Icmpv6Type::PacketTooBig { mtu } => {
+            decimals::push_behind(output, b" mtu ", u64::from(*mtu))
+        }
+        Icmpv6Type::ParameterProblem { pointer, .. } => {
+            decimals::push_behind(output, b" pointer ", u64::from(*pointer))
+        }
+        Icmpv6Type::Unknown { .. }
+        | Icmpv6Type::DestinationUnreachable { .. }
+        | Icmpv6Type::TimeExceeded(_) => Ok(()),
+    }
+}
+
+/// Appends what belongs to an echo.
+fn push_echo(output: &mut Vec<u8>, echo: &IcmpEchoHeader) -> Result<(), AllocError>
+    ensures { OnOk result (output.new.items ≡ output.old.items ++ echo_text echo.now) }
+{
+    decimals::push_behind(output, b" id ", u64::from(echo.id))?;
+    decimals::push_behind(output, b" seq ", u64::from(echo.seq))
+}

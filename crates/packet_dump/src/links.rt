@@ -1,0 +1,129 @@
+//! The text of link layers and link extensions.
+
+ghost use Rattle.std.specs.Prelude.{◌≡◌, ◌++◌, OnOk, map};
+ghost use Rattle.std.specs.Option.{option_map};
+ghost use Rattle.ep_link.specs.LinkExtensions.{link_extension_of};
+ghost use Rattle.ep_link.specs.LinkSlices.{link_layer_of};
+ghost use Rattle.ep_link.specs.LinuxSllSlices.{linux_sll_slice_header};
+ghost use Rattle.ep_link.specs.MacsecSlices.{macsec_slice_header};
+ghost use Rattle.packet_dump.specs.Links.{change_text, channel_text, extension_text, extensions_text, link_text};
+ghost use Rattle.packet_dump.specs.Links.{macsec_text, sender_text, sll_text, way_name};
+
+use crate::addresses::{push_hex, push_mac, push_octets};
+use crate::decimals;
+use ep_link::{LinkExtSlice, LinkSlice, LinuxSllSlice, MacsecPType, MacsecSlice};
+use std::alloc::AllocError;
+
+/// Appends the text of a link layer: of Ethernet with its addresses, of a Linux cooked capture with the sender's.
+pub fn push_link(output: &mut Vec<u8>, link: &Option<LinkSlice<'_>>) -> Result<(), AllocError>
+    ensures { OnOk result (output.new.items ≡ output.old.items ++ link_text (option_map link_layer_of link.now)) }
+{
+    match link {
+        Some(LinkSlice::Ethernet2(frame)) => {
+            output.extend_from_slice(b" eth ")?;
+            push_mac(output, frame.source())?;
+            output.extend_from_slice(b" > ")?;
+            push_mac(output, frame.destination())
+        }
+        Some(LinkSlice::LinuxSll(frame)) => push_sll(output, frame),
+        Some(LinkSlice::EtherPayload(_) | LinkSlice::LinuxSllPayload(_)) | None => Ok(()),
+    }
+}
+
+/// Appends the text of the header of a Linux cooked capture.
+fn push_sll(output: &mut Vec<u8>, frame: &LinuxSllSlice<'_>) -> Result<(), AllocError>
+    ensures { OnOk result (output.new.items ≡ output.old.items ++ sll_text (linux_sll_slice_header frame.now)) }
+{
+    let address = frame.sender_address();
+    let len = usize::from(frame.sender_address_valid_length()).min(8);
+    output.extend_from_slice(b" sll ")?;
+    output.extend_from_slice(way_name(frame.packet_type().0).as_bytes())?;
+    push_sender(output, &address[..len])
+}
+
+/// Which way a packet of a Linux cooked capture went.
+fn way_name(packet_type: u16) -> &'static str
+    ensures { result.now ≡ way_name packet_type }
+{
+    match packet_type {
+        0 => "host",
+        1 => "broadcast",
+        2 => "multicast",
+        3 => "other-host",
+        4 => "outgoing",
+        5 => "loopback",
+        6 => "user",
+        _ => "kernel",
+    }
+}
+
+/// Appends a sender's address, where it has bytes.
+fn push_sender(output: &mut Vec<u8>, address: &[u8]) -> Result<(), AllocError>
+    ensures { OnOk result (output.new.items ≡ output.old.items ++ sender_text address.now) }
+{
+    if address.is_empty() {
+        return Ok(());
+    }
+    output.extend_from_slice(b" from ")?;
+    push_octets(output, address)
+}
+
+/// Appends the text of each link extension.
+pub fn push_extensions(
+    output: &mut Vec<u8>,
+    extensions: &[LinkExtSlice<'_>],
+) -> Result<(), AllocError>
+    ensures { OnOk result (output.new.items
+        ≡ output.old.items ++ extensions_text (map link_extension_of extensions.now)) }
+{
+    for extension in extensions {
+        push_extension(output, extension)?;
+    }
+    Ok(())
+}
+
+/// Appends the text of a link extension: of a VLAN with its identifier.
+fn push_extension(output: &mut Vec<u8>, extension: &LinkExtSlice<'_>) -> Result<(), AllocError>
+    ensures { OnOk result (output.new.items ≡ output.old.items ++ extension_text (link_extension_of extension.now)) }
+{
+    match extension {
+        LinkExtSlice::Vlan(tag) => {
+            let vlan_id = tag.vlan_identifier().value();
+            decimals::push_behind(output, b" vlan:", u64::from(vlan_id))
+        }
+        LinkExtSlice::Macsec(packet) => push_macsec(output, packet),
+    }
+}
+
+/// Appends the text of a MACsec tag: its packet number, the channel, and what was done to the payload.
+fn push_macsec(output: &mut Vec<u8>, packet: &MacsecSlice<'_>) -> Result<(), AllocError>
+    ensures { OnOk result (output.new.items ≡ output.old.items ++ macsec_text (macsec_slice_header packet.now)) }
+{
+    let tag = packet.to_header();
+    decimals::push_behind(output, b" macsec pn ", u64::from(tag.packet_nr))?;
+    push_channel(output, tag.sci)?;
+    push_change(output, &tag.ptype)
+}
+
+/// Appends a secure channel identifier, where there is one.
+fn push_channel(output: &mut Vec<u8>, sci: Option<u64>) -> Result<(), AllocError>
+    ensures { OnOk result (output.new.items ≡ output.old.items ++ channel_text sci) }
+{
+    let Some(sci) = sci else {
+        return Ok(());
+    };
+    output.extend_from_slice(b" sci ")?;
+    push_hex(output, &sci.to_be_bytes())
+}
+
+/// Appends what was done to the payload of a MACsec packet, where anything was.
+fn push_change(output: &mut Vec<u8>, ptype: &MacsecPType) -> Result<(), AllocError>
+    ensures { OnOk result (output.new.items ≡ output.old.items ++ change_text ptype.now) }
+{
+    match ptype {
+        MacsecPType::Unmodified(_) => Ok(()),
+        MacsecPType::Modified => output.extend_from_slice(b" modified"),
+        MacsecPType::Encrypted => output.extend_from_slice(b" encrypted"),
+        MacsecPType::EncryptedUnmodified => output.extend_from_slice(b" encrypted-unmodified"),
+    }
+}
