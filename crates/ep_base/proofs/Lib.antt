@@ -1,4 +1,5 @@
 pub mod BytesLemmas
+pub mod ComparisonLemmas
 pub mod CutRefusalLemmas
 pub mod DecidedLemmas
 pub mod MissingLemmas

@@ -29,8 +29,8 @@ CountsMissing limit error =
 abbrev pub that_row : LenError → ℕ → LenError
 that_row error len = record error { len = len }
 
--- A refusal for want of bytes at hand counts the bytes that are there. With any bytes behind them, of which there are at
--- least as many as are missing, they are not refused by that row again.
+-- A refusal for want of bytes at hand counts the bytes that are there. With any bytes behind them, of which there are
+-- at least as many as are missing, they are not refused by that row again.
 pub record TellsMissing (Refuses : List ℕ → LenError → Type 0) : Type 0 where
   pub counts : (bytes : List ℕ) (error : LenError) → Refuses bytes error → CountsMissing (length bytes) error
   pub not_again : (bytes more : List ℕ) (error : LenError) (len : ℕ) → Refuses bytes error

@@ -1,5 +1,9 @@
--- The names of the variants, as text.
-use Rattle.std.specs.Prelude.{ℕ, List, codes}
+-- The names of the variants and of the constants, as text.
+use Rattle.std.specs.Prelude.{ℕ, ◌==◌, if◌then◌else◌, List, Option, Some, None, codes}
+use Rattle.ep_base.specs.EtherTypes.{ipv4_type, arp_type, ipv6_type, vlan_type, provider_bridging_type, double_vlan_type}
+use Rattle.ep_base.specs.EtherTypes.{macsec_type}
+use Rattle.ep_base.specs.IpNumbers.{hop_by_hop_number, icmpv4_number, tcp_number, udp_number, routing_number}
+use Rattle.ep_base.specs.IpNumbers.{fragment_number, authentication_number, icmpv6_number, destination_options_number}
 use Rattle.ep_base.specs.declared.len_source.LenSource.{LenSource}
 use Rattle.ep_base.specs.declared.len_source.LenSource.TheVariants as source
 use Rattle.ep_base.specs.declared.err.layer.Layer.{Layer}
@@ -57,3 +61,27 @@ value_type_name value.UdpPayloadLengthIpv6 = codes "UdpPayloadLengthIpv6"
 value_type_name value.TcpPayloadLengthIpv4 = codes "TcpPayloadLengthIpv4"
 value_type_name value.TcpPayloadLengthIpv6 = codes "TcpPayloadLengthIpv6"
 value_type_name value.Icmpv6PayloadLength = codes "Icmpv6PayloadLength"
+
+-- the bytes of the name of the constant that an ether type is; none where it is no constant
+abbrev pub ether_type_name : ℕ → Option (List ℕ)
+ether_type_name type =
+    if type == ipv4_type then Some (codes "IPV4") else
+    (if type == arp_type then Some (codes "ARP") else
+    (if type == ipv6_type then Some (codes "IPV6") else
+    (if type == vlan_type then Some (codes "VLAN_TAGGED_FRAME") else
+    (if type == provider_bridging_type then Some (codes "PROVIDER_BRIDGING") else
+    (if type == double_vlan_type then Some (codes "VLAN_DOUBLE_TAGGED_FRAME") else
+    (if type == macsec_type then Some (codes "MACSEC") else None))))))
+
+-- the bytes of the name of the constant that a protocol number of IP is; none where it is no constant
+abbrev pub ip_number_name : ℕ → Option (List ℕ)
+ip_number_name number =
+    if number == hop_by_hop_number then Some (codes "IPV6_HEADER_HOP_BY_HOP") else
+    (if number == icmpv4_number then Some (codes "ICMP") else
+    (if number == tcp_number then Some (codes "TCP") else
+    (if number == udp_number then Some (codes "UDP") else
+    (if number == routing_number then Some (codes "IPV6_ROUTE_HEADER") else
+    (if number == fragment_number then Some (codes "IPV6_FRAGMENTATION_HEADER") else
+    (if number == authentication_number then Some (codes "AUTHENTICATION_HEADER") else
+    (if number == icmpv6_number then Some (codes "IPV6_ICMP") else
+    (if number == destination_options_number then Some (codes "IPV6_DESTINATION_OPTIONS") else None))))))))

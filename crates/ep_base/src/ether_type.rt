@@ -5,6 +5,9 @@
 pub struct EtherType(pub u16);
 
 impl EtherType {
+    ghost use Rattle.std.specs.Prelude.{◌≡◌, option_copied};
+    ghost use Rattle.ep_base.specs.Names.{ether_type_name};
+
     /// IPv4 (RFC 791).
     pub const IPV4: EtherType = EtherType(0x0800);
     /// The address resolution protocol (RFC 826).
@@ -19,6 +22,22 @@ impl EtherType {
     pub const VLAN_DOUBLE_TAGGED_FRAME: EtherType = EtherType(0x9100);
     /// A MACsec tag (IEEE 802.1AE).
     pub const MACSEC: EtherType = EtherType(0x88E5);
+
+    /// The name of the constant with this number, such as `PROVIDER_BRIDGING`; none where no constant has it.
+    pub fn name(self) -> Option<&'static str>
+        ensures { option_copied result ≡ ether_type_name self.0 }
+    {
+        match self {
+            EtherType::IPV4 => Some("IPV4"),
+            EtherType::ARP => Some("ARP"),
+            EtherType::IPV6 => Some("IPV6"),
+            EtherType::VLAN_TAGGED_FRAME => Some("VLAN_TAGGED_FRAME"),
+            EtherType::PROVIDER_BRIDGING => Some("PROVIDER_BRIDGING"),
+            EtherType::VLAN_DOUBLE_TAGGED_FRAME => Some("VLAN_DOUBLE_TAGGED_FRAME"),
+            EtherType::MACSEC => Some("MACSEC"),
+            _ => None,
+        }
+    }
 }
 
 /// The constant of [`EtherType`] with this name.

@@ -5,6 +5,9 @@
 pub struct IpNumber(pub u8);
 
 impl IpNumber {
+    ghost use Rattle.std.specs.Prelude.{◌≡◌, option_copied};
+    ghost use Rattle.ep_base.specs.Names.{ip_number_name};
+
     /// The hop by hop options of IPv6 (RFC 8200, 4.3).
     pub const IPV6_HEADER_HOP_BY_HOP: IpNumber = IpNumber(0);
     /// ICMP for IPv4 (RFC 792).
@@ -23,6 +26,24 @@ impl IpNumber {
     pub const IPV6_ICMP: IpNumber = IpNumber(58);
     /// The destination options of IPv6 (RFC 8200, 4.6).
     pub const IPV6_DESTINATION_OPTIONS: IpNumber = IpNumber(60);
+
+    /// The name of the constant with this number, such as `IPV6_ICMP`; none where no constant has it.
+    pub fn name(self) -> Option<&'static str>
+        ensures { option_copied result ≡ ip_number_name self.0 }
+    {
+        match self {
+            IpNumber::IPV6_HEADER_HOP_BY_HOP => Some("IPV6_HEADER_HOP_BY_HOP"),
+            IpNumber::ICMP => Some("ICMP"),
+            IpNumber::TCP => Some("TCP"),
+            IpNumber::UDP => Some("UDP"),
+            IpNumber::IPV6_ROUTE_HEADER => Some("IPV6_ROUTE_HEADER"),
+            IpNumber::IPV6_FRAGMENTATION_HEADER => Some("IPV6_FRAGMENTATION_HEADER"),
+            IpNumber::AUTHENTICATION_HEADER => Some("AUTHENTICATION_HEADER"),
+            IpNumber::IPV6_ICMP => Some("IPV6_ICMP"),
+            IpNumber::IPV6_DESTINATION_OPTIONS => Some("IPV6_DESTINATION_OPTIONS"),
+            _ => None,
+        }
+    }
 }
 
 /// The constant of [`IpNumber`] with this name.

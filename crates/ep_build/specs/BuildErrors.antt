@@ -16,7 +16,8 @@ use Rattle.ep_build.specs.declared.err.build_write_error.BuildWriteError.TheVari
 
 -- ---- the refusal table
 
--- whether a transport header is ICMPv6's behind headers of IPv4, which have none of the addresses that it is summed with
+-- whether a transport header is ICMPv6's behind headers of IPv4, which have none of the addresses that it is summed
+-- with
 abbrev pub is_icmpv6_in_ipv4 : IpHeaders → TransportHeader → Bool
 is_icmpv6_in_ipv4 (version.Ipv4 header extensions) (transport.Udp datagram) = false
 is_icmpv6_in_ipv4 (version.Ipv4 header extensions) (transport.Tcp segment) = false

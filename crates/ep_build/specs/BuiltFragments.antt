@@ -1,5 +1,5 @@
--- The fragment that a frame of IP headers and a payload carries, said of what it is built from alone, and that the frame
--- is read back as it (RFC 791, 3.2; RFC 8200, 4.5).
+-- The fragment that a frame of IP headers and a payload carries, said of what it is built from alone, and that the
+-- frame is read back as it (RFC 791, 3.2; RFC 8200, 4.5).
 use Rattle.std.specs.Prelude.{◌≡◌, ℕ, List, [], ◌∷◌, Option, Some}
 use Rattle.std.specs.Option.{option_and_then}
 use Rattle.ep_base.specs.IpPayload.{IpPayload}
@@ -33,15 +33,16 @@ link_vlan_ids (link.Ethernet2 header) = []
 link_vlan_ids (link.Tagged header both) = tag_ids both
 link_vlan_ids (link.LinuxSll header) = []
 
--- the fragment that IP headers with a payload say: the header of IPv4, or the fragment header of IPv6, where it is there
+-- the fragment that IP headers with a payload say: the header of IPv4, or the fragment header of IPv6, where it is
+-- there
 abbrev pub headers_carry : List ℕ → IpHeaders → IpPayload → Option FrameFragment
 headers_carry vlan_ids (version.Ipv4 header extensions) payload = ipv4_fragment vlan_ids header payload
 headers_carry vlan_ids (version.Ipv6 header extensions) payload =
     option_and_then (ipv6_fragment vlan_ids header payload) extensions.fragment
 
 -- The fragment that a link part, IP headers, a number and a payload are: the identifiers of the tags, the addresses and
--- the identification of the headers, the number, offset and flag of the headers, and the payload. None where the headers
--- say no fragment.
+-- the identification of the headers, the number, offset and flag of the headers, and the payload. None where the
+-- headers say no fragment.
 abbrev pub built_fragment : LinkPart → IpHeaders → IpNumber → List ℕ → Option FrameFragment
 built_fragment part headers last payload =
     headers_carry (link_vlan_ids part) headers (payload_of_headers headers last payload)

@@ -92,8 +92,8 @@ pub record HoldsTransport (reading : Reading) (entry : Entry) (bytes : List ℕ)
   pub parts : message ≡ header ++ transport.payload
   pub sums : SumsUp headers transport.header message
 
--- The frame of a transport header is read back, where it is no fragment, and a message of ICMP has its length. A raw type
--- of ICMP may be read as a known one, so that its header is another, of the same bytes.
+-- The frame of a transport header is read back, where it is no fragment, and a message of ICMP has its length. A raw
+-- type of ICMP may be read as a known one, so that its header is another, of the same bytes.
 abbrev pub IsReadBack : LinkPart → IpHeaders → TransportHeader → List ℕ → Type 0
 IsReadBack part headers behind payload =
     headers_fragment headers ≡ false → HasItsLength behind (message_of headers behind payload)

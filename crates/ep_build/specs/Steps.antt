@@ -24,12 +24,15 @@ use Rattle.ep_build.specs.declared.packet_builder.PacketBuilderStep.{PacketBuild
 
 -- ---- steps that a net layer may follow: their link part
 
+-- that of a step whose last header is Ethernet II: this header
 abbrev pub ethernet2_link : PacketBuilderStep Ethernet2Header (Unit {0}) → LinkPart
 ethernet2_link step = link.Ethernet2 step.last
 
+-- that of a step whose last header is of a cooked capture: this header
 abbrev pub linux_sll_link : PacketBuilderStep LinuxSllHeader (Unit {0}) → LinkPart
 linux_sll_link step = link.LinuxSll step.last
 
+-- that of a step whose last headers are VLAN tags: the Ethernet II header before them, and the tags
 abbrev pub vlan_link : PacketBuilderStep VlanHeader Ethernet2Header → LinkPart
 vlan_link step = link.Tagged step.before step.last
 

@@ -51,7 +51,8 @@ module _ {T C V : Type 0} (limit : ℕ) (eq : C → C → Bool) (keep : V → T 
       rw (append-nil earlier) (sym same_answer ∙ ap (answer_to limit (table_after limit eq keep earlier)) same_call)
   answer_at earlier (first ∷ calls) (suc at) call answer is_call is_answer =
       answer_at (earlier ++ first ∷ []) calls at call answer is_call is_answer
-      ∙ ap (λ before. answer_to limit (table_after limit eq keep before) call) (append_assoc earlier (first ∷ []) (take at calls))
+      ∙ ap (λ before. answer_to limit (table_after limit eq keep before) call)
+      (append_assoc earlier (first ∷ []) (take at calls))
 
   pub cuts_at : {X Y : Type 0} (shown : X → Call T C V) (said : Y → Answer) (calls : List X) (answers : List Y)
       → map said answers ≡ answers_to limit eq keep (map shown calls) → (at : ℕ) (call : X) (answer : Y)
@@ -63,7 +64,8 @@ module _ {T C V : Type 0} (limit : ℕ) (eq : C → C → Bool) (keep : V → T 
       slice_get-map shown calls at ∙ ap (option_map shown) is_call in
       let answer_is : slice_get (answers_to limit eq keep (map shown calls)) at ≡ Some (said answer) =
       ap (λ xs. slice_get xs at) (sym same) ∙ slice_get-map said answers at ∙ ap (option_map said) is_answer in
-      let answered : said answer ≡ answer_to limit (table_after limit eq keep (take at (map shown calls))) (shown call) =
+      let answered : said answer
+      ≡ answer_to limit (table_after limit eq keep (take at (map shown calls))) (shown call) =
       answer_at [] (map shown calls) at (shown call) (said answer) call_is answer_is in
       rw (answered, take-map shown at calls)
       (handed_at payload limit (table_after limit eq keep (map shown (take at calls))) (shown call)
@@ -96,7 +98,8 @@ module _ {T C V : Type 0} (limit : ℕ) (eq : C → C → Bool) (keep : V → T 
     -- a call that concerns a stream is answered by what is kept of that stream
     pub answer_alone : (earlier : List (Call T C V)) (name : IpFragId C) (call : Call T C V)
         → concerns eq name call ≡ true
-        → answer_to limit (table_after limit eq keep earlier) call ≡ answer_to limit (λ other. table_after limit eq keep earlier name) call
+        → answer_to limit (table_after limit eq keep earlier) call
+        ≡ answer_to limit (λ other. table_after limit eq keep earlier name) call
     answer_alone earlier name (gives_frame None timestamp channel) does = absurd (false≢true does)
     answer_alone earlier name (gives_frame (Some carried) timestamp channel) does =
         ap (λ kept. answer_with limit (name_of carried channel) kept carried.fragment)

@@ -36,7 +36,8 @@ to_apart least [] apart = refl
 to_apart least (range ∷ []) apart = le-leb range.start range.end apart.1
 to_apart least (range ∷ next ∷ later) apart =
     let behind : range.end < next.start = omega (arith, apart.2.0) in
-    and_from _ _ (and_from _ _ (le-leb _ _ apart.1) (lt-ltb _ _ behind)) (to_apart (range.end + 1) (next ∷ later) apart.2)
+    and_from _ _ (and_from _ _ (le-leb _ _ apart.1) (lt-ltb _ _ behind))
+    (to_apart (range.end + 1) (next ∷ later) apart.2)
 
 pub ordered_from : (least : ℕ) (ranges : List IpFragRange) → AreApartFrom least ranges → AllByRecursion IsOrdered ranges
 ordered_from least [] apart = tt
@@ -163,7 +164,7 @@ at_most_one position least (range ∷ later) apart =
           omega (arith, counted, here, none_counted position (range.end + 1) later apart.2 (omega arith))
     ]
 
-touches_start : (range : IpFragRange) → IsOrdered range → touches range.start range ≡ true
+pub touches_start : (range : IpFragRange) → IsOrdered range → touches range.start range ≡ true
 touches_start range ordered = grind (arith, nat_tests, ordered)
 
 -- the first starts no later than any position that is touched

@@ -118,7 +118,8 @@ module _ (read_back : AreReadBack) (have_bytes : HaveBytes) (decided : AreDecide
 
     pub answers_all : (earlier : List (Call T C V)) (cuts : List (BuiltCut T C))
         → AllByRecursion (IsBuiltCut payload) cuts → AllByRecursion (IsUnder eq name) cuts
-        → answers_to_frames {V = V} eq name (map cut_call cuts) (answers_after limit eq keep earlier (map cut_call cuts))
+        → answers_to_frames {V = V} eq name (map cut_call cuts)
+        (answers_after limit eq keep earlier (map cut_call cuts))
         ≡ answers_after limit eq keep earlier (map cut_call cuts)
     answers_all earlier [] is under = refl
     answers_all earlier (cut ∷ cuts) is under =
@@ -189,7 +190,8 @@ module _ (read_back : AreReadBack) (have_bytes : HaveBytes) (decided : AreDecide
                 let part_cut : IsCut payload part = rw is_part built.0.is_cut in
                 let fits : refusal_within limit (accepted_in before) part ≡ None =
                 cut_fits_after payload limit (accepted_in before) part short kept part_cut (rw is_part built.0.shape) in
-                let more = all_more limit eq keep payload short (IsCut payload) (accepted_in before) part kept part_cut in
+                let more =
+                all_more limit eq keep payload short (IsCut payload) (accepted_in before) part kept part_cut in
                 let table : table_after limit eq keep (earlier ++ call ∷ []) name ≡ kept_of after timestamp =
                 after_one_more limit eq keep earlier call name true does
                 ∙ ap (λ (r : Option IpDefragError). kept_unless r before part timestamp) fits in

@@ -9,14 +9,16 @@ use Rattle.ep_defrag.specs.Calls.{Call, gives_frame, drops_streams, returns_buff
 module _ {T C V : Type 0} (limit : ℕ) (eq : C → C → Bool) (keep : V → T → Bool) where
   -- one more call at the end of those that concern a stream
   kept_after_all-push : (kept : Option (Kept T)) (calls : List (Call T C V)) (call : Call T C V)
-      → kept_after_all limit keep kept (calls ++ call ∷ []) ≡ kept_after limit keep (kept_after_all limit keep kept calls) call
+      → kept_after_all limit keep kept (calls ++ call ∷ [])
+      ≡ kept_after limit keep (kept_after_all limit keep kept calls) call
   kept_after_all-push kept [] call = refl
   kept_after_all-push kept (first ∷ calls) call = kept_after_all-push (kept_after limit keep kept first) calls call
 
   -- what one more call changes: nothing where it doesn't concern the stream
   pub after_one_more : (calls : List (Call T C V)) (call : Call T C V) (name : IpFragId C) (does : Bool)
       → concerns eq name call ≡ does → table_after limit eq keep (calls ++ call ∷ []) name
-      ≡ cond does (kept_after limit keep (table_after limit eq keep calls name) call) (table_after limit eq keep calls name)
+      ≡ cond does (kept_after limit keep (table_after limit eq keep calls name) call)
+      (table_after limit eq keep calls name)
   after_one_more calls call name true does =
       rw (filter-append (concerns eq name) calls (call ∷ []), does)
       (kept_after_all-push None (calls_of eq name calls) call)
@@ -25,7 +27,8 @@ module _ {T C V : Type 0} (limit : ℕ) (eq : C → C → Bool) (keep : V → T 
       (ap (kept_after_all limit keep None) (append-nil (calls_of eq name calls)))
 
   pub table_after-push : (calls : List (Call T C V)) (call : Call T C V) (name : IpFragId C)
-      → table_after limit eq keep (calls ++ call ∷ []) name ≡ table_with limit eq keep (table_after limit eq keep calls) call name
+      → table_after limit eq keep (calls ++ call ∷ []) name
+      ≡ table_with limit eq keep (table_after limit eq keep calls) call name
   table_after-push calls (gives_frame None timestamp channel) name =
       after_one_more calls (gives_frame None timestamp channel) name false refl
   table_after-push calls (gives_frame (Some carried) timestamp channel) name =
@@ -37,11 +40,13 @@ module _ {T C V : Type 0} (limit : ℕ) (eq : C → C → Bool) (keep : V → T 
   -- what it is answered
   pub answers_after-push : (earlier calls : List (Call T C V)) (call : Call T C V)
       → answers_after limit eq keep earlier (calls ++ call ∷ [])
-      ≡ answers_after limit eq keep earlier calls ++ answer_to limit (table_after limit eq keep (earlier ++ calls)) call ∷ []
+      ≡ answers_after limit eq keep earlier calls
+      ++ answer_to limit (table_after limit eq keep (earlier ++ calls)) call ∷ []
   answers_after-push earlier [] call = rw (append-nil earlier) refl
   answers_after-push earlier (first ∷ calls) call =
       ap (λ answers. answer_to limit (table_after limit eq keep earlier) first ∷ answers)
       (answers_after-push (earlier ++ first ∷ []) calls call
       ∙ ap (λ before.
-      answers_after limit eq keep (earlier ++ first ∷ []) calls ++ answer_to limit (table_after limit eq keep before) call ∷ [])
+      answers_after limit eq keep (earlier ++ first ∷ []) calls
+      ++ answer_to limit (table_after limit eq keep before) call ∷ [])
       (append_assoc earlier (first ∷ []) calls))

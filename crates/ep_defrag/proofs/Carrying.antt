@@ -408,7 +408,9 @@ module _ (ids : List ℕ) (number offset : ℕ) (follow : Bool) (bytes : List �
     auth = ip_auth_with (record { 0 = number }) 0 0 []
 
     auth_is_bytes : AllBytes (ip_auth_bytes auth)
-    auth_is_bytes = more _ _ number_fits (more _ _ (omega arith) (word 0 _ (long auth.spi _ (long auth.sequence_number [] none))))
+    auth_is_bytes =
+        more _ _ number_fits
+        (more _ _ (omega arith) (word 0 _ (long auth.spi _ (long auth.sequence_number [] none))))
 
     content_of : Content
     content_of = elim (cases_Bool (eqb number authentication_number)) [
@@ -458,8 +460,9 @@ module _ (ids : List ℕ) (number offset : ℕ) (follow : Bool) (bytes : List �
       }
     ]
 
-    module _ (sender receiver : List ℕ) (identification : ℕ) (sender_len : length sender ≡ 4) (sender_bytes : AreBytes sender)
-        (receiver_len : length receiver ≡ 4) (receiver_bytes : AreBytes receiver) (identification_fits : identification < 2 ^ 16) where
+    module _ (sender receiver : List ℕ) (identification : ℕ) (sender_len : length sender ≡ 4)
+        (sender_bytes : AreBytes sender) (receiver_len : length receiver ≡ 4) (receiver_bytes : AreBytes receiver)
+        (identification_fits : identification < 2 ^ 16) where
       abbrev inner4 : Content
       inner4 = content_of
 
@@ -477,7 +480,9 @@ module _ (ids : List ℕ) (number offset : ℕ) (follow : Bool) (bytes : List �
       }
 
       header4_len : length (ipv4_bytes header4) ≡ 20
-      header4_len = omega (arith, length-append (sender ++ receiver) [], length-append sender receiver, sender_len, receiver_len)
+      header4_len =
+          omega
+          (arith, length-append (sender ++ receiver) [], length-append sender receiver, sender_len, receiver_len)
 
       fits4 : FitsIpv4 header4
       fits4 = record {
@@ -540,8 +545,9 @@ module _ (ids : List ℕ) (number offset : ℕ) (follow : Bool) (bytes : List �
           (rw part refl)
 
     -- ---- IPv6: behind the header and a fragment header
-    module _ (sender receiver : List ℕ) (identification : ℕ) (sender_len : length sender ≡ 16) (sender_bytes : AreBytes sender)
-        (receiver_len : length receiver ≡ 16) (receiver_bytes : AreBytes receiver) (identification_fits : identification < 2 ^ 32)
+    module _ (sender receiver : List ℕ) (identification : ℕ) (sender_len : length sender ≡ 16)
+        (sender_bytes : AreBytes sender) (receiver_len : length receiver ≡ 16) (receiver_bytes : AreBytes receiver)
+        (identification_fits : identification < 2 ^ 32)
         (last : demand_of ipv6 slices (fragment_number ∷ []) number ≡ ends) where
       abbrev part6 : Ipv6FragmentHeader
       part6 = record {

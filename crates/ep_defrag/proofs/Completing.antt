@@ -163,13 +163,15 @@ module _ (limit : ℕ) (accepted : List IpFragment) (fit : FitInTurnWithin limit
           agrees =
               rw (same_end, reach_of-push accepted first)
               (final_agrees (end_of accepted) (max (reach_of accepted) (fragment_end first)) (max (reach_of accepted) 8)
-              second (no_further (end_of accepted) (reach_of accepted) (fragment_end first) greatest front_end) second_end
+              second (no_further (end_of accepted) (reach_of accepted) (fragment_end first) greatest front_end)
+              second_end
               refl);
         })
 
     -- a frame has room for either
     pub parts_short : limit ≤ 65535 → (length front ≤ 32768) × (length back ≤ 32768) × (meeting_at whole < 2 ^ 13)
-    parts_short most = (omega (arith, fill.front_len), omega (arith, fill.front_len, fill.both_len, short, most), omega arith)
+    parts_short most =
+        (omega (arith, fill.front_len), omega (arith, fill.front_len, fill.both_len, short, most), omega arith)
 
     covered : (position : ℕ) → position < whole → is_covered (with_first ++ second ∷ []) position ≡ true
     covered position below =

@@ -152,7 +152,8 @@ module _ {T C : Type 0} (eq : C → C → Bool) (laws : IsEquivalence eq) where
   module _ (key_eq : IpFragId C → IpFragId C → Bool) (is : key_eq ≡ same_stream eq) where
     pub absent_stream : (limit : ℕ) (pool : Entries T C) (id : IpFragId C) → lookup (key_eq id) pool ≡ None
         → stream_named eq id (limit, pool) ≡ None
-    absent_stream limit pool id absent = named_none limit pool id (subst (λ test. lookup (test id) pool ≡ None) is absent)
+    absent_stream limit pool id absent =
+        named_none limit pool id (subst (λ test. lookup (test id) pool ≡ None) is absent)
 
     pub present_stream : (limit : ℕ) (pool : Entries T C) (id : IpFragId C) (value : OpenStream T)
         → lookup (key_eq id) pool ≡ Some value → IsStreamOf limit pool id value

@@ -145,13 +145,15 @@ module _ {T C V : Type 0} (limit : ℕ) (eq : C → C → Bool) (keep : V → T 
   read_at : (earlier : List (Call T C V)) (reads : List (ReadCall T C V)) (at : ℕ) (brought : Call T C V)
       (answer : ReadAnswer) → slice_get reads at ≡ Some (calls_pool brought)
       → slice_get (frame_answers_after limit eq keep earlier reads) at ≡ Some answer
-      → answer ≡ pool_answers (answer_to limit (table_after limit eq keep (earlier ++ pool_calls (take at reads))) brought)
+      → answer
+      ≡ pool_answers (answer_to limit (table_after limit eq keep (earlier ++ pool_calls (take at reads))) brought)
   read_at earlier [] at brought answer is_call is_answer = absurd (cc)
   read_at earlier (calls_pool first ∷ reads) zero brought answer is_call is_answer =
       let same_call : first ≡ brought = cc in
       let same_answer : pool_answers (answer_to limit (table_after limit eq keep earlier) first) ≡ answer = cc in
       rw (append-nil earlier)
-      (sym same_answer ∙ ap (λ brought. pool_answers (answer_to limit (table_after limit eq keep earlier) brought)) same_call)
+      (sym same_answer
+      ∙ ap (λ brought. pool_answers (answer_to limit (table_after limit eq keep earlier) brought)) same_call)
   read_at earlier (refuses_frame error ∷ reads) zero brought answer is_call is_answer = absurd (cc)
   read_at earlier (calls_pool first ∷ reads) (suc at) brought answer is_call is_answer =
       read_at (earlier ++ first ∷ []) reads at brought answer is_call is_answer

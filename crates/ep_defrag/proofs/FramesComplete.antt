@@ -34,67 +34,69 @@ entry_data limit (Some stream) None held = absurd held
 entry_data limit (Some stream) (Some kept) held =
     omega (arith, data_len stream.buffer kept.accepted held.buffer, reach_short limit kept.accepted held.within)
 
-module _ {T C : Type 0} (limit : ℕ) (eq : C → C → Bool) (laws : IsEquivalence eq) (seen : FragmentFrame) (channel : C) where
-  -- the table has this of the stream
-  module _ (table : IpFragId C → Option (Kept T)) (kept : Option (Kept T)) (has : table (name_in seen channel) ≡ kept)
-      (wanted : IpFragment) (frame : FragmentFrame) (is : CarriesOf seen wanted frame) where
-    hands_out : FitsWithin limit (accepted_in kept) wanted → is_complete (accepted_in kept ++ wanted ∷ []) ≡ true
-        → HandsOutAll limit table frame channel (accepted_in kept ++ wanted ∷ [])
-    hands_out fits whole =
-        rw (frame.carries, is, has)
-        (sym (answer_complete limit (name_in seen channel) kept wanted fits whole))
+module _ {T C : Type 0} (limit : ℕ) (eq : C → C → Bool) (laws : IsEquivalence eq) (seen : FragmentFrame) (channel : C)
+  where
+    -- the table has this of the stream
+    module _ (table : IpFragId C → Option (Kept T)) (kept : Option (Kept T)) (has : table (name_in seen channel) ≡ kept)
+        (wanted : IpFragment) (frame : FragmentFrame) (is : CarriesOf seen wanted frame) where
+      hands_out : FitsWithin limit (accepted_in kept) wanted → is_complete (accepted_in kept ++ wanted ∷ []) ≡ true
+          → HandsOutAll limit table frame channel (accepted_in kept ++ wanted ∷ [])
+      hands_out fits whole =
+          rw (frame.carries, is, has)
+          (sym (answer_complete limit (name_in seen channel) kept wanted fits whole))
 
-    hands_nothing : FitsWithin limit (accepted_in kept) wanted → is_complete (accepted_in kept ++ wanted ∷ []) ≡ false
-        → answer_to_frame limit table (given_by frame) channel ≡ nothing_handed_out
-    hands_nothing fits partly =
-        rw (frame.carries, is, has)
-        (sym (answer_nothing limit (name_in seen channel) kept wanted fits partly))
+      hands_nothing : FitsWithin limit (accepted_in kept) wanted → is_complete (accepted_in kept ++ wanted ∷ []) ≡ false
+          → answer_to_frame limit table (given_by frame) channel ≡ nothing_handed_out
+      hands_nothing fits partly =
+          rw (frame.carries, is, has)
+          (sym (answer_nothing limit (name_in seen channel) kept wanted fits partly))
 
-    keeps : (timestamp : T) → FitsWithin limit (accepted_in kept) wanted → is_complete (accepted_in kept ++ wanted ∷ []) ≡ false
-        → table_with_frame limit eq table (given_by frame) timestamp channel (name_in seen channel)
-        ≡ Some (record { accepted = accepted_in kept ++ wanted ∷ []; timestamp = timestamp })
-    keeps timestamp fits partly =
-        rw (frame.carries, is, (same_stream_laws eq laws).refl (name_in seen channel), has)
-        (kept_more limit kept wanted timestamp fits partly)
+      keeps : (timestamp : T) → FitsWithin limit (accepted_in kept) wanted
+          → is_complete (accepted_in kept ++ wanted ∷ []) ≡ false
+          → table_with_frame limit eq table (given_by frame) timestamp channel (name_in seen channel)
+          ≡ Some (record { accepted = accepted_in kept ++ wanted ∷ []; timestamp = timestamp })
+      keeps timestamp fits partly =
+          rw (frame.carries, is, (same_stream_laws eq laws).refl (name_in seen channel), has)
+          (kept_more limit kept wanted timestamp fits partly)
 
-  pub frames_complete : (table : IpFragId C → Option (Kept T)) (kept : Option (Kept T))
-      → table (name_in seen channel) ≡ kept → FitInTurnWithin limit (accepted_in kept) → FitInTurn (accepted_in kept)
-      → 8 ≤ limit → (front back : List ℕ)
-      → FillBoth (accepted_in kept) front back → AreBytes front → AreBytes back → (timestamp : T)
-      → FramesComplete limit eq table seen channel timestamp (accepted_in kept) (front_fragment front)
-      (back_fragment (accepted_in kept) back)
-  frames_complete table kept has fit short least front back fill front_bytes back_bytes timestamp =
-      let accepted = accepted_in kept in
-      let first = front_fragment front in
-      let second = back_fragment accepted back in
-      let two = two_complete limit accepted fit front back fill least in
-      let lens = parts_short 65535 accepted short front back fill (omega arith) (omega arith) in
-      let carried = carrying seen first (omega arith) lens.0 front_bytes two.first_part in
-      elim (cases_Bool (is_complete (accepted ++ first ∷ []))) [
-        | inl whole ↦ record {
-          frame = carried.0;
-          is_first = carried.1;
-          hands_out = inl (hands_out table kept has first carried.0 carried.1 two.first_fits whole);
-        }
-        | inr partly ↦
-            let part : is_part second ≡ true = elim (two.second_part) [
-              | inl whole ↦ absurd (false≢true (sym partly ∙ whole))
-              | inr part ↦ part
-            ] in
-            let last = carrying seen second lens.2 lens.1 back_bytes part in
-            let now : Kept T = record { accepted = accepted ++ first ∷ []; timestamp = timestamp } in
-            let same = append_assoc accepted (first ∷ []) (second ∷ []) in
-            let whole : is_complete ((accepted ++ first ∷ []) ++ second ∷ []) ≡ true = rw same (two.complete) in
-            let out =
-            hands_out (table_with_frame limit eq table (given_by carried.0) timestamp channel) (Some now)
-            (keeps table kept has first carried.0 carried.1 timestamp two.first_fits partly) second last.0 last.1
-            two.second_fits whole in
-            record {
-              frame = carried.0;
-              is_first = carried.1;
-              hands_out = inr (
-                hands_nothing table kept has first carried.0 carried.1 two.first_fits partly,
-                (last.0, last.1, rw same at out),
-              );
-            }
-      ]
+    pub frames_complete : (table : IpFragId C → Option (Kept T)) (kept : Option (Kept T))
+        → table (name_in seen channel) ≡ kept → FitInTurnWithin limit (accepted_in kept) → FitInTurn (accepted_in kept)
+        → 8 ≤ limit → (front back : List ℕ)
+        → FillBoth (accepted_in kept) front back → AreBytes front → AreBytes back → (timestamp : T)
+        → FramesComplete limit eq table seen channel timestamp (accepted_in kept) (front_fragment front)
+        (back_fragment (accepted_in kept) back)
+    frames_complete table kept has fit short least front back fill front_bytes back_bytes timestamp =
+        let accepted = accepted_in kept in
+        let first = front_fragment front in
+        let second = back_fragment accepted back in
+        let two = two_complete limit accepted fit front back fill least in
+        let lens = parts_short 65535 accepted short front back fill (omega arith) (omega arith) in
+        let carried = carrying seen first (omega arith) lens.0 front_bytes two.first_part in
+        elim (cases_Bool (is_complete (accepted ++ first ∷ []))) [
+          | inl whole ↦ record {
+            frame = carried.0;
+            is_first = carried.1;
+            hands_out = inl (hands_out table kept has first carried.0 carried.1 two.first_fits whole);
+          }
+          | inr partly ↦
+              let part : is_part second ≡ true = elim (two.second_part) [
+                | inl whole ↦ absurd (false≢true (sym partly ∙ whole))
+                | inr part ↦ part
+              ] in
+              let last = carrying seen second lens.2 lens.1 back_bytes part in
+              let now : Kept T = record { accepted = accepted ++ first ∷ []; timestamp = timestamp } in
+              let same = append_assoc accepted (first ∷ []) (second ∷ []) in
+              let whole : is_complete ((accepted ++ first ∷ []) ++ second ∷ []) ≡ true = rw same (two.complete) in
+              let out =
+              hands_out (table_with_frame limit eq table (given_by carried.0) timestamp channel) (Some now)
+              (keeps table kept has first carried.0 carried.1 timestamp two.first_fits partly) second last.0 last.1
+              two.second_fits whole in
+              record {
+                frame = carried.0;
+                is_first = carried.1;
+                hands_out = inr (
+                  hands_nothing table kept has first carried.0 carried.1 two.first_fits partly,
+                  (last.0, last.1, rw same at out),
+                );
+              }
+        ]

@@ -57,7 +57,8 @@ behind_last least first (next ∷ later) = behind_last (first.end + 1) next late
 
 -- only the first and the last decide it
 pub union_of_ends : (least : ℕ) (sofar first : IpFragRange) (later : List IpFragRange)
-    → AreApartFrom least (first ∷ later) → fold hull sofar (first ∷ later) ≡ hull (hull sofar first) (last_of first later)
+    → AreApartFrom least (first ∷ later)
+    → fold hull sofar (first ∷ later) ≡ hull (hull sofar first) (last_of first later)
 union_of_ends least sofar first [] apart =
     same_range (hull sofar first) (hull (hull sofar first) first) (omega arith) (omega arith)
 union_of_ends least sofar first (next ∷ later) apart =
@@ -216,7 +217,8 @@ module _ (range : IpFragRange) (ordered : IsOrdered range) (sections : List IpFr
       (sections_after range sections)
   is_joined =
       subst
-      (λ all. IsPermutation (take from sections ++ fold hull range between ∷ drop to sections) (sections_after range all))
+      (λ all.
+      IsPermutation (take from sections ++ fold hull range between ∷ drop to sections) (sections_after range all))
       split
       (joined range ordered (take from sections) between (drop to sections) parts)
 

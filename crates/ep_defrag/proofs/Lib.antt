@@ -22,3 +22,4 @@ mod Alone
 mod BuiltCuts
 mod Frames
 mod FramesComplete
+mod SectionCount

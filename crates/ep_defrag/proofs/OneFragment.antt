@@ -26,7 +26,8 @@ module _ (limit : ℕ) (accepted : List IpFragment) (fragment : IpFragment) (err
       RefusesWithin limit accepted fragment error
       ⊎ (MayNeedMemoryWithin limit accepted fragment × (error ≡ AllocationFailure (fragment_end fragment)))
 
-  pub refused_only : is_want_of_memory error ≡ false → RefusedOrWanting → refusal_within limit accepted fragment ≡ Some error
+  pub refused_only : is_want_of_memory error ≡ false → RefusedOrWanting
+      → refusal_within limit accepted fragment ≡ Some error
   refused_only other (inl refused) = refused
   refused_only other (inr wanting) = absurd (false≢true (sym other ∙ ap is_want_of_memory wanting.1))
 
@@ -63,11 +64,13 @@ module _ {T C : Type 0} (limit : ℕ) (name : IpFragId C) (kept : Option (Kept T
       → fragment_refused error ≡ answer_with limit name kept fragment
   answer_refused error refuses = rw refuses refl
 
-  pub answer_complete : FitsWithin limit (accepted_in kept) fragment → is_complete (accepted_in kept ++ fragment ∷ []) ≡ true
+  pub answer_complete : FitsWithin limit (accepted_in kept) fragment
+      → is_complete (accepted_in kept ++ fragment ∷ []) ≡ true
       → payload_handed_out (payload_of name (accepted_in kept ++ fragment ∷ [])) ≡ answer_with limit name kept fragment
   answer_complete fits whole = rw (fits, whole) refl
 
-  pub answer_nothing : FitsWithin limit (accepted_in kept) fragment → is_complete (accepted_in kept ++ fragment ∷ []) ≡ false
+  pub answer_nothing : FitsWithin limit (accepted_in kept) fragment
+      → is_complete (accepted_in kept ++ fragment ∷ []) ≡ false
       → nothing_handed_out ≡ answer_with limit name kept fragment
   answer_nothing fits partly = rw (fits, partly) refl
 
@@ -97,7 +100,8 @@ module _ {T C : Type 0} (limit : ℕ) (stream next : Stream T C) where
     pub entry_more : (kept : Option (Kept T)) → HoldsEntry limit (Some stream) kept
         → BufferTakes limit stream.buffer next.buffer fragment
         → IsWhole next.buffer false
-        → next.id ≡ stream.id → next.timestamp ≡ timestamp → HoldsEntry limit (Some next) (kept_with limit kept fragment timestamp)
+        → next.id ≡ stream.id → next.timestamp ≡ timestamp
+        → HoldsEntry limit (Some next) (kept_with limit kept fragment timestamp)
     entry_more None entry takes partly id time = absurd entry
     entry_more (Some kept) entry takes partly id time =
         let now = takes.holds kept.accepted entry.buffer in

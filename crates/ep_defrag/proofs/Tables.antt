@@ -24,7 +24,8 @@ pub HoldsTable-same : {T C : Type 0} (eq : C → C → Bool) (pool : IpDefragPoo
     → ((name : IpFragId C) → a name ≡ b name) → HoldsTable eq pool a → HoldsTable eq pool b
 HoldsTable-same eq pool a b same held = record {
   apart = held.apart;
-  each = λ name. subst (λ kept. HoldsEntry (limit_of pool) (stream_named eq name pool) kept) (same name) (held.each name);
+  each = λ name.
+      subst (λ kept. HoldsEntry (limit_of pool) (stream_named eq name pool) kept) (same name) (held.each name);
 }
 
 no_entry : {T : Type 0} (C : Type 0) (limit : ℕ) (kept : Option (Kept T))
@@ -246,7 +247,8 @@ module _ {F T C : Type 0} (calls : Shared F (Bor T × Unit {0}) Bool) (keep : F)
       λ name. rw left.left (found_answered (named name) (streams_of old) left.answers left.each (held.apart name)) in
       record {
         stays = λ name. is_some (stream_named eq name new);
-        each = λ name kept is_kept. decided_at (limit_of old) (stream_named eq name old) (stream_named eq name new) (decided name) kept
+        each = λ name kept is_kept.
+            decided_at (limit_of old) (stream_named eq name old) (stream_named eq name new) (decided name) kept
             (rw is_kept at (held.each name));
         holds = record {
           apart = λ name. rw left.left

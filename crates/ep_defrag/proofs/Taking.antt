@@ -92,13 +92,14 @@ module _ {T C : Type 0} (eq : C → C → Bool) (laws : IsEquivalence eq) (old n
         → TakesFragment eq old new id fragment timestamp (Ok None)
     goes_on_more now time taken partly = record {
       answer = λ other table held.
-          answered_nothing limit stream next id fragment (table id) (entry_of table held id (names.refl id)) taken partly;
+          answered_nothing limit stream next id fragment (table id) (entry_of table held id (names.refl id)) taken
+          partly;
       holds = λ other table held.
-          HoldsTable-changed eq laws old new table (table_with_fragment limit eq table id fragment timestamp) id (Some next)
-          now held (λ name apart. rw apart refl)
+          HoldsTable-changed eq laws old new table (table_with_fragment limit eq table id fragment timestamp) id
+          (Some next) now held (λ name apart. rw apart refl)
           (λ name alike. rw alike
-          (entry_more limit stream next fragment timestamp (table name) (entry_of table held name alike) taken partly same_id
-          time));
+          (entry_more limit stream next fragment timestamp (table name) (entry_of table held name alike) taken partly
+          same_id time));
       memory = λ wants. absurd (false≢true wants);
       keeps = λ wants. absurd (false≢true wants);
       room = λ wants. absurd (false≢true wants);
@@ -123,11 +124,12 @@ module _ {T C : Type 0} (eq : C → C → Bool) (laws : IsEquivalence eq) (old n
               ∙ answered_payload limit stream next id fragment (table id) (entry_of table held id (names.refl id)) taken
               whole;
           holds = λ other table held.
-              HoldsTable-changed eq laws old new table (table_with_fragment limit eq table id fragment timestamp) id None now
-              held (λ name apart. rw apart refl)
+              HoldsTable-changed eq laws old new table (table_with_fragment limit eq table id fragment timestamp) id
+              None now held (λ name apart. rw apart refl)
               (λ name alike. rw (
                 alike,
-                entry_whole limit stream next fragment timestamp (table name) (entry_of table held name alike) taken whole,
+                entry_whole limit stream next fragment timestamp (table name) (entry_of table held name alike) taken
+                    whole,
               ) tt);
           memory = λ wants. absurd (false≢true wants);
           keeps = λ wants. absurd (false≢true wants);

@@ -40,6 +40,7 @@ pub record Stream (T C : Type 0) : Type 0 where
 abbrev pub limit_of : {T C : Type 0} → IpDefragPool T C → ℕ
 limit_of pool = pool.0
 
+-- the stream that an entry of the map is: its name, its buffer and its timestamp
 abbrev pub stream_at : {T C : Type 0} → IpFragId C × OpenStream T → Stream T C
 stream_at entry = record { id = entry.0; buffer = entry.1.buffer; timestamp = entry.1.timestamp }
 

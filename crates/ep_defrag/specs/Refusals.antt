@@ -1,5 +1,5 @@
--- When a fragment is accepted after others, with which error it is refused, and when it needs no memory. No fragment ends
--- behind a limit. The words with `within` take it; the others are the same for 65535, which is the limit of a buffer.
+-- When a fragment is accepted after others, with which error it is refused, and when it needs no memory. No fragment
+-- ends behind a limit. The words with `within` take it; the others are the same for 65535, the limit of a buffer.
 use Rattle.std.specs.Prelude.{◌≡◌, ℕ, ◌%◌, ◌≤◌, Bool, true, false, not, ◌&&◌, ◌||◌, ◌==◌, nat_lt, Option, Some, None, List, [], ◌∷◌, ◌++◌, length, IsTrue}
 use Rattle.ep_base.specs.Tables.{first_row}
 use Rattle.ep_defrag.specs.declared.ip_defrag_error.IpDefragError.{IpDefragError}

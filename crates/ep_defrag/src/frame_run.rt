@@ -50,9 +50,10 @@ pub enum FrameAnswer {
     Pool(PoolAnswer),
 }
 
-/// Makes calls in turn on a new pool, and answers it with the answer to each call. A frame is sliced by its entry. One
-/// that is refused is answered the error of the slice, and the pool is not asked. A drop keeps the streams whose
-/// timestamp `keep` answers true of the drop's value and the timestamp. `RunStop` comes only for want of memory.
+/// Makes calls in turn on a new pool of the limit 65535, and answers it with the answer to each call. A frame is sliced
+/// by its entry. One that is refused is answered the error of the slice, and the pool is not asked. A drop keeps the
+/// streams whose timestamp `keep` answers true of the drop's value and the timestamp. `RunStop` comes only for want of
+/// memory.
 ///
 /// Each stream is answered as if it were alone. None of the streams gets stuck
 /// ([`two_frames_complete`](crate::laws::two_frames_complete)).
@@ -132,7 +133,8 @@ fn answer_frame<
     ensures holds { OnOk result ((read : ReadCall Timestamp CustomChannelId V) → IsReadAs call.entry read →
         (decide : V → Timestamp → Bool) → IsDecidedBy F.Fn keep.now decide →
         (table : IpFragId CustomChannelId → Option (Kept Timestamp)) → HoldsTable CustomChannelId.eq pool.old table →
-        HoldsTable CustomChannelId.eq pool.new (table_with_read (limit_of pool.old) CustomChannelId.eq decide table read)) }
+        HoldsTable CustomChannelId.eq pool.new
+        (table_with_read (limit_of pool.old) CustomChannelId.eq decide table read)) }
     ensures limit { OnOk result (limit_of pool.new ≡ limit_of pool.old) }
     ensures no_memory { IfOk result (λ answer. IsFalse (frame_answer_wants_memory answer)) }
     ensures memory { OnErr result ((table : IpFragId CustomChannelId → Option (Kept Timestamp)) →

@@ -124,8 +124,8 @@ impl IpDefragBuf {
     }
 
     /// Adds a fragment: its offset, whether more fragments follow it, and its bytes. Where fragments overlap, the bytes
-    /// of the last one count. A final fragment, one that no more follow, sets the payload's end. It is never below the end
-    /// of a fragment that came, so no byte is cut away, and what came can be completed by one more fragment
+    /// of the last one count. A final fragment, one that no more follow, sets the payload's end. It is never below the
+    /// end of a fragment that came, so no byte is cut away, and what came can be completed by one more fragment
     /// ([`one_fragment_completes`](crate::laws::one_fragment_completes)).
     ///
     /// The first of these that holds is the error, and it changes nothing:

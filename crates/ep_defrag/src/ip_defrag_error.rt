@@ -16,13 +16,13 @@ pub enum IpDefragError {
         /// The fragment's length in bytes.
         payload_len: usize,
     },
-    /// The fragment is longer, or ends further back, than the greatest length of a payload.
+    /// The fragment is longer than a payload may be, or ends behind that.
     SegmentTooBig {
         /// The fragment's offset, in units of 8 bytes.
         offset: IpFragOffset,
         /// The fragment's length in bytes.
         payload_len: usize,
-        /// The greatest length of a payload, in bytes.
+        /// The greatest length of a payload in bytes: 65535, or the limit of the pool.
         max: u16,
     },
     /// The fragment ends behind the known end, or is final and ends elsewhere; or no end is known, and it is final and

@@ -37,9 +37,10 @@ struct OpenStream<Timestamp> {
 /// A stream is named by an [`IpFragId`]. It begins with the first fragment that is accepted, and ends when its payload
 /// is handed out or when [`retain`](IpDefragPool::retain) drops it.
 ///
-/// A pool has a limit of bytes for each stream: no fragment is accepted that ends behind it, so no stream's data is longer
-/// ([`data_within_limit`](crate::laws::data_within_limit)). It is what bounds the cost of a stream of hostile traffic; the
-/// number of streams is bounded by [`retain`](IpDefragPool::retain) alone.
+/// A pool has a limit of bytes for each stream: no fragment is accepted that ends behind it, so no stream's data is
+/// longer ([`data_within_limit`](crate::laws::data_within_limit)), and none has more sections than the limit / 8 + 1
+/// ([`sections_within_limit`](crate::laws::sections_within_limit)). It is what bounds the cost of a stream of hostile
+/// traffic; the number of streams is bounded by [`retain`](IpDefragPool::retain) alone.
 ///
 /// Streams are found by their names in a hash map. Its hash has a fixed seed, so whoever chooses the names can choose
 /// ones that hash alike, and a look-up takes time in proportion to their number. What a stream took is used again by

@@ -1,6 +1,6 @@
 //! Laws of the definitions that the contracts of this crate cite. Each is the contract of a function that does nothing.
 
-ghost use Rattle.std.specs.Prelude.{◌≡◌, ◌↔◌, ◌⊎◌, ℕ, ◌%◌, ◌^◌, ◌<◌, ◌≤◌, ◌||◌, Bool, false, Option, Some, List, [], ◌∷◌, ◌++◌, length, map, IsTrue, IsFalse, IsSome, IfSome};
+ghost use Rattle.std.specs.Prelude.{◌≡◌, ◌↔◌, ◌⊎◌, ℕ, ◌+◌, ◌/◌, ◌%◌, ◌^◌, ◌<◌, ◌≤◌, ◌||◌, Bool, false, Option, Some, List, [], ◌∷◌, ◌++◌, length, map, IsTrue, IsFalse, IsSome, IfSome};
 ghost use Rattle.std.specs.List.{All, Any};
 ghost use Rattle.ep_defrag.specs.declared.TheConstants as constant;
 ghost use Rattle.ep_defrag.specs.Ranges.{touches, merge_of, SharePoint};
@@ -9,7 +9,7 @@ ghost use Rattle.ep_defrag.specs.Refusals.{FitsWithin, FitInTurn, FitInTurnWithi
 ghost use Rattle.ep_base.specs.Bytes.{AreBytes};
 ghost use Rattle.ep_defrag.specs.Completing.{FillBoth, front_fragment, back_fragment, is_part, CompleteInTurn, FragmentFrame, name_in, CarriesOf, FramesComplete};
 ghost use Rattle.ep_defrag.specs.Cuts.{IsCut};
-ghost use Rattle.ep_defrag.specs.Buffers.{IsUnchanged, ip_number_of, data_of, HoldsFragments};
+ghost use Rattle.ep_defrag.specs.Buffers.{IsUnchanged, ip_number_of, data_of, sections_of, HoldsFragments};
 ghost use Rattle.ep_defrag.specs.Comparisons.{range_cmp, buffer_cmp, error_cmp};
 ghost use Rattle.ep_defrag.specs.Streams.{same_stream};
 ghost use Rattle.ep_defrag.specs.Calls.{Call, Kept, accepted_in, calls_of, answers_to};
@@ -61,8 +61,8 @@ pub fn complete_cuts_are_the_payload()
         IsComplete cuts → assembled cuts ≡ payload }
 {}
 
-/// Where each fragment fits after those before it, as in every list that a buffer holds, a known end is the greatest end
-/// of a fragment. So the bytes put together are as long as the fragments reach, and no accepted byte is cut away.
+/// Where each fragment fits after those before it, as in every list that a buffer holds, a known end is the greatest
+/// end of a fragment. So the bytes put together are as long as the fragments reach, and no accepted byte is cut away.
 pub fn known_end_is_greatest()
     ensures end { (accepted : List IpFragment) (end : ℕ) → FitInTurn accepted → end_of accepted ≡ Some end →
         end ≡ reach_of accepted }
@@ -71,7 +71,8 @@ pub fn known_end_is_greatest()
         length (data_of buffer) ≡ reach_of accepted }
 {}
 
-/// Whatever fits in turn within a limit reaches no further. So no data of a stream is longer than the limit of its pool.
+/// Whatever fits in turn within a limit reaches no further. So no data of a stream is longer than the limit of its
+/// pool.
 pub fn data_within_limit<Timestamp, CustomChannelId: Eq + Hash>()
     ensures reach { (limit : ℕ) (accepted : List IpFragment) → FitInTurnWithin limit accepted →
         reach_of accepted ≤ limit }
@@ -80,6 +81,19 @@ pub fn data_within_limit<Timestamp, CustomChannelId: Eq + Hash>()
         HoldsTable CustomChannelId.eq pool table →
         IfSome (stream_named CustomChannelId.eq name pool)
         (λ stream. length (data_of stream.buffer) ≤ limit_of pool) }
+{}
+
+/// What fits in turn within a limit is held in at most limit / 8 + 1 sections: each begins where a fragment does, and
+/// so at another multiple of 8. So it is of a stream and the limit of its pool.
+pub fn sections_within_limit<Timestamp, CustomChannelId: Eq + Hash>()
+    ensures buffer { (limit : ℕ) (buffer : IpDefragBuf) (accepted : List IpFragment) →
+        HoldsFragments buffer accepted → FitInTurnWithin limit accepted →
+        length (sections_of buffer) ≤ limit / 8 + 1 }
+    ensures pool { (pool : IpDefragPool Timestamp CustomChannelId)
+        (table : IpFragId CustomChannelId → Option (Kept Timestamp)) (name : IpFragId CustomChannelId) →
+        HoldsTable CustomChannelId.eq pool table →
+        IfSome (stream_named CustomChannelId.eq name pool)
+        (λ stream. length (sections_of stream.buffer) ≤ limit_of pool / 8 + 1) }
 {}
 
 /// Whatever a buffer or a stream holds can be completed by one fragment: the final one from 0 to the greatest end, of
@@ -104,10 +118,10 @@ pub fn small_limits_complete_nothing()
         All (λ fragment. IsTrue (is_part fragment)) accepted → IsFalse (is_complete accepted) }
 {}
 
-/// No stream gets stuck, in a pool whose limit is at least 8: of each stream of which some frame carries a fragment there
-/// are frames, at most two, the last of which hands the payload out: what was accepted, with the bytes of these frames on
-/// top, whatever they are. So it is of the pool that `run_calls`, `run_calls_with_limit` and `run_frames` answer, and of
-/// each call of `process_sliced_packet`, since their contracts name the table that the pool holds.
+/// No stream gets stuck, in a pool whose limit is at least 8: of each stream of which some frame carries a fragment
+/// there are frames, at most two, the last of which hands the payload out: what was accepted, with the bytes of these
+/// frames on top, whatever they are. So it is of the pool that `run_calls`, `run_calls_with_limit` and `run_frames`
+/// answer, and of each call of `process_sliced_packet`, since their contracts name the table that the pool holds.
 pub fn two_frames_complete<Timestamp, CustomChannelId: Eq + Hash>()
     // Of a stream of which some frame carries a fragment, frames carry every fragment of at most 32768 bytes that more
     // fragments follow or that does not begin the payload.
@@ -119,8 +133,9 @@ pub fn two_frames_complete<Timestamp, CustomChannelId: Eq + Hash>()
         (channel : CustomChannelId) (front back : List ℕ) (timestamp : Timestamp) →
         HoldsTable CustomChannelId.eq pool table → 8 ≤ limit_of pool → AreBytes front → AreBytes back →
         let accepted = accepted_in (table (name_in seen channel)) in
-        FillBoth accepted front back → FramesComplete (limit_of pool) CustomChannelId.eq table seen channel timestamp accepted
-        (front_fragment front) (back_fragment accepted back) }
+        FillBoth accepted front back →
+        FramesComplete (limit_of pool) CustomChannelId.eq table seen channel timestamp accepted (front_fragment front)
+        (back_fragment accepted back) }
 {}
 
 /// Each stream is answered as if it were alone: two lists of calls on a new pool that agree on the calls of a stream
@@ -134,8 +149,8 @@ pub fn streams_are_alone<Timestamp, CustomChannelId: Eq, V>()
 {}
 
 /// Where all fragments of a stream are cuts of a payload that is no longer than the limit, in whatever order and with
-/// whatever repeats, none is refused, and nothing but the payload is handed out. It is handed out if the cuts cover it and
-/// a final one is among them.
+/// whatever repeats, none is refused, and nothing but the payload is handed out. It is handed out if the cuts cover it
+/// and a final one is among them.
 pub fn cuts_come_out<Timestamp, CustomChannelId: Eq, V>()
     ensures only { (limit : ℕ) (keep : V → Timestamp → Bool) (name : IpFragId CustomChannelId)
         (calls : List (Call Timestamp CustomChannelId V)) (payload : List ℕ) → length payload ≤ limit →
@@ -187,9 +202,9 @@ pub fn comparisons()
     ensures errors { (a b : IpDefragError) → ⟦<IpDefragError as Ord>⟧.cmp a b ≡ error_cmp a b }
 {}
 
-/// Two buffers of one number that hold lists of fragments are equal exactly where the lists fill the same positions with
-/// the same bytes, say the same known end, and touch the same positions: however they were filled. Of lists without
-/// empty fragments touching need not be asked.
+/// Two buffers of one number that hold lists of fragments are equal exactly where the lists fill the same positions
+/// with the same bytes, say the same known end, and touch the same positions: however they were filled. Of lists
+/// without empty fragments touching need not be asked.
 pub fn equal_buffers()
     ensures held { (a b : IpDefragBuf) (fragments others : List IpFragment) → ip_number_of a ≡ ip_number_of b →
         HoldsFragments a fragments → HoldsFragments b others →
@@ -241,7 +256,7 @@ pub fn names<CustomChannelId: Eq>()
 /// handed out are complete, and nothing at the others. Among other calls the frames of that stream are answered so too:
 /// frames without a fragment, frames of other streams, buffers that are given back and drops that keep every stream may
 /// stand between them. A built frame is what the builder's step of IP headers writes, and a pool is given the layers
-/// that its bytes have.
+/// that its bytes have. No cut is refused: a final one ends where the payload does, and so not below what came.
 pub fn built_cuts_come_out<Timestamp, CustomChannelId: Eq, V>()
     ensures alone { (limit : ℕ) (keep : V → Timestamp → Bool) (name : IpFragId CustomChannelId) (payload : List ℕ)
         (cuts : List (BuiltCut Timestamp CustomChannelId)) → length payload ≤ limit →

@@ -45,8 +45,9 @@ pub enum PoolAnswer {
     Returned,
 }
 
-/// Makes calls in turn on a new pool, and answers it with the answer to each call. A drop keeps the streams whose
-/// timestamp `keep` answers true of the drop's value and the timestamp. `RunStop` comes only for want of memory.
+/// Makes calls in turn on a new pool of the limit 65535, and answers it with the answer to each call. A drop keeps the
+/// streams whose timestamp `keep` answers true of the drop's value and the timestamp. `RunStop` comes only for want of
+/// memory.
 ///
 /// Each stream is answered as if it were alone. None of the streams gets stuck
 /// ([`two_frames_complete`](crate::laws::two_frames_complete)).
@@ -84,14 +85,14 @@ pub fn run_calls<
     ensures stopped { IfErr result (λ stop. 0 < stop.at →
         (decide : V → Timestamp → Bool) → IsDecidedBy F.Fn keep decide →
         HoldsAt (λ call. CallMayNeedMemory 65535
-        (table_after 65535 CustomChannelId.eq decide (map plain_call (take stop.at calls.entry.items))) (plain_call call))
-        calls.entry.items stop.at) }
+        (table_after 65535 CustomChannelId.eq decide (map plain_call (take stop.at calls.entry.items)))
+        (plain_call call)) calls.entry.items stop.at) }
 {
     run_calls_with_limit(alloc, MAX_IP_DEFRAG_LEN_U16, calls, keep)
 }
 
-/// The same calls on a new pool of this limit ([`IpDefragPool::with_limit`]). None of its streams gets stuck, if it is at
-/// least 8.
+/// The same calls on a new pool of this limit ([`IpDefragPool::with_limit`]). None of its streams gets stuck, if it is
+/// at least 8.
 pub fn run_calls_with_limit<
     Timestamp: Drop,
     CustomChannelId: Eq + Hash + Drop,
@@ -157,7 +158,8 @@ pub(crate) fn answer_next<
 ) -> Result<PoolAnswer, AllocError>
     requires { F.IsAlwaysCallable keep.now }
     ensures answer { IfOk result (λ answer. (table : IpFragId CustomChannelId → Option (Kept Timestamp)) →
-        HoldsTable CustomChannelId.eq pool.old table → plain_answer answer ≡ answer_to (limit_of pool.old) table (plain_call call.entry)) }
+        HoldsTable CustomChannelId.eq pool.old table →
+        plain_answer answer ≡ answer_to (limit_of pool.old) table (plain_call call.entry)) }
     ensures holds { OnOk result ((decide : V → Timestamp → Bool) → IsDecidedBy F.Fn keep.now decide →
         (table : IpFragId CustomChannelId → Option (Kept Timestamp)) → HoldsTable CustomChannelId.eq pool.old table →
         HoldsTable CustomChannelId.eq pool.new
@@ -165,7 +167,8 @@ pub(crate) fn answer_next<
     ensures limit { OnOk result (limit_of pool.new ≡ limit_of pool.old) }
     ensures no_memory { IfOk result (λ answer. IsFalse (answer_wants_memory answer)) }
     ensures memory { OnErr result ((table : IpFragId CustomChannelId → Option (Kept Timestamp)) →
-        HoldsTable CustomChannelId.eq pool.old table → CallMayNeedMemory (limit_of pool.old) table (plain_call call.entry)) }
+        HoldsTable CustomChannelId.eq pool.old table →
+        CallMayNeedMemory (limit_of pool.old) table (plain_call call.entry)) }
 {
     match call {
         PoolCall::Frame {

@@ -23,7 +23,11 @@ pub struct RunStop {
 }
 
 /// Adds fragments in turn to a new buffer, which uses the memory of both vectors, and answers it with the answer to
-/// each fragment. `RunStop` comes only for want of memory.
+/// each fragment. The limit of the payload is 65535. `RunStop` comes only for want of memory.
+///
+/// Whatever the buffer holds, one fragment completes it, and so do two that frames can carry
+/// ([`one_fragment_completes`](crate::laws::one_fragment_completes),
+/// [`two_fragments_complete`](crate::laws::two_fragments_complete)).
 pub fn add_all(
     alloc: Global,
     ip_number: IpNumber,

@@ -6,12 +6,12 @@ use Rattle.std.specs.Prelude.{nat_eq}
 use Rattle.std.specs.Cmp.{booleans_Decides}
 use Rattle.std.specs.Cmp.Lexicographic.{pointwise}
 use Rattle.std.proofs.Math.Bool.{beq}
-use Rattle.std.proofs.lemmas.Bool.{false≢true}
 use Rattle.std.proofs.lemmas.Bool.Decides.{Decides-eqb, Decides-and, Decides-like}
 use Rattle.std.proofs.lemmas.Option.{none-some}
 use Rattle.std.proofs.lemmas.Slice.Eq.{slice_eq-Decides}
 use Rattle.ep_base.specs.Padding.{padded}
 use Rattle.ep_base.proofs.BytesLemmas.{same_parts}
+use Rattle.ep_base.proofs.ComparisonLemmas.{same_option}
 use Rattle.ep_ext.specs.declared.ip_auth_header.IpAuthHeader.{IpAuthHeader}
 use Rattle.ep_ext.specs.declared.ipv6_fragment_header.Ipv6FragmentHeader.{Ipv6FragmentHeader}
 use Rattle.ep_ext.specs.declared.ipv6_raw_ext_header.Ipv6RawExtHeader.{Ipv6RawExtHeader}
@@ -95,15 +95,6 @@ same_fragment a b =
     (Decides-and _ _ (Decides-eqb a.fragment_offset b.fragment_offset)
     (Decides-and _ _ (booleans_Decides a.more_fragments b.more_fragments)
     (Decides-eqb a.identification b.identification))))
-
--- where the test of two values decides, so does that of values that may be there
-pub same_option : {A : Type 0} (test : A → A → Bool) (a b : Option A)
-    → ((x y : A) → a ≡ Some x → b ≡ Some y → Decides (test x y) (x ≡ y)) → Decides (option_eq test a b) (a ≡ b)
-same_option test None None each = (λ equal. refl, λ same. refl)
-same_option test None (Some y) each = (λ equal. absurd (false≢true equal), λ same. absurd (none-some y same))
-same_option test (Some x) None each = (λ equal. absurd (false≢true equal), λ same. absurd (cc))
-same_option test (Some x) (Some y) each =
-    let one = each x y refl refl in (λ equal. ap (λ z. Some z) (one.0 equal), λ same. one.1 (cc))
 
 -- headers that fit, where they are there
 pub there_fits : {H : Type 0} (kind : H → ExtensionPart) (there : Option H) (header : H)

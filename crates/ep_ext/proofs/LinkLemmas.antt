@@ -1,7 +1,7 @@
 -- That linked headers are walked, all of them, and that written headers are a chain.
 use Rattle.std.proofs.Common.{◌≡◌, ℕ, ◌==◌, ◌&&◌, Bool, true, false, not, if◌then◌else◌, List, [], ◌∷◌, ◌++◌, Option, Some, None, refl, sym, ap, subst, ◌∙◌, arith, append_assoc}
 use Rattle.std.specs.Option.{option_map, is_some}
-use Rattle.std.specs.Prelude.{Ok}
+use Rattle.std.specs.Prelude.{Ok, map}
 use Rattle.std.proofs.lemmas.Bool.{true≢false}
 use Rattle.std.proofs.lemmas.Option.{none-some}
 use Rattle.std.proofs.lemmas.Grind.{common_steps}
@@ -77,30 +77,37 @@ all_taken extensions taken walked marks number m none =
     (spent destination_options (final_by extensions.routing) marks.final_destination_options f.0)
     (spent destination_options extensions.destination_options marks.destination_options b.0)) refl))))
 
--- the numbers lead from one through these headers to another
-abbrev Leads : Ipv6Extensions → List ℕ → ℕ → List ExtensionPart → ℕ → Type 0
-Leads extensions taken number [] last = last ≡ number
-Leads extensions taken number (part ∷ parts) last = (header_for extensions taken number ≡ Some part)
-    × Leads extensions (number ∷ taken) (part_next part) parts last
+-- what a walk takes at the numbers to which these headers lead, from one on, and the number behind them
+abbrev found_along : Ipv6Extensions → List ℕ → ℕ → List ExtensionPart → List (Option ExtensionPart)
+found_along extensions taken number [] = []
+found_along extensions taken number (part ∷ parts) =
+    header_for extensions taken number ∷ found_along extensions (number ∷ taken) (part_next part) parts
+
+abbrev number_behind : ℕ → List ExtensionPart → ℕ
+number_behind number [] = number
+number_behind number (part ∷ parts) = number_behind (part_next part) parts
 
 -- numbers that lead through all headers end there
 leads_to_end : (extensions : Ipv6Extensions) (taken : List ℕ) (walked : Ipv6Extensions) (marks : Marks) (number : ℕ)
-    (parts : List ExtensionPart) (last : ℕ)
-    → IsMarked taken walked marks → Leads extensions taken number parts last
-    → missing_number extensions (with_parts walked parts) ≡ None → IsWalkBehind extensions taken number parts last
-leads_to_end extensions taken walked marks number [] last m leads none = (
+    (parts : List ExtensionPart) → IsMarked taken walked marks
+    → found_along extensions taken number parts ≡ map Some parts
+    → missing_number extensions (with_parts walked parts) ≡ None
+    → IsWalkBehind extensions taken number parts (number_behind number parts)
+leads_to_end extensions taken walked marks number [] m found none = (
   found_is extensions taken walked marks number m
       ∙ all_taken extensions taken walked marks number m (sym (left_is extensions taken walked marks m)
       ∙ none),
-  leads,
+  refl,
 )
-leads_to_end extensions taken walked marks number (part ∷ parts) last m leads none =
-    let kind = found_kind extensions taken number part leads.0 in
+leads_to_end extensions taken walked marks number (part ∷ parts) m found none =
+    let here : header_for extensions taken number ≡ Some part = cc in
+    let later : found_along extensions (number ∷ taken) (part_next part) parts ≡ map Some parts = cc in
+    let kind = found_kind extensions taken number part here in
     let more = subst (λ (n : ℕ). IsMarked (n ∷ taken) (with_part walked part) (marked marks part)) (sym kind.0)
     (mark_more taken walked marks part m) in (
-      leads.0,
-      leads_to_end extensions (number ∷ taken) (with_part walked part) (marked marks part)
-          (part_next part) parts last more leads.1 none,
+      here,
+      leads_to_end extensions (number ∷ taken) (with_part walked part) (marked marks part) (part_next part) parts more
+          later none,
     )
 
 and_not : (test : Bool) → (test && not test) ≡ false
@@ -125,12 +132,14 @@ abbrev routing_by : Option Ipv6RawExtHeader → Option Ipv6RawExtHeader → Opti
 routing_by None final = None
 routing_by (Some header) final = Some (record { routing = header; final_destination_options = final })
 
-record Linked (extensions : Ipv6Extensions) (last : IpNumber) : Type 0 where
-  leads : Leads (ipv6_linked extensions last) [] (ipv6_first extensions last).0 (ipv6_parts
-      (ipv6_linked extensions last)) last.0
-  value : extensions_of (ipv6_parts (ipv6_linked extensions last)) ≡ ipv6_linked extensions last
+abbrev Linked : Ipv6Extensions → IpNumber → Type 0
+Linked extensions last =
+    let all = ipv6_linked extensions last in
+    let first = (ipv6_first extensions last).0 in
+    (found_along all [] first (ipv6_parts all) ≡ map Some (ipv6_parts all))
+    × (number_behind first (ipv6_parts all) ≡ last.0) × (extensions_of (ipv6_parts all) ≡ all)
 
--- each header is there or is not
+-- Each header is there or is not: the clauses split all six, the last ones first, and every case computes.
 linked_by : (hop destination behind final : Option Ipv6RawExtHeader) (fragmenting : Option Ipv6FragmentHeader)
     (auth : Option IpAuthHeader) (last : IpNumber)
     → Linked (record {
@@ -140,337 +149,13 @@ linked_by : (hop destination behind final : Option Ipv6RawExtHeader) (fragmentin
       fragment = fragmenting;
       auth = auth;
     }) last
-linked_by None None None final None None last = record { leads = refl; value = refl }
-linked_by None None None final None (Some auth) last = record { leads = (refl, refl); value = refl }
-linked_by None None None final (Some fragmenting) None last = record { leads = (refl, refl); value = refl }
-linked_by None None None final (Some fragmenting) (Some auth) last = record {
-  leads = (
-    refl,
-    (refl, refl),
-  );
-  value = refl;
-}
-linked_by None None (Some behind) None None None last = record { leads = (refl, refl); value = refl }
-linked_by None None (Some behind) None None (Some auth) last = record { leads = (refl, (refl, refl)); value = refl }
-linked_by None None (Some behind) None (Some fragmenting) None last = record {
-  leads = (
-    refl,
-    (refl, refl),
-  );
-  value = refl;
-}
-linked_by None None (Some behind) None (Some fragmenting) (Some auth) last = record {
-  leads = (
-    refl,
-    (
-      refl,
-      (refl, refl),
-    ),
-  );
-  value = refl;
-}
-linked_by None None (Some behind) (Some final) None None last = record { leads = (refl, (refl, refl)); value = refl }
-linked_by None None (Some behind) (Some final) None (Some auth) last = record {
-  leads = (
-    refl,
-    (
-      refl,
-      (refl, refl),
-    ),
-  );
-  value = refl;
-}
-linked_by None None (Some behind) (Some final) (Some fragmenting) None last = record {
-  leads = (
-    refl,
-    (
-      refl,
-      (refl, refl),
-    ),
-  );
-  value = refl;
-}
-linked_by None None (Some behind) (Some final) (Some fragmenting) (Some auth) last = record {
-  leads = (
-    refl,
-    (
-      refl,
-      (refl, (refl, refl)),
-    ),
-  );
-  value = refl;
-}
-linked_by None (Some destination) None final None None last = record { leads = (refl, refl); value = refl }
-linked_by None (Some destination) None final None (Some auth) last = record {
-  leads = (
-    refl,
-    (refl, refl),
-  );
-  value = refl;
-}
-linked_by None (Some destination) None final (Some fragmenting) None last = record {
-  leads = (
-    refl,
-    (refl, refl),
-  );
-  value = refl;
-}
-linked_by None (Some destination) None final (Some fragmenting) (Some auth) last = record {
-  leads = (
-    refl,
-    (
-      refl,
-      (refl, refl),
-    ),
-  );
-  value = refl;
-}
-linked_by None (Some destination) (Some behind) None None None last = record {
-  leads = (
-    refl,
-    (refl, refl),
-  );
-  value = refl;
-}
-linked_by None (Some destination) (Some behind) None None (Some auth) last = record {
-  leads = (
-    refl,
-    (
-      refl,
-      (refl, refl),
-    ),
-  );
-  value = refl;
-}
-linked_by None (Some destination) (Some behind) None (Some fragmenting) None last = record {
-  leads = (
-    refl,
-    (
-      refl,
-      (refl, refl),
-    ),
-  );
-  value = refl;
-}
-linked_by None (Some destination) (Some behind) None (Some fragmenting) (Some auth) last = record {
-  leads = (
-    refl,
-    (refl, (refl, (refl, refl))),
-  );
-  value = refl;
-}
-linked_by None (Some destination) (Some behind) (Some final) None None last = record {
-  leads = (
-    refl,
-    (
-      refl,
-      (refl, refl),
-    ),
-  );
-  value = refl;
-}
-linked_by None (Some destination) (Some behind) (Some final) None (Some auth) last = record {
-  leads = (
-    refl,
-    (
-      refl,
-      (refl, (refl, refl)),
-    ),
-  );
-  value = refl;
-}
-linked_by None (Some destination) (Some behind) (Some final) (Some fragmenting) None last = record {
-  leads = (
-    refl,
-    (refl, (refl, (refl, refl))),
-  );
-  value = refl;
-}
-linked_by None (Some destination) (Some behind) (Some final) (Some fragmenting) (Some auth) last = record {
-  leads =
-      (refl, (refl, (refl, (refl, (refl, refl)))));
-  value = refl;
-}
-linked_by (Some hop) None None final None None last = record { leads = (refl, refl); value = refl }
-linked_by (Some hop) None None final None (Some auth) last = record { leads = (refl, (refl, refl)); value = refl }
-linked_by (Some hop) None None final (Some fragmenting) None last = record {
-  leads = (
-    refl,
-    (refl, refl),
-  );
-  value = refl;
-}
-linked_by (Some hop) None None final (Some fragmenting) (Some auth) last = record {
-  leads = (
-    refl,
-    (
-      refl,
-      (refl, refl),
-    ),
-  );
-  value = refl;
-}
-linked_by (Some hop) None (Some behind) None None None last = record { leads = (refl, (refl, refl)); value = refl }
-linked_by (Some hop) None (Some behind) None None (Some auth) last = record {
-  leads = (
-    refl,
-    (
-      refl,
-      (refl, refl),
-    ),
-  );
-  value = refl;
-}
-linked_by (Some hop) None (Some behind) None (Some fragmenting) None last = record {
-  leads = (
-    refl,
-    (
-      refl,
-      (refl, refl),
-    ),
-  );
-  value = refl;
-}
-linked_by (Some hop) None (Some behind) None (Some fragmenting) (Some auth) last = record {
-  leads = (
-    refl,
-    (
-      refl,
-      (refl, (refl, refl)),
-    ),
-  );
-  value = refl;
-}
-linked_by (Some hop) None (Some behind) (Some final) None None last = record {
-  leads = (
-    refl,
-    (
-      refl,
-      (refl, refl),
-    ),
-  );
-  value = refl;
-}
-linked_by (Some hop) None (Some behind) (Some final) None (Some auth) last = record {
-  leads = (
-    refl,
-    (
-      refl,
-      (
-        refl,
-        (refl, refl),
-      ),
-    ),
-  );
-  value = refl;
-}
-linked_by (Some hop) None (Some behind) (Some final) (Some fragmenting) None last = record {
-  leads = (
-    refl,
-    (
-      refl,
-      (refl, (refl, refl)),
-    ),
-  );
-  value = refl;
-}
-linked_by (Some hop) None (Some behind) (Some final) (Some fragmenting) (Some auth) last = record {
-  leads = (
-    refl,
-    (refl, (refl, (refl, (refl, refl)))),
-  );
-  value = refl;
-}
-linked_by (Some hop) (Some destination) None final None None last = record {
-  leads = (
-    refl,
-    (refl, refl),
-  );
-  value = refl;
-}
-linked_by (Some hop) (Some destination) None final None (Some auth) last = record {
-  leads = (
-    refl,
-    (
-      refl,
-      (refl, refl),
-    ),
-  );
-  value = refl;
-}
-linked_by (Some hop) (Some destination) None final (Some fragmenting) None last = record {
-  leads = (
-    refl,
-    (
-      refl,
-      (refl, refl),
-    ),
-  );
-  value = refl;
-}
-linked_by (Some hop) (Some destination) None final (Some fragmenting) (Some auth) last = record {
-  leads = (
-    refl,
-    (refl, (refl, (refl, refl))),
-  );
-  value = refl;
-}
-linked_by (Some hop) (Some destination) (Some behind) None None None last = record {
-  leads = (
-    refl,
-    (
-      refl,
-      (refl, refl),
-    ),
-  );
-  value = refl;
-}
-linked_by (Some hop) (Some destination) (Some behind) None None (Some auth) last = record {
-  leads = (
-    refl,
-    (
-      refl,
-      (refl, (refl, refl)),
-    ),
-  );
-  value = refl;
-}
-linked_by (Some hop) (Some destination) (Some behind) None (Some fragmenting) None last = record {
-  leads = (
-    refl,
-    (refl, (refl, (refl, refl))),
-  );
-  value = refl;
-}
-linked_by (Some hop) (Some destination) (Some behind) None (Some fragmenting) (Some auth) last = record {
-  leads =
-      (refl, (refl, (refl, (refl, (refl, refl)))));
-  value = refl;
-}
-linked_by (Some hop) (Some destination) (Some behind) (Some final) None None last = record {
-  leads = (
-    refl,
-    (
-      refl,
-      (refl, (refl, refl)),
-    ),
-  );
-  value = refl;
-}
-linked_by (Some hop) (Some destination) (Some behind) (Some final) None (Some auth) last = record {
-  leads = (
-    refl,
-    (refl, (refl, (refl, (refl, refl)))),
-  );
-  value = refl;
-}
-linked_by (Some hop) (Some destination) (Some behind) (Some final) (Some fragmenting) None last = record {
-  leads =
-      (refl, (refl, (refl, (refl, (refl, refl)))));
-  value = refl;
-}
-linked_by (Some hop) (Some destination) (Some behind) (Some final) (Some fragmenting)
-    (Some auth) last = record { leads = (refl, (refl, (refl, (refl, (refl, (refl, refl)))))); value = refl }
+linked_by None None None None None None last = (refl, refl, refl)
+linked_by hop None None None None None last = (refl, refl, refl)
+linked_by hop destination None None None None last = (refl, refl, refl)
+linked_by hop destination behind None None None last = (refl, refl, refl)
+linked_by hop destination behind final None None last = (refl, refl, refl)
+linked_by hop destination behind final fragmenting None last = (refl, refl, refl)
+linked_by hop destination behind final fragmenting auth last = (refl, refl, refl)
 
 routing_is : (there : Option Ipv6RoutingExtensions)
     → routing_by (option_map routing_header there) (final_by there) ≡ there
@@ -493,7 +178,7 @@ linked e last =
 
 pub linked_value : (extensions : Ipv6Extensions) (last : IpNumber)
     → extensions_of (ipv6_parts (ipv6_linked extensions last)) ≡ ipv6_linked extensions last
-linked_value extensions last = (linked extensions last).value
+linked_value extensions last = (linked extensions last).2
 
 -- the numbers lead through all linked headers
 pub linked_walk : (extensions : Ipv6Extensions) (last : IpNumber)
@@ -502,10 +187,11 @@ pub linked_walk : (extensions : Ipv6Extensions) (last : IpNumber)
 linked_walk extensions last =
     let l = linked extensions last in
     let all = ipv6_linked extensions last in
-    let none : missing_number all (extensions_of (ipv6_parts all)) ≡ None = ap (missing_number all) l.value
+    let first = (ipv6_first extensions last).0 in
+    let none : missing_number all (extensions_of (ipv6_parts all)) ≡ None = ap (missing_number all) l.2
     ∙ nothing_left all in (
-      leads_to_end all [] no_ipv6_extensions no_marks (ipv6_first extensions last).0
-          (ipv6_parts all) last.0 marked_none l.leads none,
+      subst (λ (end : ℕ). IsWalkBehind all [] first (ipv6_parts all) end) l.1
+          (leads_to_end all [] no_ipv6_extensions no_marks first (ipv6_parts all) marked_none l.0 none),
       none,
     )
 
@@ -544,10 +230,7 @@ part_written (authentication header) behind fits = (
 
 kind_of_part : (part : ExtensionPart) → is_ipv6_extension (part_number part) ≡ true
 kind_of_part (hop_by_hop header) = refl
-kind_of_part (destination_options header) = refl
-kind_of_part (routing header) = refl
-kind_of_part (fragment header) = refl
-kind_of_part (authentication header) = refl
+kind_of_part _ = refl
 
 -- hop by hop options are taken first
 hop_first : (extensions : Ipv6Extensions) (taken : List ℕ) (part : ExtensionPart)

@@ -60,46 +60,31 @@ hop_by_hop_back : (bytes : List ℕ) (part : ExtensionPart) (rest : List ℕ) �
     → (read : Ipv6RawExtHeader × List ℕ) × IsRawExtension bytes read × ◌≡◌ {A = ReadPart} (part, rest)
     (hop_by_hop read.0, read.1)
 hop_by_hop_back bytes (hop_by_hop header) rest is = ((header, rest), is.1, refl)
-hop_by_hop_back bytes (destination_options header) rest is = absurd (omega arith)
-hop_by_hop_back bytes (routing header) rest is = absurd (omega arith)
-hop_by_hop_back bytes (fragment header) rest is = absurd (omega arith)
-hop_by_hop_back bytes (authentication header) rest is = absurd (omega arith)
+hop_by_hop_back bytes _ rest is = absurd (omega arith)
 
 destination_back : (bytes : List ℕ) (part : ExtensionPart) (rest : List ℕ) → IsExtensionPart 60 bytes part rest
     → (read : Ipv6RawExtHeader × List ℕ) × IsRawExtension bytes read × ◌≡◌ {A = ReadPart} (part, rest)
     (destination_options read.0, read.1)
 destination_back bytes (destination_options header) rest is = ((header, rest), is.1, refl)
-destination_back bytes (hop_by_hop header) rest is = absurd (omega arith)
-destination_back bytes (routing header) rest is = absurd (omega arith)
-destination_back bytes (fragment header) rest is = absurd (omega arith)
-destination_back bytes (authentication header) rest is = absurd (omega arith)
+destination_back bytes _ rest is = absurd (omega arith)
 
 routing_back : (bytes : List ℕ) (part : ExtensionPart) (rest : List ℕ) → IsExtensionPart 43 bytes part rest
     → (read : Ipv6RawExtHeader × List ℕ) × IsRawExtension bytes read × ◌≡◌ {A = ReadPart} (part, rest)
     (routing read.0, read.1)
 routing_back bytes (routing header) rest is = ((header, rest), is.1, refl)
-routing_back bytes (hop_by_hop header) rest is = absurd (omega arith)
-routing_back bytes (destination_options header) rest is = absurd (omega arith)
-routing_back bytes (fragment header) rest is = absurd (omega arith)
-routing_back bytes (authentication header) rest is = absurd (omega arith)
+routing_back bytes _ rest is = absurd (omega arith)
 
 fragment_back : (bytes : List ℕ) (part : ExtensionPart) (rest : List ℕ) → IsExtensionPart 44 bytes part rest
     → (read : Ipv6FragmentHeader × List ℕ) × IsFragmentHeader bytes read × ◌≡◌ {A = ReadPart} (part, rest)
     (fragment read.0, read.1)
 fragment_back bytes (fragment header) rest is = ((header, rest), is.1, refl)
-fragment_back bytes (hop_by_hop header) rest is = absurd (omega arith)
-fragment_back bytes (destination_options header) rest is = absurd (omega arith)
-fragment_back bytes (routing header) rest is = absurd (omega arith)
-fragment_back bytes (authentication header) rest is = absurd (omega arith)
+fragment_back bytes _ rest is = absurd (omega arith)
 
 authentication_back : (bytes : List ℕ) (part : ExtensionPart) (rest : List ℕ) → IsExtensionPart 51 bytes part rest
     → (read : IpAuthHeader × List ℕ) × IsIpAuth bytes read × ◌≡◌ {A = ReadPart} (part, rest)
     (authentication read.0, read.1)
 authentication_back bytes (authentication header) rest is = ((header, rest), is.1, refl)
-authentication_back bytes (hop_by_hop header) rest is = absurd (omega arith)
-authentication_back bytes (destination_options header) rest is = absurd (omega arith)
-authentication_back bytes (routing header) rest is = absurd (omega arith)
-authentication_back bytes (fragment header) rest is = absurd (omega arith)
+authentication_back bytes _ rest is = absurd (omega arith)
 
 -- bytes of a kind's number are a header of that kind or are refused
 pub part_decided : HeaderLaws → (number : ℕ) (bytes : List ℕ) → AreBytes bytes → IsKind number
@@ -195,7 +180,4 @@ pub part_numbered : (number : ℕ) (bytes : List ℕ) (part : ExtensionPart) (be
     → IsExtensionPart number bytes part behind
     → number ≡ part_number part
 part_numbered number bytes (hop_by_hop header) behind is = is.0
-part_numbered number bytes (destination_options header) behind is = is.0
-part_numbered number bytes (routing header) behind is = is.0
-part_numbered number bytes (fragment header) behind is = is.0
-part_numbered number bytes (authentication header) behind is = is.0
+part_numbered number bytes _ behind is = is.0

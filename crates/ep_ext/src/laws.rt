@@ -49,9 +49,9 @@ pub fn fragment_header()
     ensures { (bytes : List ℕ) → AreBytes bytes → IsDecided (IsFragmentHeader bytes) (RefusesFragmentHeader bytes) }
 {}
 
-/// A refusal for want of bytes at hand counts the bytes that are there, and with as many behind them as are missing, the
-/// bytes are not refused by that row again: for each header, and for chains in each version and reading. No other length
-/// refuses a chain.
+/// A refusal for want of bytes at hand counts the bytes that are there, and with as many behind them as are missing,
+/// the bytes are not refused by that row again: for each header, and for chains in each version and reading. No other
+/// length refuses a chain.
 pub fn tell_missing()
     ensures ip_auth { TellsMissing (λ bytes error. RefusesIpAuth bytes (auth_error.Len error)) }
     ensures raw_extension { TellsMissing RefusesRawExtension }

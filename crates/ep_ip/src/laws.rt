@@ -80,17 +80,19 @@ pub fn refusal_places()
         → RefusesIpv6 reading bytes (ipv6_error.Len error) → error.layer_start_offset ≤ length bytes }
 {}
 
-/// A refusal for want of bytes at hand counts the bytes that are there, and with as many behind them as are missing, the
-/// bytes are not refused by that row again: for each header and packet, and for packets with their extension headers in
-/// each reading. What a length field other than a payload length of 0 cut has that field as its limit, so a payload whose
-/// limit is the bytes at hand leaves nothing.
+/// A refusal for want of bytes at hand counts the bytes that are there, and with as many behind them as are missing,
+/// the bytes are not refused by that row again: for each header and packet, and for packets with their extension
+/// headers in each reading. What a length field other than a payload length of 0 cut has that field as its limit, so a
+/// payload whose limit is the bytes at hand leaves nothing.
 pub fn tell_missing()
     ensures ipv4_header { TellsMissing (λ bytes error. RefusesIpv4Header bytes (ipv4_header_error.Len error)) }
     ensures ipv4_packet { TellsMissing (λ bytes error. RefusesIpv4Packet bytes (ipv4_error.Len error)) }
     ensures ipv6_header { TellsMissing (λ bytes error. RefusesIpv6Header bytes (ipv6_header_error.Len error)) }
     ensures ipv6_packet { TellsMissing (λ bytes error. RefusesIpv6Packet bytes (ipv6_error.Len error)) }
-    ensures ipv4 { (reading : Reading) → TellsMissing (λ bytes error. RefusesIpv4 reading bytes (ipv4_error.Len error)) }
-    ensures ipv6 { (reading : Reading) → TellsMissing (λ bytes error. RefusesIpv6 reading bytes (ipv6_error.Len error)) }
+    ensures ipv4 { (reading : Reading)
+        → TellsMissing (λ bytes error. RefusesIpv4 reading bytes (ipv4_error.Len error)) }
+    ensures ipv6 { (reading : Reading)
+        → TellsMissing (λ bytes error. RefusesIpv6 reading bytes (ipv6_error.Len error)) }
     ensures ip { (reading : Reading) → TellsMissing (λ bytes error. RefusesIp reading bytes (ip_error.Len error)) }
     ensures payload { (reading : Reading) (bytes : List ℕ) (packet : IpPacket Ipv6Header) → IsIpv6 reading bytes packet
         → IsOfBytesAtHand packet.payload.source → packet.left ≡ [] }

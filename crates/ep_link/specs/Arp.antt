@@ -1,6 +1,6 @@
 -- ARP (RFC 826).
 use Rattle.std.specs.Prelude.{◌≡◌, ℕ, ◌+◌, ◌*◌, ◌^◌, ◌<◌, ◌≤◌, ◌==◌, ◌&&◌, if◌then◌else◌, Bool, not, nat_le, nat_lt}
-use Rattle.std.specs.Prelude.{List, [], ◌∷◌, ◌++◌, length, slice_index, slice_range}
+use Rattle.std.specs.Prelude.{List, [], ◌∷◌, ◌++◌, Option, Some, None, codes, length, slice_index, slice_range}
 use Rattle.std.specs.Int.{w16, to_be_bytes}
 use Rattle.ep_base.specs.Bytes.{AreBytes, word_at}
 use Rattle.ep_base.specs.Layer.{len_error}
@@ -16,6 +16,11 @@ use Rattle.ep_link.specs.declared.err.arp.arp_hw_addr_error.ArpHwAddrError.TheVa
 use Rattle.ep_link.specs.declared.err.arp.arp_proto_addr_error.ArpProtoAddrError.TheVariants as proto_error
 use Rattle.ep_link.specs.declared.err.arp.arp_new_error.ArpNewError.{ArpNewError}
 use Rattle.ep_link.specs.declared.err.arp.arp_new_error.ArpNewError.TheVariants as new_error
+
+-- the bytes of the name of the constant that an operation is; none where it is no constant
+abbrev pub arp_operation_name : ℕ → Option (List ℕ)
+arp_operation_name operation =
+    if operation == 1 then Some (codes "REQUEST") else (if operation == 2 then Some (codes "REPLY") else None)
 
 -- a packet as plain data, each address as its bytes
 pub record Arp : Type 0 where

@@ -106,8 +106,8 @@ pub fn link_extension_len()
         ≡ link_ext_header_len (extension_header part.0) + length (extension_payload part.0) + length part.1 }
 {}
 
-/// A refusal for want of bytes at hand counts the bytes that are there, and with as many behind them as are missing, the
-/// bytes are not refused by that row again: for each layer, and for link extensions of any type.
+/// A refusal for want of bytes at hand counts the bytes that are there, and with as many behind them as are missing,
+/// the bytes are not refused by that row again: for each layer, and for link extensions of any type.
 pub fn tell_missing()
     ensures ethernet2 { TellsMissing RefusesEthernet2 }
     ensures linux_sll { TellsMissing (λ bytes error. RefusesLinuxSll bytes (sll_error.Len error)) }

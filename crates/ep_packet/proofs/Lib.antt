@@ -7,6 +7,7 @@ pub mod FrameLemmas
 pub mod InsideLemmas
 pub mod LayerLaws
 pub mod NetLemmas
+pub mod OffsetLemmas
 pub mod MissingLemmas
 pub mod NetBytesLemmas
 pub mod PayloadLemmas

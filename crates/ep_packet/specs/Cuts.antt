@@ -25,8 +25,9 @@ net_start offset [] = offset
 net_start offset (extension ∷ others) = net_start (offset + link_ext_header_len (extension_header extension)) others
 
 -- What set the limit where a cut left too few bytes of a frame whose net layer starts here: the end of the bytes at
--- hand, but the address lengths of ARP, once they are there, and the payload length of IPv6, where it is 0 and the layer
--- behind its header has no byte left. Of a link extension that is refused before the net layer it is the end of the bytes.
+-- hand, but the address lengths of ARP, once they are there, and the payload length of IPv6, where it is 0 and the
+-- layer behind its header has no byte left. Of a link extension that is refused before the net layer it is the end of
+-- the bytes.
 abbrev pub net_cut_limit : Option NetLayer → ℕ → LenError → LenSource
 net_cut_limit None start error = source.Slice
 net_cut_limit (Some (ipv4 header extensions payload)) start error = source.Slice

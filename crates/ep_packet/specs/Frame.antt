@@ -1,6 +1,6 @@
 -- Which bytes are a frame, of which layers. Each layer's bytes are the payload of the layer before it, and what a
--- layer's cut leaves stands behind its payload: so the bytes are the headers from the outside in, the payload of the last
--- layer, and what the cuts left, the innermost first.
+-- layer's cut leaves stands behind its payload: so the bytes are the headers from the outside in, the payload of the
+-- last layer, and what the cuts left, the innermost first.
 use Rattle.std.specs.Prelude.{◌≡◌, ◌==◌, if◌then◌else◌, ℕ, zero, suc, List, [], ◌∷◌, Option, Some, None}
 use Rattle.ep_base.specs.EtherTypes.{ipv4_type, ipv6_type, arp_type}
 use Rattle.ep_base.specs.Layer.{Reading, slices}

@@ -65,8 +65,8 @@ pub record FillsTransport (payload : IpPayload) (old new : Headers) : Type 0 whe
     payload = innermost_part (ip payload) None transport;
   }
 
--- The net layer of a kind that bytes are was filled in, with the transport layer in it and the payload of the last layer,
--- which is this one where no net layer is read.
+-- The net layer of a kind that bytes are was filled in, with the transport layer in it and the payload of the last
+-- layer, which is this one where no net layer is read.
 pub record FillsNet (kind : Option NetKind) (bytes : List ℕ) (unread : PayloadPart) (old new : Headers) : Type 0 where
   pub net : Option NetLayer
   pub transport : Option TransportLayer

@@ -2,8 +2,10 @@ pub mod Layers
 pub mod Frame
 pub mod Fragments
 pub mod Refusals
+pub mod LayerErrors
 pub mod NetSlices
 pub mod FrameBytes
+pub mod Offsets
 pub mod Payloads
 pub mod UncutTags
 pub mod Cuts

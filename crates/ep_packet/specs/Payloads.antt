@@ -29,8 +29,8 @@ abbrev pub ether_payload_behind : Option EtherPayload → List LinkExtension →
 ether_payload_behind payload [] = payload
 ether_payload_behind payload (extension ∷ others) = ether_payload_behind (extension_ether_payload extension) others
 
--- The payload of the last extension, or else of the link layer, where its type can be read. Behind extensions its source
--- is the short length of a MACsec tag among them, or else the slice.
+-- The payload of the last extension, or else of the link layer, where its type can be read. Behind extensions its
+-- source is the short length of a MACsec tag among them, or else the slice.
 abbrev pub ether_payload_of_parts : Option LinkLayer → List LinkExtension → Option EtherPayload
 ether_payload_of_parts link [] = option_and_then link_ether_payload link
 ether_payload_of_parts link (extension ∷ others) =

@@ -77,7 +77,8 @@ abbrev pub ip_refusal : ℕ → IpSliceError → SliceError
 ip_refusal offset (ip_error.Len error) = len_refusal offset error
 ip_refusal offset (ip_error.IpHeaders error) = ip_content_refusal error
 
--- a refusal of the transport layer, in a payload whose end this set and that lies `offset` bytes behind the frame's start
+-- a refusal of the transport layer, in a payload whose end this set and that lies `offset` bytes behind the frame's
+-- start
 abbrev pub transport_refusal : ℕ → LenSource → TransportError → SliceError
 transport_refusal offset source (transport_error.Len error) = Len (behind_header offset source error)
 transport_refusal offset source (transport_error.Content error) = Tcp error

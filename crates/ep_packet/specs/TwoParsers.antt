@@ -18,8 +18,8 @@ HasNoSecondKind (Some (ipv4 header extensions payload)) = ⊤
 HasNoSecondKind (Some (ipv6 header extensions payload)) = NoKindTwice [] extensions
 HasNoSecondKind (Some (arp packet)) = ⊤
 
--- The payloads behind a transport header, in the reading of slices and in that of headers, are the same. The length field
--- of UDP cuts the first alone, which is a beginning of the second.
+-- The payloads behind a transport header, in the reading of slices and in that of headers, are the same. The length
+-- field of UDP cuts the first alone, which is a beginning of the second.
 abbrev pub PayloadAgrees : TransportHeader → List ℕ → List ℕ → Type 0
 PayloadAgrees (header.Udp datagram) payload other = BeginsWith other payload
 PayloadAgrees (header.Tcp segment) payload other = payload ≡ other

@@ -1,6 +1,7 @@
 //! The errors of whole packets.
 
 mod headers_write_error;
+mod layer_errors;
 mod net_set_next_header_error;
 mod slice_error;
 

@@ -67,10 +67,10 @@ pub fn frame_bytes()
     ep_transport::laws::transport_bytes();
 }
 
-/// A cut says how much is missing. Where bytes are refused for a length whose limit is the bytes at hand, of a layer that is
-/// no timestamp of ICMP, in a frame without a MACsec short length above 0 before that layer, the offset plus `len` is the
-/// number of bytes, and `required_len` is more than `len` (`counts`). With any bytes behind them, of which there are at
-/// least `required_len` less `len`, they are not refused by that row again (`not_again`).
+/// A cut says how much is missing. Where bytes are refused for a length whose limit is the bytes at hand, of a layer
+/// that is no timestamp of ICMP, in a frame without a MACsec short length above 0 before that layer, the offset plus
+/// `len` is the number of bytes, and `required_len` is more than `len` (`counts`). With any bytes behind them, of which
+/// there are at least `required_len` less `len`, they are not refused by that row again (`not_again`).
 pub fn tell_missing()
     ensures counts { (reading : Reading) (entry : Entry) (bytes : List ℕ) (error : LenError)
         → RefusesFrameIn reading entry bytes (slice_error.Len error) → HasNoShortLength entry bytes

@@ -1,7 +1,18 @@
 //! The net layer of a sliced packet.
 
+ghost use Rattle.std.specs.Prelude.{◌≡◌, ◌<◌, ◌+◌, ◌^◌, length};
+ghost use Rattle.ep_ext.specs.ExtensionParts.{part_len};
+ghost use Rattle.ep_ext.specs.Ipv6Slices.{extension_slice_bytes, extension_slice_part, ipv6_slice_parts};
+ghost use Rattle.ep_ip.specs.Ipv4.{ipv4_header_len};
+ghost use Rattle.ep_ip.specs.Ipv4Slices.{ipv4_slice_extensions, ipv4_slice_header};
+ghost use Rattle.ep_link.specs.Arp.{arp_len};
+ghost use Rattle.ep_link.specs.ArpSlices.{arp_slice_packet};
+ghost use Rattle.ep_packet.specs.Layers.{net_layer_of};
+ghost use Rattle.ep_packet.specs.Offsets.{net_layer_len, parts_len};
+
 use ep_base::IpPayloadSlice;
-use ep_ip::{IpSlice, Ipv4Slice, Ipv6Slice};
+use ep_ext::{Ipv6ExtensionSlice, Ipv6ExtensionsSlice};
+use ep_ip::{IpSlice, Ipv4Slice, Ipv6Header, Ipv6Slice};
 use ep_link::ArpPacketSlice;
 
 /// The net layer of a sliced packet.
@@ -19,10 +30,12 @@ pub enum NetSlice<'a> {
 pub type InternetSlice<'a> = NetSlice<'a>;
 
 impl<'a> NetSlice<'a> {
-    ghost use Rattle.std.specs.Prelude.{◌≡◌};
+    ghost use Rattle.std.specs.Prelude.{◌≡◌, ◌<◌, ◌+◌, ◌^◌, ℕ, List, Some, length};
     ghost use Rattle.std.specs.Option.{option_copied, option_map};
     ghost use Rattle.ep_base.specs.IpPayload.{ip_payload_of};
+    ghost use Rattle.ep_packet.specs.FrameBytes.{EncodesNet};
     ghost use Rattle.ep_packet.specs.Layers.{net_layer_of, net_payload};
+    ghost use Rattle.ep_packet.specs.Offsets.{net_layer_len};
     ghost use Rattle.ep_packet.specs.NetSlices.{is_ip_layer, is_ipv4_layer, is_ipv6_layer, is_arp_layer, ipv4_in, ipv6_in, arp_in};
 
     /// Whether the layer is IP, of either version.
@@ -100,6 +113,81 @@ impl<'a> NetSlice<'a> {
             NetSlice::Ipv6(packet) => Some(packet.payload()),
             NetSlice::Arp(_) => None,
         }
+    }
+
+    /// The number of bytes of the IP header with its extension headers, behind which the payload begins, or of the ARP
+    /// packet.
+    pub fn header_len(&self) -> usize
+        ensures value { result ≡ net_layer_len (net_layer_of self.now) }
+        ensures bytes { (bytes : List ℕ) → EncodesNet (Some (net_layer_of self.now)) bytes → length bytes ≡ result }
+        ensures bound { result < 2 ^ 63 + 64 }
+    {
+        headers_len(self)
+    }
+}
+
+/// The number of bytes of the headers of a net layer.
+fn headers_len(net: &NetSlice<'_>) -> usize
+    ensures value { result ≡ net_layer_len (net_layer_of net.now) }
+    ensures bound { result < 2 ^ 63 + 64 }
+{
+    match net {
+        NetSlice::Ipv4(packet) => ipv4_len(packet),
+        NetSlice::Ipv6(packet) => Ipv6Header::LEN + extensions_len(packet.extensions()),
+        NetSlice::Arp(packet) => arp_len(packet),
+    }
+}
+
+/// The number of bytes of an ARP packet.
+fn arp_len(packet: &ArpPacketSlice<'_>) -> usize
+    ensures value { result ≡ arp_len (arp_slice_packet packet.now) }
+    ensures bound { result < 2 ^ 63 }
+{
+    let bytes = packet.slice();
+    let len = packet.packet_len();
+    prove!(len == bytes.len());
+    len
+}
+
+/// The number of bytes of the headers of an IPv4 packet.
+fn ipv4_len(packet: &Ipv4Slice<'_>) -> usize
+    ensures value { result
+        ≡ ipv4_header_len (ipv4_slice_header packet.now) + parts_len (ipv4_slice_extensions packet.now) }
+    ensures bound { result < 2 ^ 63 + 64 }
+{
+    let header_len = packet.header().header_len();
+    match &packet.extensions().auth {
+        Some(header) => header_len + header.slice().len(),
+        None => header_len,
+    }
+}
+
+/// The number of bytes of the extension headers of an IPv6 packet.
+fn extensions_len(extensions: Ipv6ExtensionsSlice<'_>) -> usize
+    ensures value { result ≡ parts_len (ipv6_slice_parts extensions.entry) }
+    ensures bound { result < 2 ^ 63 }
+{
+    let all = extensions.slice();
+    let mut len = 0;
+    for extension in extensions {
+        len += extension_len(&extension);
+    }
+    prove!(len <= all.len());
+    len
+}
+
+/// The number of bytes of an extension header.
+#[inline]
+fn extension_len(extension: &Ipv6ExtensionSlice<'_>) -> usize
+    ensures value { result ≡ part_len (extension_slice_part extension.now) }
+    ensures bytes { result ≡ length (extension_slice_bytes extension.now) }
+{
+    match extension {
+        Ipv6ExtensionSlice::HopByHop(header) => header.header_len(),
+        Ipv6ExtensionSlice::Routing(header) => header.header_len(),
+        Ipv6ExtensionSlice::Fragment(header) => header.header_len(),
+        Ipv6ExtensionSlice::DestinationOptions(header) => header.header_len(),
+        Ipv6ExtensionSlice::Authentication(header) => header.header_len(),
     }
 }
 

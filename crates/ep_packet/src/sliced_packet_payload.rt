@@ -1,11 +1,20 @@
 //! The payload of a sliced packet's last layer.
 
-ghost use Rattle.std.specs.Prelude.{◌≡◌};
-ghost use Rattle.ep_packet.specs.FrameBytes.{last_payload, link_payload, payload_behind};
-ghost use Rattle.ep_packet.specs.Layers.{layers_of};
+ghost use Rattle.std.specs.Prelude.{◌≡◌, ◌≤◌, ◌<◌, ◌+◌, ◌^◌, ℕ, List, length, map, drop};
+ghost use Rattle.std.specs.Option.{option_map};
+ghost use Rattle.ep_link.specs.LinkExtensions.{link_extension_of};
+ghost use Rattle.ep_link.specs.LinkSlices.{link_layer_of};
+ghost use Rattle.ep_transport.specs.TransportHeaders.{transport_header_len};
+ghost use Rattle.ep_transport.specs.TransportParts.{transport_layer_of};
+ghost use Rattle.ep_packet.specs.FrameBytes.{AreInOrder, last_payload, link_payload, payload_behind};
+ghost use Rattle.ep_packet.specs.Offsets.{link_len, net_len, payload_offset, tag_len, tags_len, transport_len};
+ghost use Rattle.ep_packet.specs.ShownBytes.{BeginsWith};
+ghost use Rattle.ep_packet.specs.Layers.{layers_of, net_layer_of};
 
 use crate::net_slice::NetSlice;
 use crate::sliced_packet::SlicedPacket;
+use ep_link::{LinkExtSlice, LinkSlice};
+use ep_transport::{TcpHeader, TransportSlice};
 
 impl<'a> SlicedPacket<'a> {
     /// The bytes of the payload of the last layer; none behind an ARP packet.
@@ -24,6 +33,18 @@ impl<'a> SlicedPacket<'a> {
         }
     }
 
+    /// How many bytes of the packet lie before its payload: those of its headers.
+    pub fn payload_offset(&self) -> usize
+        ensures value { result ≡ payload_offset (layers_of self.now) }
+        ensures place { let layers = layers_of self.now in
+            (bytes : List ℕ) → AreInOrder bytes layers → BeginsWith (drop result bytes) (last_payload layers) }
+    {
+        link_len(&self.link)
+            + tags_len(self.link_exts.as_slice())
+            + net_len(&self.net)
+            + transport_len(&self.transport)
+    }
+
     /// The bytes behind the last link extension, or else behind the link header.
     fn open_payload(&self) -> &'a [u8]
         ensures { let layers = layers_of self.now in
@@ -36,5 +57,73 @@ impl<'a> SlicedPacket<'a> {
             Some(link) => link.payload_slice(),
             None => &[],
         }
+    }
+}
+
+/// The number of bytes of the tags of link extensions.
+fn tags_len(extensions: &[LinkExtSlice<'_>]) -> usize
+    requires { length extensions.now ≤ 3 }
+    ensures value { result ≡ tags_len (map link_extension_of extensions.now) }
+    ensures bound { result ≤ 48 }
+{
+    let mut len = 0;
+    for extension in extensions {
+        len += tag_len(extension);
+    }
+    len
+}
+
+/// The number of bytes of the tag of a link extension.
+fn tag_len(extension: &LinkExtSlice<'_>) -> usize
+    ensures value { result ≡ tag_len (link_extension_of extension.now) }
+    ensures bound { result ≤ 16 }
+{
+    extension.header_len()
+}
+
+/// The number of bytes of the link header.
+fn link_len(link: &Option<LinkSlice<'_>>) -> usize
+    ensures value { result ≡ link_len (option_map link_layer_of link.now) }
+    ensures bound { result ≤ 16 }
+{
+    match link {
+        Some(link) => link.header_len(),
+        None => 0,
+    }
+}
+
+/// The number of bytes of the headers of the net layer.
+fn net_len(net: &Option<NetSlice<'_>>) -> usize
+    ensures value { result ≡ net_len (option_map net_layer_of net.now) }
+    ensures bound { result < 2 ^ 63 + 64 }
+{
+    match net {
+        Some(net) => net.header_len(),
+        None => 0,
+    }
+}
+
+/// The number of bytes of the transport header.
+fn transport_len(transport: &Option<TransportSlice<'_>>) -> usize
+    ensures value { result ≡ transport_len (option_map transport_layer_of transport.now) }
+    ensures bound { result ≤ 60 }
+{
+    match transport {
+        Some(layer) => transport_header_len(layer),
+        None => 0,
+    }
+}
+
+/// The same of a layer that is there.
+fn transport_header_len(layer: &TransportSlice<'_>) -> usize
+    ensures value { result ≡ transport_header_len (transport_layer_of layer.now).header }
+    ensures bound { result ≤ 60 }
+{
+    match layer {
+        TransportSlice::Udp(datagram) => datagram.header_len(),
+        TransportSlice::Tcp(segment) => TcpHeader::MIN_LEN + segment.options().len(),
+        // Its bytes have a bound, which its length alone does not tell.
+        TransportSlice::Icmpv4(message) => message.to_header().to_bytes().len(),
+        TransportSlice::Icmpv6(message) => message.header_len(),
     }
 }

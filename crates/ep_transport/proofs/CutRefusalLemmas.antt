@@ -101,16 +101,11 @@ timestamp_beside : {E : Type 0} (named : LenError → E) (front back : List ℕ)
     → BesideRows (BesideAs named front back)
     (icmpv4_timestamp_rows of (length front)) (icmpv4_timestamp_rows of (length (front ++ back)))
 timestamp_beside named front back None = tt
-timestamp_beside named front back (Some kind.EchoReply) = tt
-timestamp_beside named front back (Some kind.DestinationUnreachable) = tt
-timestamp_beside named front back (Some kind.Redirect) = tt
-timestamp_beside named front back (Some kind.EchoRequest) = tt
-timestamp_beside named front back (Some kind.TimeExceeded) = tt
-timestamp_beside named front back (Some kind.ParameterProblem) = tt
 timestamp_beside named front back (Some kind.TimestampRequest) =
     λ exact. (exact_row named front back layer.Icmpv4Timestamp exact, λ last. tt)
 timestamp_beside named front back (Some kind.TimestampReply) =
     λ exact. (exact_row named front back layer.Icmpv4TimestampReply exact, λ last. tt)
+timestamp_beside named front back (Some _) = tt
 
 icmpv4_beside : {E : Type 0} (named : LenError → E) (front back : List ℕ)
     → BesideRows (BesideAs named front back) (icmpv4_rows front) (icmpv4_rows (front ++ back))

@@ -86,37 +86,22 @@ type_same : (found : Option Icmpv4Kind) (bytes : List ℕ)
     → slice_index bytes 0 ≡ icmpv4_type_u8 (icmpv4_value_of found bytes)
 type_same None bytes in_row = refl
 type_same (Some kind.EchoReply) bytes in_row = in_row.0
-type_same (Some kind.DestinationUnreachable) bytes in_row = in_row.0
-type_same (Some kind.Redirect) bytes in_row = in_row.0
-type_same (Some kind.EchoRequest) bytes in_row = in_row.0
-type_same (Some kind.TimeExceeded) bytes in_row = in_row.0
-type_same (Some kind.ParameterProblem) bytes in_row = in_row.0
-type_same (Some kind.TimestampRequest) bytes in_row = in_row.0
-type_same (Some kind.TimestampReply) bytes in_row = in_row.0
+type_same (Some _) bytes in_row = in_row.0
 
 code_same : (found : Option Icmpv4Kind) (bytes : List ℕ)
     → IsInRow icmpv4_row found (slice_index bytes 0) (slice_index bytes 1)
     → slice_index bytes 1 ≡ icmpv4_code_u8 (icmpv4_value_of found bytes)
 code_same None bytes in_row = refl
-code_same (Some kind.EchoReply) bytes in_row = omega (arith, in_row.1)
 code_same (Some kind.DestinationUnreachable) bytes in_row = refl
 code_same (Some kind.Redirect) bytes in_row = refl
-code_same (Some kind.EchoRequest) bytes in_row = omega (arith, in_row.1)
 code_same (Some kind.TimeExceeded) bytes in_row = exceeded_same (slice_index bytes 1) in_row.1
 code_same (Some kind.ParameterProblem) bytes in_row = refl
-code_same (Some kind.TimestampRequest) bytes in_row = omega (arith, in_row.1)
-code_same (Some kind.TimestampReply) bytes in_row = omega (arith, in_row.1)
+code_same (Some _) bytes in_row = omega (arith, in_row.1)
 
 kind_same : (found : Option Icmpv4Kind) (bytes : List ℕ) → icmpv4_kind (icmpv4_value_of found bytes) ≡ found
 kind_same None bytes = refl
 kind_same (Some kind.EchoReply) bytes = refl
-kind_same (Some kind.DestinationUnreachable) bytes = refl
-kind_same (Some kind.Redirect) bytes = refl
-kind_same (Some kind.EchoRequest) bytes = refl
-kind_same (Some kind.TimeExceeded) bytes = refl
-kind_same (Some kind.ParameterProblem) bytes = refl
-kind_same (Some kind.TimestampRequest) bytes = refl
-kind_same (Some kind.TimestampReply) bytes = refl
+kind_same (Some _) bytes = refl
 
 -- the bytes 4 to 7, of which the last two are an mtu where there is one, or the first a pointer
 mtu_same : (used : Bool) (bytes : List ℕ) → AreBytes bytes

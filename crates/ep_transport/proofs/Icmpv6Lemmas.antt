@@ -29,31 +29,21 @@ type_same : (found : Option Icmpv6Kind) (bytes : List ℕ)
     → slice_index bytes 0 ≡ icmpv6_type_u8 (icmpv6_value_of found bytes)
 type_same None bytes in_row = refl
 type_same (Some kind.DestinationUnreachable) bytes in_row = in_row.0
-type_same (Some kind.PacketTooBig) bytes in_row = in_row.0
-type_same (Some kind.TimeExceeded) bytes in_row = in_row.0
-type_same (Some kind.ParameterProblem) bytes in_row = in_row.0
-type_same (Some kind.EchoRequest) bytes in_row = in_row.0
-type_same (Some kind.EchoReply) bytes in_row = in_row.0
+type_same (Some _) bytes in_row = in_row.0
 
 code_same : (found : Option Icmpv6Kind) (bytes : List ℕ)
     → IsInRow icmpv6_row found (slice_index bytes 0) (slice_index bytes 1)
     → slice_index bytes 1 ≡ icmpv6_code_u8 (icmpv6_value_of found bytes)
 code_same None bytes in_row = refl
 code_same (Some kind.DestinationUnreachable) bytes in_row = refl
-code_same (Some kind.PacketTooBig) bytes in_row = omega (arith, in_row.1)
 code_same (Some kind.TimeExceeded) bytes in_row = exceeded_same (slice_index bytes 1) in_row.1
 code_same (Some kind.ParameterProblem) bytes in_row = refl
-code_same (Some kind.EchoRequest) bytes in_row = omega (arith, in_row.1)
-code_same (Some kind.EchoReply) bytes in_row = omega (arith, in_row.1)
+code_same (Some _) bytes in_row = omega (arith, in_row.1)
 
 kind_same : (found : Option Icmpv6Kind) (bytes : List ℕ) → icmpv6_kind (icmpv6_value_of found bytes) ≡ found
 kind_same None bytes = refl
 kind_same (Some kind.DestinationUnreachable) bytes = refl
-kind_same (Some kind.PacketTooBig) bytes = refl
-kind_same (Some kind.TimeExceeded) bytes = refl
-kind_same (Some kind.ParameterProblem) bytes = refl
-kind_same (Some kind.EchoRequest) bytes = refl
-kind_same (Some kind.EchoReply) bytes = refl
+kind_same (Some _) bytes = refl
 
 number_same : (bytes : List ℕ) → AreBytes bytes
     → four_at bytes ≡ icmpv6_rest_with [] (message.PacketTooBig (long_at bytes 4))

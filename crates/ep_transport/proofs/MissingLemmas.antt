@@ -49,14 +49,9 @@ reply_row bound n = (λ at_hand inexact. absurd (inexact (inr refl)), inl refl)
 
 timestamp_rows : (of : Option Icmpv4Kind) (bound n : ℕ) → AllWhere (Counts bound) (icmpv4_timestamp_rows of n)
 timestamp_rows None bound n = tt
-timestamp_rows (Some kind.EchoReply) bound n = tt
-timestamp_rows (Some kind.DestinationUnreachable) bound n = tt
-timestamp_rows (Some kind.Redirect) bound n = tt
-timestamp_rows (Some kind.EchoRequest) bound n = tt
-timestamp_rows (Some kind.TimeExceeded) bound n = tt
-timestamp_rows (Some kind.ParameterProblem) bound n = tt
 timestamp_rows (Some kind.TimestampRequest) bound n = (λ holds. request_row bound n, tt)
 timestamp_rows (Some kind.TimestampReply) bound n = (λ holds. reply_row bound n, tt)
+timestamp_rows (Some _) bound n = tt
 
 -- rows under another name count alike
 named : (limit : ℕ) (rows : List (Bool × LenError)) → AllWhere (Counts limit) rows

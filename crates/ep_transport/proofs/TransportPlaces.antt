@@ -24,14 +24,9 @@ AllAtStart rows = AllErrors (λ (refusal : HeaderSliceError). transport_start re
 
 timestamps_at_start : (of : Option Icmpv4Kind) (n : ℕ) → AllAtStart (rows_as error.Len (icmpv4_timestamp_rows of n))
 timestamps_at_start None n = tt
-timestamps_at_start (Some kind.EchoReply) n = tt
-timestamps_at_start (Some kind.DestinationUnreachable) n = tt
-timestamps_at_start (Some kind.Redirect) n = tt
-timestamps_at_start (Some kind.EchoRequest) n = tt
-timestamps_at_start (Some kind.TimeExceeded) n = tt
-timestamps_at_start (Some kind.ParameterProblem) n = tt
 timestamps_at_start (Some kind.TimestampRequest) n = (refl, tt)
 timestamps_at_start (Some kind.TimestampReply) n = (refl, tt)
+timestamps_at_start (Some _) n = tt
 
 -- of two tables, of which a condition takes one
 either_at_start : (condition : Bool) (rows others : List (Bool × HeaderSliceError)) → AllAtStart rows

@@ -130,6 +130,7 @@ icmpv4_message header payload = icmpv4_bytes (record header { checksum = 0 }) ++
 
 -- ---- which bytes are ICMP
 
+-- each field of a timestamp message fits its place: the identifier and the number in 16 bits, the times in 32
 pub record FitsTimestamp (times : TimestampMessage) : Type 0 where
   pub id : times.id < 2 ^ 16
   pub seq : times.seq < 2 ^ 16
@@ -201,6 +202,7 @@ RefusesIcmpv4 bytes = Refuses (icmpv4_rows bytes)
 
 -- ---- what is read
 
+-- the timestamp message whose fields stand in these bytes of a message, behind the first four (RFC 792)
 abbrev pub timestamp_of : List ℕ → TimestampMessage
 timestamp_of bytes = record {
   id = word_at bytes 4;

@@ -22,18 +22,22 @@ use Rattle.ep_transport.specs.PseudoHeaders.{udp_length_rows_ipv4, udp_length_ro
 
 -- ---- which header it is
 
+-- the header of UDP, where it is one
 abbrev pub udp_header_in : TransportHeader → Option UdpHeader
 udp_header_in (Udp header) = Some header
 udp_header_in _ = None
 
+-- the header of TCP, where it is one
 abbrev pub tcp_header_in : TransportHeader → Option TcpHeader
 tcp_header_in (Tcp header) = Some header
 tcp_header_in _ = None
 
+-- the header of ICMP, where it is one
 abbrev pub icmpv4_header_in : TransportHeader → Option Icmpv4Header
 icmpv4_header_in (Icmpv4 header) = Some header
 icmpv4_header_in _ = None
 
+-- the header of ICMPv6, where it is one
 abbrev pub icmpv6_header_in : TransportHeader → Option Icmpv6Header
 icmpv6_header_in (Icmpv6 header) = Some header
 icmpv6_header_in _ = None

@@ -90,16 +90,16 @@ pub fn transport()
         (RefusesTransportPart reading number fragmented bytes) }
 {}
 
-/// The bytes of an IP payload have one transport layer, or none, and one part that its cut leaves, or are refused with one
-/// error, and never both.
+/// The bytes of an IP payload have one transport layer, or none, and one part that its cut leaves, or are refused with
+/// one error, and never both.
 pub fn transport_cut()
     ensures { (reading : Reading) (number : ℕ) (fragmented : Bool) (bytes : List ℕ) → AreBytes bytes
         → IsDecided (IsTransportCut reading number fragmented bytes)
         (RefusesTransportPart reading number fragmented bytes) }
 {}
 
-/// What is refused in the reading of headers is refused in that of slices, with the same error. Slices alone refuse by the
-/// length field of UDP, and bytes of a number of no header are never refused.
+/// What is refused in the reading of headers is refused in that of slices, with the same error. Slices alone refuse by
+/// the length field of UDP, and bytes of a number of no header are never refused.
 pub fn transport_of_headers()
     ensures refused { (number : ℕ) (fragmented : Bool) (bytes : List ℕ) (error : HeaderSliceError)
         → RefusesTransportPart headers number fragmented bytes error
@@ -111,9 +111,10 @@ pub fn transport_of_headers()
         → HasNoHeader number → ¬ RefusesTransportPart reading number fragmented bytes error }
 {}
 
-/// A refusal for want of bytes at hand counts the bytes that are there, and with as many behind them as are missing, the
-/// bytes are not refused by that row again: for each layer but timestamps of ICMP, which have exactly 20 bytes, and for the
-/// transport layer of any number in each reading. Beside the end of the bytes, the length field of UDP alone is a limit.
+/// A refusal for want of bytes at hand counts the bytes that are there, and with as many behind them as are missing,
+/// the bytes are not refused by that row again: for each layer but timestamps of ICMP, which have exactly 20 bytes, and
+/// for the transport layer of any number in each reading. Beside the end of the bytes, the length field of UDP alone is
+/// a limit.
 pub fn tell_missing()
     ensures udp_header { TellsMissing RefusesUdpHeader }
     ensures udp { TellsMissing RefusesUdp }

@@ -21,11 +21,17 @@ pub enum TransportSlice<'a> {
 }
 
 impl<'a> TransportSlice<'a> {
-    ghost use Rattle.std.specs.Prelude.{◌≡◌, ◌++◌, IfOk, IfErr, IfSome, IsOkAnd, List, ℕ, Option};
-    ghost use Rattle.std.specs.Option.{option_map};
+    ghost use Rattle.std.specs.Prelude.{◌≡◌, ◌++◌, None, IfOk, IfErr, IfSome, IsOkAnd, List, ℕ, Option};
+    ghost use Rattle.std.specs.Option.{MatchOption, option_map};
     ghost use Rattle.ep_base.specs.Layer.{slices};
-    ghost use Rattle.ep_transport.specs.TransportParts.{TransportLayer, IsTransportPart, RefusesTransportPart, transport_layer_of, transport_slice_bytes, transport_payload};
+    ghost use Rattle.ep_transport.specs.TransportParts.{TransportLayer, transport_layer, IsTransportPart, RefusesTransportPart, transport_layer_of, transport_slice_bytes, transport_payload};
     ghost use Rattle.ep_transport.specs.TransportHeaders.{transport_header_len};
+    ghost use Rattle.ep_transport.specs.TransportHeaders.{udp_header_in, tcp_header_in, icmpv4_header_in, icmpv6_header_in};
+    ghost use Rattle.ep_transport.specs.UdpSlices.{udp_slice_header, udp_slice_payload};
+    ghost use Rattle.ep_transport.specs.TcpSlices.{tcp_slice_header, tcp_slice_payload};
+    ghost use Rattle.ep_transport.specs.Icmpv4Slices.{icmpv4_slice_header, icmpv4_slice_payload};
+    ghost use Rattle.ep_transport.specs.Icmpv6Slices.{icmpv6_slice_header, icmpv6_slice_payload};
+    ghost use Rattle.ep_transport.specs.declared.transport_header.TransportHeader.TheVariants as header;
 
     /// The transport layer at the front of an IP payload of this protocol number. There is none in a fragment, nor
     /// where the number is none whose header is read.
@@ -125,6 +131,58 @@ impl<'a> TransportSlice<'a> {
             TransportSlice::Tcp(segment) => segment.header_len(),
             TransportSlice::Icmpv4(message) => message.header_len(),
             TransportSlice::Icmpv6(message) => message.header_len(),
+        }
+    }
+
+    /// The UDP datagram, if the layer is one.
+    #[inline]
+    pub fn udp(&self) -> Option<&UdpSlice<'a>>
+        ensures { let layer = transport_layer_of self.now in MatchOption result (udp_header_in layer.header ≡ None)
+            (λ shown. layer ≡ transport_layer (header.Udp (udp_slice_header shown.now))
+            (udp_slice_payload shown.now)) }
+    {
+        match self {
+            TransportSlice::Udp(layer) => Some(layer),
+            TransportSlice::Tcp(_) | TransportSlice::Icmpv4(_) | TransportSlice::Icmpv6(_) => None,
+        }
+    }
+
+    /// The TCP segment, if the layer is one.
+    #[inline]
+    pub fn tcp(&self) -> Option<&TcpSlice<'a>>
+        ensures { let layer = transport_layer_of self.now in MatchOption result (tcp_header_in layer.header ≡ None)
+            (λ shown. layer ≡ transport_layer (header.Tcp (tcp_slice_header shown.now))
+            (tcp_slice_payload shown.now)) }
+    {
+        match self {
+            TransportSlice::Tcp(layer) => Some(layer),
+            TransportSlice::Udp(_) | TransportSlice::Icmpv4(_) | TransportSlice::Icmpv6(_) => None,
+        }
+    }
+
+    /// The ICMP message, if the layer is one.
+    #[inline]
+    pub fn icmpv4(&self) -> Option<&Icmpv4Slice<'a>>
+        ensures { let layer = transport_layer_of self.now in MatchOption result (icmpv4_header_in layer.header ≡ None)
+            (λ shown. layer ≡ transport_layer (header.Icmpv4 (icmpv4_slice_header shown.now))
+            (icmpv4_slice_payload shown.now)) }
+    {
+        match self {
+            TransportSlice::Icmpv4(layer) => Some(layer),
+            TransportSlice::Udp(_) | TransportSlice::Tcp(_) | TransportSlice::Icmpv6(_) => None,
+        }
+    }
+
+    /// The ICMPv6 message, if the layer is one.
+    #[inline]
+    pub fn icmpv6(&self) -> Option<&Icmpv6Slice<'a>>
+        ensures { let layer = transport_layer_of self.now in MatchOption result (icmpv6_header_in layer.header ≡ None)
+            (λ shown. layer ≡ transport_layer (header.Icmpv6 (icmpv6_slice_header shown.now))
+            (icmpv6_slice_payload shown.now)) }
+    {
+        match self {
+            TransportSlice::Icmpv6(layer) => Some(layer),
+            TransportSlice::Udp(_) | TransportSlice::Tcp(_) | TransportSlice::Icmpv4(_) => None,
         }
     }
 }

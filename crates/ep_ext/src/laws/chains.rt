@@ -33,9 +33,9 @@ pub fn chain_without_second_kind()
         → IsExtensionChain version headers number bytes chain }
 {}
 
-/// A chain in the reading of headers is one in that of slices too, unless it is of IPv6 and stops where a header of a kind
-/// that was taken would come next. What is refused in the reading of headers is refused in that of slices, with the same
-/// error.
+/// A chain in the reading of headers is one in that of slices too, unless it is of IPv6 and stops where a header of a
+/// kind that was taken would come next. What is refused in the reading of headers is refused in that of slices, with
+/// the same error.
 pub fn chain_of_headers()
     ensures chain { (version : IpVersion) (number : ℕ) (bytes : List ℕ) (chain : ExtensionChain)
         → IsExtensionChain version headers number bytes chain → IsExtensionChain version slices number bytes chain
@@ -110,8 +110,8 @@ pub fn linked_ipv6()
         (chain_of (ipv6_parts (ipv6_linked extensions last)) last.0 rest) }
 {}
 
-/// The headers that are written along the numbers have as many bytes as all headers of the value. Where the numbers lead
-/// to no further header, they are a chain, with any bytes behind them.
+/// The headers that are written along the numbers have as many bytes as all headers of the value. Where the numbers
+/// lead to no further header, they are a chain, with any bytes behind them.
 pub fn written_ipv6()
     ensures len { (extensions : Ipv6Extensions) (first : ℕ) (parts : List ExtensionPart) (last : ℕ)
         → WalksAll extensions first parts last

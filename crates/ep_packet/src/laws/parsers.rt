@@ -23,7 +23,8 @@ pub fn two_parsers()
 }
 
 /// What is refused as headers are read is refused as slices are read, with the same error. Slices alone refuse by the
-/// length field of UDP, which headers leave to the reader, or where headers stop at a second extension header of a kind.
+/// length field of UDP, which headers leave to the reader, or where headers stop at a second extension header of a
+/// kind.
 pub fn refuse_alike()
     ensures headers { (entry : Entry) (bytes : List ℕ) (error : SliceError) → RefusesFrameIn headers entry bytes error
         → RefusesFrame entry bytes error }

@@ -47,7 +47,8 @@ loop-call-preserved g c =
           (known.held decide decided)))
           ∙ sym (frame_answers-push 65535 eq decide [] reads read);
       held = λ decide decided.
-          HoldsTable-same eq c.answer_frame.new.pool _ _ (λ name. sym (table_after_read 65535 eq decide reads read name))
+          HoldsTable-same eq c.answer_frame.new.pool _ _
+          (λ name. sym (table_after_read 65535 eq decide reads read name))
           (rw known.limit
           at (c.in-Ok-answer_frame.ensures.holds read only.is decide decided
           (table_after 65535 eq decide (pool_calls reads)) (known.held decide decided)));

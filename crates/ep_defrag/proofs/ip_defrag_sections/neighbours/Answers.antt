@@ -13,7 +13,8 @@ returns-clause-near c =
     c.partition_point-to.result c.partition_point-from.ensures.bound c.partition_point-to.ensures.bound
     (IsPartitionPoint-from_clause (λ (section : IpFragRange). nat_lt section.end range.start) sections
     c.partition_point-from.result c.partition_point-from.ensures.partitioned
-    (IsPartitionedBy-ltb (λ (section : IpFragRange). section.end) sections range.start (ends_rise sections c.requires.apart))
+    (IsPartitionedBy-ltb (λ (section : IpFragRange). section.end) sections range.start
+    (ends_rise sections c.requires.apart))
     (λ a r f called. search rules))
     (IsPartitionPoint-from_clause (λ (section : IpFragRange). nat_le section.start range.end) sections
     c.partition_point-to.result c.partition_point-to.ensures.partitioned

@@ -1,9 +1,9 @@
-use Rattle.std.proofs.Common.{◌≡◌, ℕ, ◌&&◌, eqb, Option, Some, None, sym, refl, ap}
+use Rattle.std.proofs.Common.{◌≡◌, ℕ, ◌&&◌, eqb, sym, refl, ap}
 use Rattle.std.specs.Bool.{Decides}
-use Rattle.std.specs.Option.{option_eq}
-use Rattle.std.proofs.lemmas.Bool.{and_parts, and_from, eqb-true, eq-eqb, false≢true}
+use Rattle.std.proofs.lemmas.Bool.{and_parts, and_from, eqb-true, eq-eqb}
 use Rattle.std.proofs.lemmas.Bool.Decides.{Decides-eqb}
 use Rattle.std.proofs.lemmas.Slice.Eq.{slice_eq-Decides}
+use Rattle.ep_base.proofs.ComparisonLemmas.{same_option}
 use Rattle.std.specs.declared.cmp.Ordering.{Ordering}
 use Rattle.std.specs.declared.cmp.Ordering.TheVariants.{Less, Equal, Greater}
 use Rattle.std.specs.Ordering.{nat_cmp, ordering_then}
@@ -22,18 +22,11 @@ same_ranges a b = (
   λ same. and_from _ _ (eq-eqb _ _ (ap (λ range. range.start) same)) (eq-eqb _ _ (ap (λ range. range.end) same)),
 )
 
-same_ends : (a b : Option ℕ) → Decides (option_eq eqb a b) (a ≡ b)
-same_ends None None = (λ equal. refl, λ same. refl)
-same_ends None (Some end) = (λ equal. absurd (false≢true equal), λ same. absurd (cc))
-same_ends (Some end) None = (λ equal. absurd (false≢true equal), λ same. absurd (cc))
-same_ends (Some end) (Some other) =
-    (λ equal. ap (λ (number : ℕ). Some number) (eqb-true end other equal), λ same. eq-eqb end other (cc))
-
 pub returns-clause-equal_buffers : goal.returns-clause-equal_buffers
 returns-clause-equal_buffers c a b =
     let bytes = slice_eq-Decides Decides-eqb a.bytes.items b.bytes.items _ refl in
     let sections = slice_eq-Decides same_ranges a.sections.items b.sections.items _ refl in
-    let end = same_ends a.end b.end in (
+    let end = same_option _ a.end b.end (λ x y is_x is_y. Decides-eqb x y) in (
       λ equal.
           let number = and_parts _ _ equal in
           let written = and_parts _ _ number.1 in
@@ -60,21 +53,10 @@ then_equal Greater = refl
 pub returns-clause-errors : goal.returns-clause-errors
 returns-clause-errors c (UnalignedFragmentPayloadLen offset len) (UnalignedFragmentPayloadLen offset' len') =
     ap (ordering_then (nat_cmp offset offset')) (then_equal (nat_cmp len len'))
-returns-clause-errors c (UnalignedFragmentPayloadLen offset len) (SegmentTooBig offset' len' max') = refl
-returns-clause-errors c (UnalignedFragmentPayloadLen offset len) (ConflictingEnd previous' new') = refl
-returns-clause-errors c (UnalignedFragmentPayloadLen offset len) (AllocationFailure len') = refl
-returns-clause-errors c (SegmentTooBig offset len max) (UnalignedFragmentPayloadLen offset' len') = refl
 returns-clause-errors c (SegmentTooBig offset len max) (SegmentTooBig offset' len' max') =
     ap (λ order. ordering_then (nat_cmp offset offset') (ordering_then (nat_cmp len len') order))
     (then_equal (nat_cmp max max'))
-returns-clause-errors c (SegmentTooBig offset len max) (ConflictingEnd previous' new') = refl
-returns-clause-errors c (SegmentTooBig offset len max) (AllocationFailure len') = refl
-returns-clause-errors c (ConflictingEnd previous new) (UnalignedFragmentPayloadLen offset' len') = refl
-returns-clause-errors c (ConflictingEnd previous new) (SegmentTooBig offset' len' max') = refl
 returns-clause-errors c (ConflictingEnd previous new) (ConflictingEnd previous' new') =
     ap (ordering_then (nat_cmp previous previous')) (then_equal (nat_cmp new new'))
-returns-clause-errors c (ConflictingEnd previous new) (AllocationFailure len') = refl
-returns-clause-errors c (AllocationFailure len) (UnalignedFragmentPayloadLen offset' len') = refl
-returns-clause-errors c (AllocationFailure len) (SegmentTooBig offset' len' max') = refl
-returns-clause-errors c (AllocationFailure len) (ConflictingEnd previous' new') = refl
 returns-clause-errors c (AllocationFailure len) (AllocationFailure len') = then_equal (nat_cmp len len')
+returns-clause-errors c a b = refl

@@ -13,5 +13,6 @@ returns-clause-not_empty c a b fragments others number held held' all all' =
     let equal = c.comparisons.ensures.equal_buffers a b in (
       λ same. (alike_from_same a b fragments others held held' (equal.0 same)).0,
       λ alike. equal.1
-          (same_from_alike a b fragments others number held held' alike (touch_from_fill fragments others alike all all')),
+          (same_from_alike a b fragments others number held held' alike
+          (touch_from_fill fragments others alike all all')),
     )

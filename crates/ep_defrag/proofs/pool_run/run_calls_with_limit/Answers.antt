@@ -114,5 +114,6 @@ returns-clause-cuts g c = λ decide decided at call answer is_call is_answer pay
     let all : c.loop-call.yielded ≡ c.args.calls.items =
     all_taken c.loop-call.yielded c.loop-call.call-iterator.rest.items c.args.calls.items c.loop-call.invariant.whole
     (sym c.loop-call.call-iterator.rest.ok.0 ∙ c.in-None.ensures.steps.0) in
-    cuts_at c.args.max g.CustomChannelId.PartialEq.eq decide plain_call plain_answer c.args.calls.items c.loop-call.answers.items
+    cuts_at c.args.max g.CustomChannelId.PartialEq.eq decide plain_call plain_answer c.args.calls.items
+    c.loop-call.answers.items
     (rw all at (c.loop-call.invariant.answered decide decided)) at call answer is_call is_answer payload cuts

@@ -14,7 +14,10 @@ returns-then-is_want_of_memory-clause-memory c accepted held =
     let fragment = fragment_with inside.offset inside.more_fragments inside.payload.now in
     rw (← c.fragment.view_is)
     (elim (c.in-Err.ensures.refused accepted held) [
-      | inl refused ↦ absurd (false≢true (sym (no_memory 65535 (end_of accepted) (reach_of accepted) fragment c.in-Err.error refused) ∙ wanted))
+      | inl refused ↦ absurd
+          (false≢true (sym
+          (no_memory 65535 (end_of accepted) (reach_of accepted) fragment c.in-Err.error refused)
+          ∙ wanted))
       | inr wanting ↦ wanting.0
     ])
 

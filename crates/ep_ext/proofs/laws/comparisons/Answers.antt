@@ -1,7 +1,8 @@
 use Rattle.std.proofs.Common.{ap}
-use Rattle.std.proofs.lemmas.Bool.Decides.{Decides-and, Decides-like}
+use Rattle.std.proofs.lemmas.Bool.Decides.{Decides-like}
+use Rattle.ep_base.proofs.ComparisonLemmas.{same_option, four_and}
 use Rattle.ep_ext.specs.ExtensionParts.{hop_by_hop, destination_options, authentication}
-use Rattle.ep_ext.proofs.Comparisons.{same_fragment, same_ip_auth, same_raw_extension, same_routing, same_option, there_fits, fit_each, fit_routing}
+use Rattle.ep_ext.proofs.Comparisons.{same_fragment, same_ip_auth, same_raw_extension, same_routing, there_fits, fit_each, fit_routing}
 use Rattle.ep_ext.proofs.laws.comparisons.Goals as goal
 
 pub returns-clause-fragment_header : goal.returns-clause-fragment_header
@@ -28,27 +29,27 @@ returns-clause-ipv6 c a b fits other =
     let g = fit_each b other in
     Decides-like _ (λ all i. record {
       hop_by_hop_options = all.0 i;
-      destination_options = all.1.0 i;
-      routing = all.1.1.0 i;
-      fragment = all.1.1.1.0 i;
-      auth = all.1.1.1.1 i;
+      destination_options = all.1 i;
+      routing = all.2 i;
+      fragment = all.3 i;
+      auth = all.4 i;
     })
     (λ same. (
       ap (λ e. e.hop_by_hop_options) same,
-      (
-        ap (λ e. e.destination_options) same,
-        (ap (λ e. e.routing) same, (ap (λ e. e.fragment) same, ap (λ e. e.auth) same)),
-      ),
+      ap (λ e. e.destination_options) same,
+      ap (λ e. e.routing) same,
+      ap (λ e. e.fragment) same,
+      ap (λ e. e.auth) same,
     ))
-    (Decides-and _ _ (same_option _ a.hop_by_hop_options b.hop_by_hop_options
+    (four_and (same_option _ a.hop_by_hop_options b.hop_by_hop_options
     (λ x y is_x is_y. same_raw_extension x y (there_fits hop_by_hop a.hop_by_hop_options x f.hop is_x)
     (there_fits hop_by_hop b.hop_by_hop_options y g.hop is_y)))
-    (Decides-and _ _ (same_option _ a.destination_options b.destination_options
+    (same_option _ a.destination_options b.destination_options
     (λ x y is_x is_y. same_raw_extension x y (there_fits destination_options a.destination_options x f.destination is_x)
     (there_fits destination_options b.destination_options y g.destination is_y)))
-    (Decides-and _ _ (same_option _ a.routing b.routing
+    (same_option _ a.routing b.routing
     (λ x y is_x is_y. same_routing x y (fit_routing a x f is_x) (fit_routing b y g is_y)))
-    (Decides-and _ _ (same_option _ a.fragment b.fragment (λ x y is_x is_y. same_fragment x y))
+    (same_option _ a.fragment b.fragment (λ x y is_x is_y. same_fragment x y))
     (same_option _ a.auth b.auth
     (λ x y is_x is_y. same_ip_auth x y (there_fits authentication a.auth x f.auth is_x)
-    (there_fits authentication b.auth y g.auth is_y)))))))
+    (there_fits authentication b.auth y g.auth is_y))))

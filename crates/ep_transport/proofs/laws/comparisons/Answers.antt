@@ -8,6 +8,7 @@ use Rattle.std.proofs.lemmas.Bool.Decides.{Decides-and, Decides-eqb, Decides-lik
 use Rattle.std.proofs.lemmas.Slice.Eq.{slice_eq-Decides}
 use Rattle.ep_base.specs.Padding.{padded}
 use Rattle.ep_base.proofs.BytesLemmas.{same_parts}
+use Rattle.ep_base.proofs.ComparisonLemmas.{same_option, four_and}
 use Rattle.ep_transport.specs.TcpOptionBytes.{Block}
 use Rattle.ep_transport.specs.declared.udp_header.UdpHeader.{UdpHeader}
 use Rattle.ep_transport.specs.declared.tcp_header.TcpHeader.{TcpHeader}
@@ -48,86 +49,57 @@ pub returns-clause-tcp : goal.returns-clause-tcp
 returns-clause-tcp c a b =
     Decides-like _ (λ all i. record {
       source_port = all.0 i;
-      destination_port = all.1.0 i;
-      sequence_number = all.1.1.0 i;
-      acknowledgment_number = all.1.1.1.0 i;
-      ns = all.1.1.1.1.0 i;
-      fin = all.1.1.1.1.1.0 i;
-      syn = all.1.1.1.1.1.1.0 i;
-      rst = all.1.1.1.1.1.1.1.0 i;
-      psh = all.1.1.1.1.1.1.1.1.0 i;
-      ack = all.1.1.1.1.1.1.1.1.1.0 i;
-      urg = all.1.1.1.1.1.1.1.1.1.1.0 i;
-      ece = all.1.1.1.1.1.1.1.1.1.1.1.0 i;
-      cwr = all.1.1.1.1.1.1.1.1.1.1.1.1.0 i;
-      window_size = all.1.1.1.1.1.1.1.1.1.1.1.1.1.0 i;
-      checksum = all.1.1.1.1.1.1.1.1.1.1.1.1.1.1.0 i;
-      urgent_pointer = all.1.1.1.1.1.1.1.1.1.1.1.1.1.1.1.0 i;
-      options = all.1.1.1.1.1.1.1.1.1.1.1.1.1.1.1.1 i;
+      destination_port = all.1 i;
+      sequence_number = all.2 i;
+      acknowledgment_number = all.3 i;
+      ns = all.4.0 i;
+      fin = all.4.1 i;
+      syn = all.4.2 i;
+      rst = all.4.3 i;
+      psh = all.4.4.0 i;
+      ack = all.4.4.1 i;
+      urg = all.4.4.2 i;
+      ece = all.4.4.3 i;
+      cwr = all.4.4.4.0 i;
+      window_size = all.4.4.4.1 i;
+      checksum = all.4.4.4.2 i;
+      urgent_pointer = all.4.4.4.3 i;
+      options = all.4.4.4.4 i;
     })
     (λ same. (
       ap (λ (h : TcpHeader). h.source_port) same,
+      ap (λ (h : TcpHeader). h.destination_port) same,
+      ap (λ (h : TcpHeader). h.sequence_number) same,
+      ap (λ (h : TcpHeader). h.acknowledgment_number) same,
       (
-        ap (λ (h : TcpHeader). h.destination_port) same,
+        ap (λ (h : TcpHeader). h.ns) same,
+        ap (λ (h : TcpHeader). h.fin) same,
+        ap (λ (h : TcpHeader). h.syn) same,
+        ap (λ (h : TcpHeader). h.rst) same,
         (
-          ap (λ (h : TcpHeader). h.sequence_number) same,
+          ap (λ (h : TcpHeader). h.psh) same,
+          ap (λ (h : TcpHeader). h.ack) same,
+          ap (λ (h : TcpHeader). h.urg) same,
+          ap (λ (h : TcpHeader). h.ece) same,
           (
-            ap (λ (h : TcpHeader). h.acknowledgment_number) same,
-            (
-              ap (λ (h : TcpHeader). h.ns) same,
-              (
-                ap (λ (h : TcpHeader). h.fin) same,
-                (
-                  ap (λ (h : TcpHeader). h.syn) same,
-                  (
-                    ap (λ (h : TcpHeader). h.rst) same,
-                    (
-                      ap (λ (h : TcpHeader). h.psh) same,
-                      (
-                        ap (λ (h : TcpHeader). h.ack) same,
-                        (
-                          ap (λ (h : TcpHeader). h.urg) same,
-                          (
-                            ap (λ (h : TcpHeader). h.ece) same,
-                            (
-                              ap (λ (h : TcpHeader). h.cwr) same,
-                              (
-                                ap (λ (h : TcpHeader). h.window_size) same,
-                                (
-                                  ap (λ (h : TcpHeader). h.checksum) same,
-                                  (ap (λ h. h.urgent_pointer) same, ap (λ h. h.options) same),
-                                ),
-                              ),
-                            ),
-                          ),
-                        ),
-                      ),
-                    ),
-                  ),
-                ),
-              ),
-            ),
+            ap (λ (h : TcpHeader). h.cwr) same,
+            ap (λ (h : TcpHeader). h.window_size) same,
+            ap (λ (h : TcpHeader). h.checksum) same,
+            ap (λ (h : TcpHeader). h.urgent_pointer) same,
+            ap (λ (h : TcpHeader). h.options) same,
           ),
         ),
       ),
     ))
-    (Decides-and _ _ (Decides-eqb a.source_port b.source_port)
-    (Decides-and _ _ (Decides-eqb a.destination_port b.destination_port)
-    (Decides-and _ _ (Decides-eqb a.sequence_number b.sequence_number)
-    (Decides-and _ _ (Decides-eqb a.acknowledgment_number b.acknowledgment_number)
-    (Decides-and _ _ (booleans_Decides a.ns b.ns)
-    (Decides-and _ _ (booleans_Decides a.fin b.fin)
-    (Decides-and _ _ (booleans_Decides a.syn b.syn)
-    (Decides-and _ _ (booleans_Decides a.rst b.rst)
-    (Decides-and _ _ (booleans_Decides a.psh b.psh)
-    (Decides-and _ _ (booleans_Decides a.ack b.ack)
-    (Decides-and _ _ (booleans_Decides a.urg b.urg)
-    (Decides-and _ _ (booleans_Decides a.ece b.ece)
-    (Decides-and _ _ (booleans_Decides a.cwr b.cwr)
-    (Decides-and _ _ (Decides-eqb a.window_size b.window_size)
-    (Decides-and _ _ (Decides-eqb a.checksum b.checksum)
-    (Decides-and _ _ (Decides-eqb a.urgent_pointer b.urgent_pointer)
-    (returns-clause-options c a.options b.options)))))))))))))))))
+    (four_and (Decides-eqb a.source_port b.source_port) (Decides-eqb a.destination_port b.destination_port)
+    (Decides-eqb a.sequence_number b.sequence_number) (Decides-eqb a.acknowledgment_number b.acknowledgment_number)
+    (four_and (booleans_Decides a.ns b.ns) (booleans_Decides a.fin b.fin) (booleans_Decides a.syn b.syn)
+    (booleans_Decides a.rst b.rst)
+    (four_and (booleans_Decides a.psh b.psh) (booleans_Decides a.ack b.ack) (booleans_Decides a.urg b.urg)
+    (booleans_Decides a.ece b.ece)
+    (four_and (booleans_Decides a.cwr b.cwr) (Decides-eqb a.window_size b.window_size)
+    (Decides-eqb a.checksum b.checksum) (Decides-eqb a.urgent_pointer b.urgent_pointer)
+    (returns-clause-options c a.options b.options)))))
 
 same_blocks : (a b : Block) → Decides (nat_eq a.0 b.0 && nat_eq a.1 b.1) (a ≡ b)
 same_blocks a b =
@@ -137,12 +109,7 @@ same_blocks a b =
 
 same_places : (a b : Option Block)
     → Decides (option_eq (λ (x y : Block). nat_eq x.0 y.0 && nat_eq x.1 y.1) a b) (a ≡ b)
-same_places None None = (λ equal. refl, λ same. refl)
-same_places None (Some block) = (λ equal. absurd (false≢true equal), λ same. absurd (cc))
-same_places (Some block) None = (λ equal. absurd (false≢true equal), λ same. absurd (cc))
-same_places (Some block) (Some other) =
-    let same_block = same_blocks block other in
-    (λ equal. ap (λ (x : Block). Some x) (same_block.0 equal), λ same. same_block.1 (cc))
+same_places a b = same_option _ a b (λ x y is_x is_y. same_blocks x y)
 
 pub returns-clause-elements : goal.returns-clause-elements
 returns-clause-elements c Noop Noop = (λ equal. refl, λ same. refl)

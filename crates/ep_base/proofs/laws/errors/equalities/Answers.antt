@@ -1,7 +1,4 @@
-use Rattle.std.proofs.Common.{◌≡◌, Bool, false, ap, rules}
-use Rattle.std.specs.Bool.{Decides}
-use Rattle.std.proofs.lemmas.Bool.{false≢true}
-use Rattle.std.proofs.lemmas.Bool.Decides.{Decides-like}
+use Rattle.std.proofs.Common.{rules}
 use Rattle.ep_base.specs.declared.err.ip.HeadersError.TheVariants as headers
 use Rattle.ep_base.specs.declared.err.ip.HeadersSliceError.TheVariants as headers_slice
 use Rattle.ep_base.specs.declared.err.ip.SliceError.TheVariants as ip_slice
@@ -14,16 +11,8 @@ use Rattle.ep_base.specs.declared.err.ipv6_exts.HeaderSliceError.TheVariants as 
 use Rattle.ep_base.specs.declared.err.linux_sll.HeaderSliceError.TheVariants as sll
 use Rattle.ep_base.specs.declared.err.macsec.HeaderSliceError.TheVariants as macsec
 use Rattle.ep_base.specs.declared.err.tcp.HeaderSliceError.TheVariants as tcp
+use Rattle.ep_base.proofs.ComparisonLemmas.{of_part, apart}
 use Rattle.ep_base.proofs.laws.errors.equalities.Goals as goal
-
--- what tells two parts tells what they are the parts of
-of_part : {P W : Type 0} {r : Bool} {a b : P} (whole : P → W) → (whole a ≡ whole b → a ≡ b) → Decides r (a ≡ b)
-    → Decides r (whole a ≡ whole b)
-of_part {r = r} whole part one = Decides-like r (λ same. ap whole same) part one
-
--- what is never the same is told to be other
-apart : {P : Type 0} → (P → ⊥) → Decides false P
-apart never = (λ equal. absurd (false≢true equal), λ same. absurd (never same))
 
 pub returns-clause-ip_header : goal.returns-clause-ip_header
 returns-clause-ip_header c = search rules
@@ -52,113 +41,89 @@ returns-clause-ipv6_exts_header c = search rules
 pub returns-clause-ip_headers : goal.returns-clause-ip_headers
 returns-clause-ip_headers c (headers.Ip a) (headers.Ip b) =
     of_part headers.Ip (λ same. cc) (returns-clause-ip_header c a b)
-returns-clause-ip_headers c (headers.Ip a) (headers.Ipv4Ext b) = apart (λ same. cc)
-returns-clause-ip_headers c (headers.Ip a) (headers.Ipv6Ext b) = apart (λ same. cc)
-returns-clause-ip_headers c (headers.Ipv4Ext a) (headers.Ip b) = apart (λ same. cc)
 returns-clause-ip_headers c (headers.Ipv4Ext a) (headers.Ipv4Ext b) =
     of_part headers.Ipv4Ext (λ same. cc) (returns-clause-ip_auth_header c a b)
-returns-clause-ip_headers c (headers.Ipv4Ext a) (headers.Ipv6Ext b) = apart (λ same. cc)
-returns-clause-ip_headers c (headers.Ipv6Ext a) (headers.Ip b) = apart (λ same. cc)
-returns-clause-ip_headers c (headers.Ipv6Ext a) (headers.Ipv4Ext b) = apart (λ same. cc)
 returns-clause-ip_headers c (headers.Ipv6Ext a) (headers.Ipv6Ext b) =
     of_part headers.Ipv6Ext (λ same. cc) (returns-clause-ipv6_exts_header c a b)
+returns-clause-ip_headers c a b = apart (λ same. cc same)
 
 pub returns-clause-ip_headers_slice : goal.returns-clause-ip_headers_slice
 returns-clause-ip_headers_slice c (headers_slice.Len a) (headers_slice.Len b) =
     of_part headers_slice.Len (λ same. cc) (c.equalities.ensures.len_errors a b)
-returns-clause-ip_headers_slice c (headers_slice.Len a) (headers_slice.Content b) = apart (λ same. cc)
-returns-clause-ip_headers_slice c (headers_slice.Content a) (headers_slice.Len b) = apart (λ same. cc)
 returns-clause-ip_headers_slice c (headers_slice.Content a) (headers_slice.Content b) =
     of_part headers_slice.Content (λ same. cc) (returns-clause-ip_headers c a b)
+returns-clause-ip_headers_slice c a b = apart (λ same. cc same)
 
 pub returns-clause-ip_slice : goal.returns-clause-ip_slice
 returns-clause-ip_slice c (ip_slice.Len a) (ip_slice.Len b) =
     of_part ip_slice.Len (λ same. cc) (c.equalities.ensures.len_errors a b)
-returns-clause-ip_slice c (ip_slice.Len a) (ip_slice.IpHeaders b) = apart (λ same. cc)
-returns-clause-ip_slice c (ip_slice.IpHeaders a) (ip_slice.Len b) = apart (λ same. cc)
 returns-clause-ip_slice c (ip_slice.IpHeaders a) (ip_slice.IpHeaders b) =
     of_part ip_slice.IpHeaders (λ same. cc) (returns-clause-ip_headers c a b)
+returns-clause-ip_slice c a b = apart (λ same. cc same)
 
 pub returns-clause-ip_auth_header_slice : goal.returns-clause-ip_auth_header_slice
 returns-clause-ip_auth_header_slice c (auth.Len a) (auth.Len b) =
     of_part auth.Len (λ same. cc) (c.equalities.ensures.len_errors a b)
-returns-clause-ip_auth_header_slice c (auth.Len a) (auth.Content b) = apart (λ same. cc)
-returns-clause-ip_auth_header_slice c (auth.Content a) (auth.Len b) = apart (λ same. cc)
 returns-clause-ip_auth_header_slice c (auth.Content a) (auth.Content b) =
     of_part auth.Content (λ same. cc) (returns-clause-ip_auth_header c a b)
+returns-clause-ip_auth_header_slice c a b = apart (λ same. cc same)
 
 pub returns-clause-ipv4_header_slice : goal.returns-clause-ipv4_header_slice
 returns-clause-ipv4_header_slice c (ipv4.Len a) (ipv4.Len b) =
     of_part ipv4.Len (λ same. cc) (c.equalities.ensures.len_errors a b)
-returns-clause-ipv4_header_slice c (ipv4.Len a) (ipv4.Content b) = apart (λ same. cc)
-returns-clause-ipv4_header_slice c (ipv4.Content a) (ipv4.Len b) = apart (λ same. cc)
 returns-clause-ipv4_header_slice c (ipv4.Content a) (ipv4.Content b) =
     of_part ipv4.Content (λ same. cc) (returns-clause-ipv4_header c a b)
+returns-clause-ipv4_header_slice c a b = apart (λ same. cc same)
 
 pub returns-clause-ipv4_slice : goal.returns-clause-ipv4_slice
 returns-clause-ipv4_slice c (ipv4_slice.Len a) (ipv4_slice.Len b) =
     of_part ipv4_slice.Len (λ same. cc) (c.equalities.ensures.len_errors a b)
-returns-clause-ipv4_slice c (ipv4_slice.Len a) (ipv4_slice.Header b) = apart (λ same. cc)
-returns-clause-ipv4_slice c (ipv4_slice.Len a) (ipv4_slice.Exts b) = apart (λ same. cc)
-returns-clause-ipv4_slice c (ipv4_slice.Header a) (ipv4_slice.Len b) = apart (λ same. cc)
 returns-clause-ipv4_slice c (ipv4_slice.Header a) (ipv4_slice.Header b) =
     of_part ipv4_slice.Header (λ same. cc) (returns-clause-ipv4_header c a b)
-returns-clause-ipv4_slice c (ipv4_slice.Header a) (ipv4_slice.Exts b) = apart (λ same. cc)
-returns-clause-ipv4_slice c (ipv4_slice.Exts a) (ipv4_slice.Len b) = apart (λ same. cc)
-returns-clause-ipv4_slice c (ipv4_slice.Exts a) (ipv4_slice.Header b) = apart (λ same. cc)
 returns-clause-ipv4_slice c (ipv4_slice.Exts a) (ipv4_slice.Exts b) =
     of_part ipv4_slice.Exts (λ same. cc) (returns-clause-ip_auth_header c a b)
+returns-clause-ipv4_slice c a b = apart (λ same. cc same)
 
 pub returns-clause-ipv6_header_slice : goal.returns-clause-ipv6_header_slice
 returns-clause-ipv6_header_slice c (ipv6.Len a) (ipv6.Len b) =
     of_part ipv6.Len (λ same. cc) (c.equalities.ensures.len_errors a b)
-returns-clause-ipv6_header_slice c (ipv6.Len a) (ipv6.Content b) = apart (λ same. cc)
-returns-clause-ipv6_header_slice c (ipv6.Content a) (ipv6.Len b) = apart (λ same. cc)
 returns-clause-ipv6_header_slice c (ipv6.Content a) (ipv6.Content b) =
     of_part ipv6.Content (λ same. cc) (returns-clause-ipv6_header c a b)
+returns-clause-ipv6_header_slice c a b = apart (λ same. cc same)
 
 pub returns-clause-ipv6_slice : goal.returns-clause-ipv6_slice
 returns-clause-ipv6_slice c (ipv6_slice.Len a) (ipv6_slice.Len b) =
     of_part ipv6_slice.Len (λ same. cc) (c.equalities.ensures.len_errors a b)
-returns-clause-ipv6_slice c (ipv6_slice.Len a) (ipv6_slice.Header b) = apart (λ same. cc)
-returns-clause-ipv6_slice c (ipv6_slice.Len a) (ipv6_slice.Exts b) = apart (λ same. cc)
-returns-clause-ipv6_slice c (ipv6_slice.Header a) (ipv6_slice.Len b) = apart (λ same. cc)
 returns-clause-ipv6_slice c (ipv6_slice.Header a) (ipv6_slice.Header b) =
     of_part ipv6_slice.Header (λ same. cc) (returns-clause-ipv6_header c a b)
-returns-clause-ipv6_slice c (ipv6_slice.Header a) (ipv6_slice.Exts b) = apart (λ same. cc)
-returns-clause-ipv6_slice c (ipv6_slice.Exts a) (ipv6_slice.Len b) = apart (λ same. cc)
-returns-clause-ipv6_slice c (ipv6_slice.Exts a) (ipv6_slice.Header b) = apart (λ same. cc)
 returns-clause-ipv6_slice c (ipv6_slice.Exts a) (ipv6_slice.Exts b) =
     of_part ipv6_slice.Exts (λ same. cc) (returns-clause-ipv6_exts_header c a b)
+returns-clause-ipv6_slice c a b = apart (λ same. cc same)
 
 pub returns-clause-ipv6_exts_header_slice : goal.returns-clause-ipv6_exts_header_slice
 returns-clause-ipv6_exts_header_slice c (exts.Len a) (exts.Len b) =
     of_part exts.Len (λ same. cc) (c.equalities.ensures.len_errors a b)
-returns-clause-ipv6_exts_header_slice c (exts.Len a) (exts.Content b) = apart (λ same. cc)
-returns-clause-ipv6_exts_header_slice c (exts.Content a) (exts.Len b) = apart (λ same. cc)
 returns-clause-ipv6_exts_header_slice c (exts.Content a) (exts.Content b) =
     of_part exts.Content (λ same. cc) (returns-clause-ipv6_exts_header c a b)
+returns-clause-ipv6_exts_header_slice c a b = apart (λ same. cc same)
 
 pub returns-clause-linux_sll_header_slice : goal.returns-clause-linux_sll_header_slice
 returns-clause-linux_sll_header_slice c (sll.Len a) (sll.Len b) =
     of_part sll.Len (λ same. cc) (c.equalities.ensures.len_errors a b)
-returns-clause-linux_sll_header_slice c (sll.Len a) (sll.Content b) = apart (λ same. cc)
-returns-clause-linux_sll_header_slice c (sll.Content a) (sll.Len b) = apart (λ same. cc)
 returns-clause-linux_sll_header_slice c (sll.Content a) (sll.Content b) =
     of_part sll.Content (λ same. cc) (returns-clause-linux_sll_header c a b)
+returns-clause-linux_sll_header_slice c a b = apart (λ same. cc same)
 
 pub returns-clause-macsec_header_slice : goal.returns-clause-macsec_header_slice
 returns-clause-macsec_header_slice c (macsec.Len a) (macsec.Len b) =
     of_part macsec.Len (λ same. cc) (c.equalities.ensures.len_errors a b)
-returns-clause-macsec_header_slice c (macsec.Len a) (macsec.Content b) = apart (λ same. cc)
-returns-clause-macsec_header_slice c (macsec.Content a) (macsec.Len b) = apart (λ same. cc)
 returns-clause-macsec_header_slice c (macsec.Content a) (macsec.Content b) =
     of_part macsec.Content (λ same. cc) (returns-clause-macsec_header c a b)
+returns-clause-macsec_header_slice c a b = apart (λ same. cc same)
 
 pub returns-clause-tcp_header_slice : goal.returns-clause-tcp_header_slice
 returns-clause-tcp_header_slice c (tcp.Len a) (tcp.Len b) =
     of_part tcp.Len (λ same. cc) (c.equalities.ensures.len_errors a b)
-returns-clause-tcp_header_slice c (tcp.Len a) (tcp.Content b) = apart (λ same. cc)
-returns-clause-tcp_header_slice c (tcp.Content a) (tcp.Len b) = apart (λ same. cc)
 returns-clause-tcp_header_slice c (tcp.Content a) (tcp.Content b) =
     of_part tcp.Content (λ same. cc) (returns-clause-tcp_header c a b)
+returns-clause-tcp_header_slice c a b = apart (λ same. cc same)

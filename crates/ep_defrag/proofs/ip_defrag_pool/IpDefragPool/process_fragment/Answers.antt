@@ -23,8 +23,8 @@ returns-in-Err g c =
     let written = c.get_mut.follows.holds next in
     let now =
     written_stream g.CustomChannelId.PartialEq.eq g.met.CustomChannelId.Eq.laws _ (λ i a b. c.names.ensures a b i)
-    c.self.inside.limit c.self.inside.streams.entries (c.get_mut.follows.lender next).entries c.args.id written.4 was next
-    of written.0 in
+    c.self.inside.limit c.self.inside.streams.entries (c.get_mut.follows.lender next).entries c.args.id written.4 was
+    next of written.0 in
     rw (← c.self.view_is)
     (goes_on_refused g.CustomChannelId.PartialEq.eq g.met.CustomChannelId.Eq.laws _ _ c.args.id _ c.args.timestamp
     (stream_at (of.key, was)) (stream_at (of.key, next))
@@ -41,8 +41,8 @@ returns-then-not-is_whole g c =
     let written = c.get_mut.follows.holds next in
     let now =
     written_stream g.CustomChannelId.PartialEq.eq g.met.CustomChannelId.Eq.laws _ (λ i a b. c.names.ensures a b i)
-    c.self.inside.limit c.self.inside.streams.entries (c.get_mut.follows.lender next).entries c.args.id written.4 was next
-    of written.0 in
+    c.self.inside.limit c.self.inside.streams.entries (c.get_mut.follows.lender next).entries c.args.id written.4 was
+    next of written.0 in
     rw (← c.self.view_is)
     (goes_on_more g.CustomChannelId.PartialEq.eq g.met.CustomChannelId.Eq.laws _ _ c.args.id _ c.args.timestamp
     (stream_at (of.key, was)) (stream_at (of.key, next))
@@ -60,8 +60,8 @@ returns g c =
     let written = c.get_mut.follows.holds next in
     let now =
     written_stream g.CustomChannelId.PartialEq.eq g.met.CustomChannelId.Eq.laws _ (λ i a b. c.names.ensures a b i)
-    c.self.inside.limit c.self.inside.streams.entries (c.get_mut.follows.lender next).entries c.args.id written.4 was next
-    of written.0 in
+    c.self.inside.limit c.self.inside.streams.entries (c.get_mut.follows.lender next).entries c.args.id written.4 was
+    next of written.0 in
     rw (← c.self.view_is)
     (goes_on_whole g.CustomChannelId.PartialEq.eq g.met.CustomChannelId.Eq.laws _ _ c.args.id _ c.args.timestamp
     (stream_at (of.key, was)) (stream_at (of.key, next))

@@ -5,6 +5,7 @@ use Rattle.std.proofs.lemmas.Bool.Decides.{Decides-eqb, Decides-and, Decides-lik
 use Rattle.std.proofs.lemmas.Slice.Eq.{slice_eq-Decides}
 use Rattle.ep_base.specs.Padding.{padded}
 use Rattle.ep_base.proofs.BytesLemmas.{same_parts}
+use Rattle.ep_base.proofs.ComparisonLemmas.{four_and}
 use Rattle.ep_ip.specs.declared.ip_slice.IpSlice.TheVariants as slice
 use Rattle.ep_ip.proofs.laws.comparisons.equalities.Goals as goal
 
@@ -20,62 +21,46 @@ pub returns-clause-ipv4_header : goal.returns-clause-ipv4_header
 returns-clause-ipv4_header c a b =
     Decides-like _ (λ all i. record {
       dscp = all.0 i;
-      ecn = all.1.0 i;
-      total_len = all.1.1.0 i;
-      identification = all.1.1.1.0 i;
-      dont_fragment = all.1.1.1.1.0 i;
-      more_fragments = all.1.1.1.1.1.0 i;
-      fragment_offset = all.1.1.1.1.1.1.0 i;
-      time_to_live = all.1.1.1.1.1.1.1.0 i;
-      protocol = record { 0 = all.1.1.1.1.1.1.1.1.0 i };
-      header_checksum = all.1.1.1.1.1.1.1.1.1.0 i;
-      source = all.1.1.1.1.1.1.1.1.1.1.0 i;
-      destination = all.1.1.1.1.1.1.1.1.1.1.1.0 i;
-      options = all.1.1.1.1.1.1.1.1.1.1.1.1 i;
+      ecn = all.1 i;
+      total_len = all.2 i;
+      identification = all.3 i;
+      dont_fragment = all.4.0 i;
+      more_fragments = all.4.1 i;
+      fragment_offset = all.4.2 i;
+      time_to_live = all.4.3 i;
+      protocol = record { 0 = all.4.4.0 i };
+      header_checksum = all.4.4.1 i;
+      source = all.4.4.2 i;
+      destination = all.4.4.3 i;
+      options = all.4.4.4 i;
     })
     (λ same. (
       ap (λ h. h.dscp) same,
+      ap (λ h. h.ecn) same,
+      ap (λ h. h.total_len) same,
+      ap (λ h. h.identification) same,
       (
-        ap (λ h. h.ecn) same,
+        ap (λ h. h.dont_fragment) same,
+        ap (λ h. h.more_fragments) same,
+        ap (λ h. h.fragment_offset) same,
+        ap (λ h. h.time_to_live) same,
         (
-          ap (λ h. h.total_len) same,
-          (
-            ap (λ h. h.identification) same,
-            (
-              ap (λ h. h.dont_fragment) same,
-              (
-                ap (λ h. h.more_fragments) same,
-                (
-                  ap (λ h. h.fragment_offset) same,
-                  (
-                    ap (λ h. h.time_to_live) same,
-                    (
-                      ap (λ h. h.protocol.0) same,
-                      (
-                        ap (λ h. h.header_checksum) same,
-                        (ap (λ h. h.source) same, (ap (λ h. h.destination) same, ap (λ h. h.options) same)),
-                      ),
-                    ),
-                  ),
-                ),
-              ),
-            ),
-          ),
+          ap (λ h. h.protocol.0) same,
+          ap (λ h. h.header_checksum) same,
+          ap (λ h. h.source) same,
+          ap (λ h. h.destination) same,
+          ap (λ h. h.options) same,
         ),
       ),
     ))
-    (Decides-and _ _ (Decides-eqb a.dscp b.dscp) (Decides-and _ _ (Decides-eqb a.ecn b.ecn)
-    (Decides-and _ _ (Decides-eqb a.total_len b.total_len)
-    (Decides-and _ _ (Decides-eqb a.identification b.identification)
-    (Decides-and _ _ (booleans_Decides a.dont_fragment b.dont_fragment)
-    (Decides-and _ _ (booleans_Decides a.more_fragments b.more_fragments)
-    (Decides-and _ _ (Decides-eqb a.fragment_offset b.fragment_offset)
-    (Decides-and _ _ (Decides-eqb a.time_to_live b.time_to_live)
-    (Decides-and _ _ (Decides-eqb a.protocol.0 b.protocol.0)
-    (Decides-and _ _ (Decides-eqb a.header_checksum b.header_checksum)
-    (Decides-and _ _ (slice_eq-Decides Decides-eqb a.source b.source _ refl)
-    (Decides-and _ _ (slice_eq-Decides Decides-eqb a.destination b.destination _ refl)
-    (returns-clause-ipv4_options c a.options b.options)))))))))))))
+    (four_and (Decides-eqb a.dscp b.dscp) (Decides-eqb a.ecn b.ecn) (Decides-eqb a.total_len b.total_len)
+    (Decides-eqb a.identification b.identification)
+    (four_and (booleans_Decides a.dont_fragment b.dont_fragment) (booleans_Decides a.more_fragments b.more_fragments)
+    (Decides-eqb a.fragment_offset b.fragment_offset) (Decides-eqb a.time_to_live b.time_to_live)
+    (four_and (Decides-eqb a.protocol.0 b.protocol.0) (Decides-eqb a.header_checksum b.header_checksum)
+    (slice_eq-Decides Decides-eqb a.source b.source _ refl)
+    (slice_eq-Decides Decides-eqb a.destination b.destination _ refl)
+    (returns-clause-ipv4_options c a.options b.options))))
 
 pub returns-clause-ipv4_slice : goal.returns-clause-ipv4_slice
 returns-clause-ipv4_slice c a b =

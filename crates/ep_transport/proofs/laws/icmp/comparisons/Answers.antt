@@ -2,6 +2,7 @@ use Rattle.std.proofs.Common.{refl, ap, rules}
 use Rattle.std.proofs.lemmas.Bool.{false≢true}
 use Rattle.std.proofs.lemmas.Bool.Decides.{Decides-and, Decides-eqb, Decides-like}
 use Rattle.std.proofs.lemmas.Slice.Eq.{slice_eq-Decides}
+use Rattle.ep_base.proofs.ComparisonLemmas.{four_and}
 use Rattle.ep_transport.specs.declared.icmpv4.timestamp_message.TimestampMessage.{TimestampMessage}
 use Rattle.ep_transport.specs.declared.icmpv4_header.Icmpv4Header.{Icmpv4Header}
 use Rattle.ep_transport.specs.declared.icmpv4_type.Icmpv4Type.TheVariants as v4
@@ -20,29 +21,21 @@ pub returns-clause-timestamps : goal.returns-clause-timestamps
 returns-clause-timestamps c a b =
     Decides-like _ (λ all i. record {
       id = all.0 i;
-      seq = all.1.0 i;
-      originate_timestamp = all.1.1.0 i;
-      receive_timestamp = all.1.1.1.0 i;
-      transmit_timestamp = all.1.1.1.1 i;
+      seq = all.1 i;
+      originate_timestamp = all.2 i;
+      receive_timestamp = all.3 i;
+      transmit_timestamp = all.4 i;
     })
     (λ same. (
       ap (λ (t : TimestampMessage). t.id) same,
-      (
-        ap (λ (t : TimestampMessage). t.seq) same,
-        (
-          ap (λ (t : TimestampMessage). t.originate_timestamp) same,
-          (
-            ap (λ (t : TimestampMessage). t.receive_timestamp) same,
-            ap (λ (t : TimestampMessage). t.transmit_timestamp) same,
-          ),
-        ),
-      ),
+      ap (λ (t : TimestampMessage). t.seq) same,
+      ap (λ (t : TimestampMessage). t.originate_timestamp) same,
+      ap (λ (t : TimestampMessage). t.receive_timestamp) same,
+      ap (λ (t : TimestampMessage). t.transmit_timestamp) same,
     ))
-    (Decides-and _ _ (Decides-eqb a.id b.id)
-    (Decides-and _ _ (Decides-eqb a.seq b.seq)
-    (Decides-and _ _ (Decides-eqb a.originate_timestamp b.originate_timestamp)
-    (Decides-and _ _ (Decides-eqb a.receive_timestamp b.receive_timestamp)
-    (Decides-eqb a.transmit_timestamp b.transmit_timestamp)))))
+    (four_and (Decides-eqb a.id b.id) (Decides-eqb a.seq b.seq)
+    (Decides-eqb a.originate_timestamp b.originate_timestamp) (Decides-eqb a.receive_timestamp b.receive_timestamp)
+    (Decides-eqb a.transmit_timestamp b.transmit_timestamp))
 
 pub returns-clause-icmpv4_exceeded : goal.returns-clause-icmpv4_exceeded
 returns-clause-icmpv4_exceeded c = search rules
