@@ -1,76 +1,76 @@
 #!/usr/bin/env python3
-"""Refuses each request for memory in turn: python3 refuse.py [--write]
+"""Refuses each request for memory in turn, of built tests and of the built program: python3 refuse.py [--write]
 
-Runs the tests of this crate with the first request of each test refused, then with the second, until no test meets a
-refusal; and then the program frame_bench on its file `stdin` the same way. Each run of the tests has to pass, and each
-request of a test has to be named by the call that it is refused to; which requests are those of which call has to be
-what the file `requests` says; with --write it is written there. A refused program ends with status 1 and
-`frame_bench: out of memory`, and what it wrote begins its answers.
+    rt test && (cd ../frame_bench && rt test && rt run < stdin)      # builds them
+
+Runs each test of this crate, and each of frame_bench about memory, with its first request for memory refused, then
+with its second, until it meets no refusal (refuse.c, preloaded). Each run has to pass, and each request has to be named
+by the call that it is refused to; which requests are those of which call has to be what the file `requests` says; with
+--write it is written there. Then the program frame_bench on its file `stdin`, and on random lines with many limits, the
+same way: a refused run ends with status 1 and `frame_bench: out of memory`, and what it wrote begins its answers.
 """
 import collections
+import os
 import pathlib
+import random
 import re
 import subprocess
 import sys
+import tempfile
 
 HERE = pathlib.Path(__file__).resolve().parent
 BENCH = HERE.parent / "frame_bench"
-MOST = 200
+# Where tests stand, and how the names of those begin that pass whatever is refused.
+TESTS = [(HERE, ""), (BENCH, "tests::memory::")]
+MOST = 100_000
+# Random lines, of which so many are limits.
+LINES, LIMITS = 2000, 50
+
+sys.dont_write_bytecode = True
+sys.path.insert(0, str(BENCH / "compare"))
+import answers
+import hostile
 
 
-def run(folder, flags, nth, stdin=None):
-    command = ["rt", "try", *flags, "--seconds", "500", "--fail-alloc", str(nth)]
-    return subprocess.run(command, cwd=folder, stdin=stdin, capture_output=True, text=True)
+def built(folder, name):
+    """A program that is built."""
+    program = folder / "out" / name
+    if not program.exists():
+        sys.exit(f"{program} is not built")
+    return str(program)
 
 
-def tests_refused(requests):
-    """The numbers of the requests that are refused to each call, by test and name of the call."""
+class Refusing:
+    """Runs with one request for memory refused."""
+
+    def __init__(self, folder):
+        self.library = str(folder / "refuse.so")
+        self.met = folder / "met"
+        command = ["cc", "-O2", "-shared", "-fPIC", "-o", self.library, str(HERE / "refuse.c")]
+        subprocess.run(command, check=True)
+
+    def run(self, command, nth, given=b""):
+        """What a program writes, its status, and whether it made so many requests."""
+        self.met.unlink(missing_ok=True)
+        variables = dict(os.environ, LD_PRELOAD=self.library, REFUSE=str(nth), REFUSED=str(self.met))
+        done = subprocess.run(command, input=given, env=variables, capture_output=True, check=False)
+        return done, self.met.exists()
+
+
+def requests_of(refusing, program, test):
+    """The call that each request of a test is refused to, in order."""
+    calls = []
     for nth in range(1, MOST):
-        done = run(HERE, ["--test"], nth, subprocess.DEVNULL)
-        said = done.stdout + done.stderr
-        test, met, passed = None, 0, 0
-        for line in said.splitlines():
-            if found := re.match(r"test (\S+) \.\.\. (\w+)", line):
-                test = found[1]
-                passed += found[2] == "ok"
-                if found[2] != "ok":
-                    sys.exit(f"request {nth} refused:\n{said}")
-            found = re.match(r"\s+refused: (.*)", line)
-            if found and test:
-                requests[test, found[1]].append(nth)
-                met += 1
-        if passed == 0:
-            sys.exit(f"request {nth} refused:\n{said}")
-        print(f"tests, request {nth}: met {met} times", flush=True)
-        if met == 0:
-            return
-    sys.exit("there is no end")
-
-
-def program_refused():
-    """Sees that the program says so, behind a beginning of its answers, whichever request is refused."""
-    answers = (BENCH / "stdout").read_text()
-    for nth in range(1, MOST):
-        with open(BENCH / "stdin") as lines:
-            done = run(BENCH, [], nth, lines)
-        lacks = "frame_bench: out of memory" in done.stderr
-        whole = done.stdout == answers
-        if not (answers.startswith(done.stdout) and (done.returncode, lacks, whole) in [(1, True, False), (0, False, True)]):
-            sys.exit(f"frame_bench, request {nth} refused:\n{done.stdout}{done.stderr}")
-        print(f"frame_bench, request {nth}: status {done.returncode}", flush=True)
-        if not lacks:
-            return
-    sys.exit("there is no end")
-
-
-def assert_named(requests):
-    """Each request of a test, up to its last one, is named by a call."""
-    named = collections.defaultdict(list)
-    for (test, _call), numbers in requests.items():
-        named[test] += numbers
-    for test, numbers in named.items():
-        if sorted(numbers) != list(range(1, len(numbers) + 1)):
-            sys.exit(f"{test}: no call is named for some request: {sorted(numbers)}")
+        done, is_met = refusing.run([program, test], nth)
+        if done.returncode != 0:
+            sys.exit(f"{test}, request {nth} refused:\n{done.stdout.decode()}{done.stderr.decode()}")
+        said = re.findall(r"^refused: (.*)$", done.stdout.decode(), re.MULTILINE)
+        if len(said) != int(is_met):
+            sys.exit(f"{test}, request {nth} refused: no call is named, or more than one: {said}")
+        if not is_met:
+            return calls
+        calls += said
+    sys.exit(f"{test}: there is no end")
 
 
 def ranges(numbers):
@@ -84,18 +84,60 @@ def ranges(numbers):
     return " ".join(texts)
 
 
+def table_of(refusing):
+    """Which requests are those of which call, in a line for each call of each test."""
+    rows = []
+    for folder, begin in TESTS:
+        program = built(folder, f"{folder.name}_tests")
+        listed = subprocess.run([program, "--list"], capture_output=True, text=True, check=True).stdout
+        for test in re.findall(r"^(\S+): test$", listed, re.MULTILINE):
+            if not test.startswith(begin):
+                continue
+            numbers = collections.defaultdict(list)
+            for nth, call in enumerate(requests_of(refusing, program, test), 1):
+                numbers[call].append(nth)
+            rows += [(folder.name, test, asked, call) for call, asked in numbers.items()]
+    return "".join(f"{name}: {test}: {call}: {ranges(asked)}\n" for name, test, asked, call in sorted(rows))
+
+
+def program_refused(refusing, name, given, wanted):
+    """Sees that the program says so, behind a beginning of its answers, whichever request is refused."""
+    program = built(BENCH, "frame_bench")
+    for nth in range(1, MOST):
+        done, is_met = refusing.run([program], nth, given)
+        says = done.stderr == b"frame_bench: out of memory\n"
+        whole = done.stdout == wanted and done.stderr == b""
+        if is_met and not (done.returncode == 1 and says and wanted.startswith(done.stdout)):
+            sys.exit(f"{name}, request {nth} refused:\n{done.stdout.decode()}{done.stderr.decode()}")
+        if not is_met:
+            if done.returncode != 0 or not whole:
+                sys.exit(f"{name}: other answers where no request is refused")
+            print(f"frame_bench, {name}: {nth - 1} requests refused in turn")
+            return
+    sys.exit(f"{name}: there is no end")
+
+
+def random_lines():
+    """Random lines with many limits, and their answers by the second reader."""
+    lines = hostile.Lines(random.Random(1))
+    rows = [lines.line() for _ in range(LINES)]
+    rows[:: LINES // LIMITS] = [lines.limit_line().encode("ascii") for _ in range(LIMITS)]
+    text = b"".join(row + b"\n" for row in rows)
+    return text, "".join(f"{answer}\n" for answer in answers.answers_to(text)).encode("ascii")
+
+
 def main(arguments):
-    requests = collections.defaultdict(list)
-    tests_refused(requests)
-    assert_named(requests)
-    rows = sorted((test, numbers, call) for (test, call), numbers in requests.items())
-    table = "".join(f"{test}: {call}: {ranges(numbers)}\n" for test, numbers, call in rows)
-    file = HERE / "requests"
-    if arguments == ["--write"]:
-        file.write_text(table)
-    elif table != file.read_text():
-        sys.exit(f"not what {file.name} says:\n{table}")
-    program_refused()
+    with tempfile.TemporaryDirectory() as folder:
+        refusing = Refusing(pathlib.Path(folder))
+        table = table_of(refusing)
+        file = HERE / "requests"
+        if arguments == ["--write"]:
+            file.write_text(table)
+        elif table != file.read_text():
+            sys.exit(f"not what {file.name} says:\n{table}")
+        print(f"tests: {table.count(chr(10))} calls, each request of which was refused")
+        program_refused(refusing, "stdin", (BENCH / "stdin").read_bytes(), (BENCH / "stdout").read_bytes())
+        program_refused(refusing, f"{LINES:,} random lines", *random_lines())
 
 
 if __name__ == "__main__":

@@ -75,9 +75,11 @@ pub use Rattle.ep_packet.specs.Frame
 pub use Rattle.ep_packet.specs.FrameBytes
 pub use Rattle.ep_packet.specs.HeadersWalk
 pub use Rattle.ep_packet.specs.IpHeaders
+pub use Rattle.ep_packet.specs.LayerErrors
 pub use Rattle.ep_packet.specs.Layers
 pub use Rattle.ep_packet.specs.NetHeaders
 pub use Rattle.ep_packet.specs.NetSlices
+pub use Rattle.ep_packet.specs.Offsets
 pub use Rattle.ep_packet.specs.PacketHeaders
 pub use Rattle.ep_packet.specs.PayloadParts
 pub use Rattle.ep_packet.specs.Payloads

@@ -55,8 +55,9 @@
 //! (`Types.Entry`, `Types.UdpHeader`), and each other file under its name. `Frame.IsFrame entry bytes layers` says that
 //! bytes are a frame of these layers, and `FrameRefusals.RefusesFrame` why they are none; `Layers.layers_of` is what a
 //! sliced packet shows; `BuiltFrames.built_frame` is what the builder writes, `Pools` and `Calls` what a pool holds and
-//! answers. So a crate lists `etherparse` alone. The crates `example_filter`, `example_flows`, `example_generator` and
-//! `example_reader` are small programs with such contracts.
+//! answers. What holds of the definitions themselves, as that bytes are one frame or are refused with one error, is
+//! said by the functions of [`laws`]. So a crate lists `etherparse` alone. The crates `example_filter`,
+//! `example_flows`, `example_generator` and `example_reader` are small programs with such contracts.
 #![tactic(auto)]
 
 #[cfg(test)]
@@ -138,4 +139,17 @@ pub mod err {
         pub use ep_packet::err::SliceError;
         pub use ep_transport::TransportChecksumError;
     }
+}
+
+/// Laws: functions that do nothing, each of whose contracts says what holds of all bytes, of any values, or of
+/// comparisons and clones. A proof gets one by a call. Each module has those of one part of the library.
+pub mod laws {
+    pub use ep_base::laws as base;
+    pub use ep_build::laws as build;
+    pub use ep_defrag::laws as defrag;
+    pub use ep_ext::laws as ext;
+    pub use ep_ip::laws as ip;
+    pub use ep_link::laws as link;
+    pub use ep_packet::laws as packet;
+    pub use ep_transport::laws as transport;
 }

@@ -1,6 +1,8 @@
 -- The flow of a frame, and what its count becomes.
 use Rattle.std.specs.Prelude.{◌≡◌, ℕ, ◌+◌, ◌-◌, ◌^◌, min, length, Option, Some, None, Result, Ok, Err, unwrap_or}
 use Rattle.std.specs.declared.cmp.Ordering.{Ordering}
+use Rattle.std.specs.declared.net.ip_addr.IpAddr.{IpAddr}
+use Rattle.std.specs.Net.Addr.{IsV4And, IsV6And, ipv4_octets, ipv6_segments, segments_of}
 use Rattle.std.specs.Option.{option_and_then}
 use Rattle.std.specs.BTreeMap.{BTreeMap, get, Updates, IsUnchanged}
 use Rattle.etherparse.specs.Bytes.{bit}
@@ -18,6 +20,14 @@ abbrev pub addresses_in : NetLayer → Option Addresses
 addresses_in (ipv4 header extensions payload) = Some (V4 header.source header.destination)
 addresses_in (ipv6 header extensions payload) = Some (V6 header.source header.destination)
 addresses_in (arp packet) = None
+
+-- the addresses as those of std: the four bytes, and the segments of 16 bits
+abbrev pub AreStdAddresses : Addresses → IpAddr × IpAddr → Type 0
+AreStdAddresses (V4 source destination) found =
+    IsV4And found.0 (λ ip. ipv4_octets ip ≡ source) × IsV4And found.1 (λ ip. ipv4_octets ip ≡ destination)
+AreStdAddresses (V6 source destination) found =
+    IsV6And found.0 (λ ip. ipv6_segments ip ≡ segments_of source)
+    × IsV6And found.1 (λ ip. ipv6_segments ip ≡ segments_of destination)
 
 -- the segment of a TCP header and so many bytes of payload between these addresses
 abbrev pub segment_with : ℕ → Option TcpHeader → Option Addresses → Option (Flow × Count)
@@ -49,8 +59,8 @@ added a b = record {
 abbrev pub nothing : Count
 nothing = record { segments = 0; syn = 0; fin = 0; bytes = 0 }
 
--- What a map of counts becomes with a segment, where there is one: the flow's count has the segment's added, and the others
--- are as they were. Without memory the map is as it was.
+-- What a map of counts becomes with a segment, where there is one: the flow's count has the segment's added, and the
+-- others are as they were. Without memory the map is as it was.
 abbrev pub Counts : {E : Type 0} → (Flow → Flow → Ordering) → BTreeMap Flow Count → BTreeMap Flow Count
     → Option (Flow × Count) → Result (Unit {0}) E → Type 0
 Counts cmp old new None result = (new ≡ old) × (result ≡ Ok tt)

@@ -38,8 +38,12 @@ pub struct Count {
 }
 
 impl Flow {
+    ghost use Rattle.example_flows.specs.Flows.{AreStdAddresses};
+
     /// The source and the destination address.
-    pub fn addresses(&self) -> (IpAddr, IpAddr) {
+    pub fn addresses(&self) -> (IpAddr, IpAddr)
+        ensures { AreStdAddresses self.now.addresses result }
+    {
         match self.addresses {
             Addresses::V4(source, destination) => (source.into(), destination.into()),
             Addresses::V6(source, destination) => (source.into(), destination.into()),

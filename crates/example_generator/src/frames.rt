@@ -63,8 +63,8 @@ fn syn_between(from: End, to: End, sequence_number: u32) -> TcpHeader
     }
 }
 
-/// Appends a datagram of UDP over IPv6 between the mapped addresses (RFC 4291, 2.5.5.2), with the hop by hop option of a
-/// router alert (RFC 2711) and with destination options that say nothing.
+/// Appends a datagram of UDP over IPv6 between the mapped addresses (RFC 4291, 2.5.5.2), with the hop by hop option of
+/// a router alert (RFC 2711) and with destination options that say nothing.
 pub fn write_datagram_v6(
     from: End,
     to: End,

@@ -1,5 +1,5 @@
-//! Prints frames in lines of hexadecimal: a request and its answer, the first segment of a TCP connection with options, a
-//! datagram over IPv6 with extension headers, and the fragments of a long payload.
+//! Prints frames in lines of hexadecimal: a request and its answer, the first segment of a TCP connection with options,
+//! a datagram over IPv6 with extension headers, and the fragments of a long payload.
 #![tactic(auto)]
 
 mod cuts;

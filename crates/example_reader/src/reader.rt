@@ -26,8 +26,8 @@ pub enum ReadError {
     Fragment(IpDefragError),
 }
 
-/// Gives an Ethernet frame to the pool, and answers the payload that is complete with it, if any. Bytes that are no frame
-/// change nothing.
+/// Gives an Ethernet frame to the pool, and answers the payload that is complete with it, if any. Bytes that are no
+/// frame change nothing.
 pub fn take(
     pool: &mut Pool,
     frame: &[u8],

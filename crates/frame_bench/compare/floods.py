@@ -1,9 +1,11 @@
-"""Floods of lines to frame_bench: whether it answers them rightly, in which time, and how much memory it takes at the most.
+"""Floods of lines to frame_bench: whether it answers them rightly, in which time, and how much memory it takes.
 
-    python3 compare/floods.py out/frame_bench [--streams 1000000] [--lines 1000000] [--names 10000] [--only WORD]
+    python3 compare/floods.py out/frame_bench [--streams 1000000] [--lines 1000000] [--open 100000] [--names 10000]
+        [--only WORD]
 
-Each flood is one run of the program. It prints a row for each, and ends with status 1 where an answer is not the one that
-stands here. Memory is the greatest resident size of the process behind its last answer (VmHWM of Linux).
+Each flood is one run of the program. It prints a row for each, and ends with status 1 where an answer is not the one
+that stands here. Memory is the resident size of the process, the greatest and that behind its last answer (VmHWM and
+VmRSS of Linux).
 """
 
 import argparse
@@ -84,11 +86,11 @@ def alike_channel(identification):
 
 
 def names(count, channel_of):
-    """So many streams, each named by its identification and a channel: all begin, and then each is completed."""
+    """So many streams, each named by its number's low 16 bits and a channel: all begin, and then each is completed."""
     for units, more, payload, answer in ((0, 1, EIGHT, "none"), (1, 0, "08090a0b0c0d0e0f", WHOLE)):
-        for identification in range(count):
-            packet = fragment(units, more, payload, identification)
-            yield pool_line(packet, channel_of(identification)), answer
+        for number in range(count):
+            packet = fragment(units, more, payload, number & 0xFFFF)
+            yield pool_line(packet, channel_of(number)), answer
 
 
 def floods(options):
@@ -106,6 +108,10 @@ def floods(options):
     yield "100 MB without a line feed", None
     yield "1,000 first fragments, each of its own stream", first_fragments(range(1000))
     yield f"{streams:,} first fragments, each of its own stream", first_fragments(range(streams))
+    yield "the same, and a drop of all", itertools.chain(first_fragments(range(streams)), [("drop 2", "ok")])
+    yield "the same, and a new pool by a line that gives a limit", itertools.chain(
+        first_fragments(range(streams)), [("drop 2", "ok"), ("limit 65535", "ok")]
+    )
     yield f"the same, a drop of all, and {streams:,} others", itertools.chain(
         first_fragments(range(streams)), [("drop 2", "ok")], first_fragments(range(streams, 2 * streams))
     )
@@ -142,8 +148,11 @@ def floods(options):
     yield f"{lines:,} fragments, each second of which completes a payload", cycle(
         [(pool_line(FIRST), "none"), (pool_line(LAST), WHOLE)], lines
     )
+    yield f"{options.open:,} streams that are all open, and then completed in turn", names(
+        options.open, lambda number: number >> 16
+    )
     count = options.names
-    yield f"{count:,} streams with names in turn", names(count, lambda identification: 0)
+    yield f"{count:,} streams with names in turn", names(count, lambda number: 0)
     yield f"{count:,} streams whose names hash alike", names(count, alike_channel)
 
 
@@ -169,14 +178,15 @@ class Reading(threading.Thread):
             self.length += len(part)
 
 
-def greatest_size(process):
-    """The greatest resident size of a process that still runs, in MiB."""
+def sizes_of(process):
+    """The greatest resident size of a process that still runs, and its present one, in MiB."""
     with open(f"/proc/{process}/status", encoding="ascii") as status:
-        return next(int(line.split()[1]) for line in status if line.startswith("VmHWM:")) / 1024
+        kilobytes = dict(line.split(":") for line in status if line.startswith(("VmHWM:", "VmRSS:")))
+    return tuple(int(kilobytes[name].split()[0]) / 1024 for name in ("VmHWM", "VmRSS"))
 
 
 def measure(program, rows):
-    """How many lines were answered, whether rightly, in how many processor seconds, and the greatest size in MiB."""
+    """How many lines were answered, whether rightly, in how many processor seconds, and the sizes in MiB."""
     run = subprocess.Popen([program], stdin=subprocess.PIPE, stdout=subprocess.PIPE)
     reading = Reading(run.stdout)
     wanted, length = hashlib.sha256(), 0
@@ -192,12 +202,12 @@ def measure(program, rows):
         # Answered at the end of input alone: until then, all is read.
         time.sleep(1)
         wanted.update(b"err line\n")
-    size = greatest_size(run.pid)
+    sizes = sizes_of(run.pid)
     run.stdin.close()
     reading.join()
     _, status, usage = os.wait4(run.pid, 0)
     is_right = status == 0 and reading.digest.digest() == wanted.digest()
-    return reading.lines, is_right, usage.ru_utime + usage.ru_stime, size
+    return reading.lines, is_right, usage.ru_utime + usage.ru_stime, sizes
 
 
 def main():
@@ -205,18 +215,20 @@ def main():
     parser.add_argument("program")
     parser.add_argument("--streams", type=int, default=1_000_000)
     parser.add_argument("--lines", type=int, default=1_000_000)
+    parser.add_argument("--open", type=int, default=100_000)
     parser.add_argument("--names", type=int, default=10_000)
     parser.add_argument("--only", default="")
     options = parser.parse_args()
     all_right = True
-    print("| Input | Answers | Processor seconds | Greatest resident size, MiB |")
-    print("|---|---|---|---|")
+    print("| Input | Answers | Processor seconds | Greatest resident size, MiB | At the end, MiB |")
+    print("|---|---|---|---|---|")
     for name, rows in floods(options):
         if options.only not in name:
             continue
-        lines, is_right, seconds, size = measure(options.program, rows)
+        lines, is_right, seconds, (greatest, last) = measure(options.program, rows)
         all_right &= is_right
-        print(f"| {name} | {lines:,}{'' if is_right else ' WRONG'} | {seconds:.2f} | {size:.1f} |", flush=True)
+        answers = f"{lines:,}{'' if is_right else ' WRONG'}"
+        print(f"| {name} | {answers} | {seconds:.2f} | {greatest:.1f} | {last:.1f} |", flush=True)
     return 0 if all_right else 1
 
 

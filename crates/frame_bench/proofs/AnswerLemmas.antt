@@ -2,22 +2,21 @@
 use Rattle.std.proofs.Common.{◌≡◌, ◌⊎◌, inl, inr, ℕ, List, [], ◌∷◌, ◌++◌}
 use Rattle.std.proofs.Common.{refl, sym, ap, ◌∙◌, subst}
 use Rattle.std.specs.Prelude.{codes}
-use Rattle.ep_base.specs.Bytes.{AreBytes}
-use Rattle.ep_base.specs.Tables.{IsDecided}
-use Rattle.ep_defrag.specs.Calls.{drops_streams}
-use Rattle.ep_packet.specs.declared.err.slice_error.SliceError.{SliceError}
-use Rattle.ep_packet.specs.Frame.{IsFrame}
-use Rattle.ep_packet.specs.declared.entry.Entry.{Entry as FrameEntry}
-use Rattle.ep_packet.specs.Layers.{Layers}
-use Rattle.ep_packet.specs.Refusals.{RefusesFrame}
+use Rattle.etherparse.specs.Bytes.{AreBytes}
+use Rattle.etherparse.specs.Tables.{IsDecided}
+use Rattle.etherparse.specs.Calls.{drops_streams}
+use Rattle.etherparse.specs.Types.SliceError.{SliceError}
+use Rattle.etherparse.specs.Frame.{IsFrame}
+use Rattle.etherparse.specs.Layers.{Layers}
+use Rattle.etherparse.specs.FrameRefusals.{RefusesFrame}
+use Rattle.etherparse.specs.Types.Entry.{Entry}
 use Rattle.frame_bench.specs.Answers.{AreAnswers, IsAnswer, IsAnswered, IsReplyAfter}
 use Rattle.frame_bench.specs.Lines.{line_feed, lines_of}
 use Rattle.frame_bench.specs.PoolCalls.{PoolHistory, new_pool, with_call, IsAfterLine, IsAfterLines, IsHistory, IsAfterRequest, frame_call}
 use Rattle.frame_bench.specs.PoolReplies.{call_reply}
 use Rattle.frame_bench.specs.Replies.{IsReply}
-use Rattle.frame_bench.specs.Requests.{Asks, frame_entry}
+use Rattle.frame_bench.specs.Requests.{Asks}
 use Rattle.frame_bench.specs.SliceReplies.{layers_text, refusal_text}
-use Rattle.frame_bench.specs.declared.requests.Entry.{Entry}
 use Rattle.frame_bench.specs.declared.requests.Request.{Request}
 use Rattle.frame_bench.specs.declared.requests.Request.TheVariants.{Slice, Fragment, Drop, Limit}
 use Rattle.frame_bench.proofs.AskLemmas.{ask_bytes, ask_cases, ask_one}
@@ -43,11 +42,11 @@ HasOne-by P Q told each = record {
 -- what is told of bytes from an entry on: of the frame that they are, or of why they are none
 abbrev IsToldOf : {X : Type 0} → Entry → List ℕ → (Layers → X) → (SliceError → X) → X → Type 0
 IsToldOf entry bytes of_layers of_error x =
-    ((layers : Layers) × IsFrame (frame_entry entry) bytes layers × (x ≡ of_layers layers))
-    ⊎ ((error : SliceError) × RefusesFrame (frame_entry entry) bytes error × (x ≡ of_error error))
+    ((layers : Layers) × IsFrame entry bytes layers × (x ≡ of_layers layers))
+    ⊎ ((error : SliceError) × RefusesFrame entry bytes error × (x ≡ of_error error))
 
 told_one : {X : Type 0} (entry : Entry) (bytes : List ℕ) (of_layers : Layers → X) (of_error : SliceError → X)
-    → IsDecided (IsFrame (frame_entry entry) bytes) (RefusesFrame (frame_entry entry) bytes)
+    → IsDecided (IsFrame entry bytes) (RefusesFrame entry bytes)
     → (x y : X) → IsToldOf entry bytes of_layers of_error x → IsToldOf entry bytes of_layers of_error y → x ≡ y
 told_one entry bytes of_layers of_error frame x y (inl a) (inl b) =
     a.2 ∙ ap of_layers (frame.one_value a.0 b.0 a.1 b.1) ∙ sym b.2
@@ -57,7 +56,7 @@ told_one entry bytes of_layers of_error frame x y (inr a) (inr b) =
     a.2 ∙ ap of_error (frame.one_error a.0 b.0 a.1 b.1) ∙ sym b.2
 
 HasOne-told : {X : Type 0} (entry : Entry) (bytes : List ℕ) (of_layers : Layers → X) (of_error : SliceError → X)
-    → IsDecided (IsFrame (frame_entry entry) bytes) (RefusesFrame (frame_entry entry) bytes)
+    → IsDecided (IsFrame entry bytes) (RefusesFrame entry bytes)
     → HasOne (IsToldOf entry bytes of_layers of_error)
 HasOne-told entry bytes of_layers of_error frame = record {
   some =
@@ -98,7 +97,7 @@ module _ {X : Type 0} (line : List ℕ) (Says : Request → List ℕ → X → T
   HasOne-asked : HasOne (IsAsked line Says else)
   HasOne-asked = record { some = asked_some; one = asked_one }
 
-module _ (decided : (entry : FrameEntry) (bytes : List ℕ) → AreBytes bytes
+module _ (decided : (entry : Entry) (bytes : List ℕ) → AreBytes bytes
     → IsDecided (IsFrame entry bytes) (RefusesFrame entry bytes)) where
   -- a request makes something of a pool, and is replied to
   after_request : (before : PoolHistory) (request : Request) (bytes : List ℕ) → AreBytes bytes
@@ -106,17 +105,17 @@ module _ (decided : (entry : FrameEntry) (bytes : List ℕ) → AreBytes bytes
   after_request before (Slice entry) bytes are = HasOne-is before
   after_request before (Fragment entry timestamp channel) bytes are =
       HasOne-told entry bytes (λ layers. with_call before (frame_call layers timestamp channel)) (λ error. before)
-      (decided (frame_entry entry) bytes are)
+      (decided entry bytes are)
   after_request before (Drop timestamp) bytes are = HasOne-is (with_call before (drops_streams timestamp))
   after_request before (Limit max) bytes are = HasOne-is (new_pool max)
 
   request_reply : (history : PoolHistory) (request : Request) (bytes : List ℕ) → AreBytes bytes
       → HasOne (IsReply history request bytes)
   request_reply history (Slice entry) bytes are =
-      HasOne-told entry bytes layers_text refusal_text (decided (frame_entry entry) bytes are)
+      HasOne-told entry bytes layers_text refusal_text (decided entry bytes are)
   request_reply history (Fragment entry timestamp channel) bytes are =
       HasOne-told entry bytes (λ layers. call_reply history (frame_call layers timestamp channel)) refusal_text
-      (decided (frame_entry entry) bytes are)
+      (decided entry bytes are)
   request_reply history (Drop timestamp) bytes are = HasOne-is (call_reply history (drops_streams timestamp))
   request_reply history (Limit max) bytes are = HasOne-is (codes "ok")
 

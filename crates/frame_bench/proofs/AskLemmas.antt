@@ -6,14 +6,14 @@ use Rattle.std.proofs.lemmas.Bool.{cases_eq}
 use Rattle.hex.specs.Hex.{decode_of}
 use Rattle.hex.specs.declared.error.FromHexError.{FromHexError}
 use Rattle.hex.proofs.HexLemmas.{decode_of-ok, decode_of-same}
-use Rattle.ep_base.specs.Bytes.{AreBytes}
+use Rattle.etherparse.specs.Bytes.{AreBytes}
+use Rattle.etherparse.specs.Types.Entry.{Entry}
+use Rattle.etherparse.specs.Types.Entry.TheVariants.{Ethernet, LinuxSll, EtherType, Ip}
 use Rattle.frame_bench.specs.Lines.{space, words}
-use Rattle.frame_bench.specs.Requests.{Asks, IsHex, entry_word}
-use Rattle.frame_bench.specs.declared.requests.Entry.{Entry}
-use Rattle.frame_bench.specs.declared.requests.Entry.TheVariants.{Ethernet, LinuxSll, Ip}
+use Rattle.frame_bench.specs.Requests.{Asks, EntryAt, IsHex}
 use Rattle.frame_bench.specs.declared.requests.Request.{Request}
 use Rattle.frame_bench.specs.declared.requests.Request.TheVariants.{Slice, Fragment, Drop, Limit}
-use Rattle.frame_bench.proofs.RequestLemmas.{AsksFromChannel}
+use Rattle.frame_bench.proofs.RequestLemmas.{AsksFromChannel, begins_with}
 use Rattle.frame_bench.proofs.RequestLemmas.{asked_drop, asked_fragment, asked_fragment_of, asked_from_channel}
 use Rattle.frame_bench.proofs.RequestLemmas.{asked_from_timestamp, asked_limit, asked_slice, asked_slice_of, asks_fragment}
 use Rattle.frame_bench.proofs.TextLemmas.{NumberAt, number_at_cases, number_cases, number_one, limit_cases, limit_one}
@@ -73,15 +73,15 @@ hex_bytes text bytes (inr x) = (decode_of-ok text bytes x.1).3
 
 -- a text begins with an entry's word and a space, or with none
 entry_cases : (text : List ℕ)
-    → ((entry : Entry) × (rest : List ℕ) × (text ≡ entry_word entry ++ space ∷ rest))
-    ⊎ ((entry : Entry) (rest : List ℕ) → text ≢ entry_word entry ++ space ∷ rest)
+    → ((entry : Entry) × (rest : List ℕ) × EntryAt text entry rest)
+    ⊎ ((entry : Entry) (rest : List ℕ) → EntryAt text entry rest → ⊥)
 entry_cases text =
     elim (front_cases (codes "eth" ++ space ∷ []) text) [
-      | inl found ↦ inl (Ethernet, found.0, found.1)
+      | inl found ↦ inl (Ethernet, found.0, (codes "eth", refl, found.1))
       | inr no_ethernet ↦ elim (front_cases (codes "sll" ++ space ∷ []) text) [
-        | inl found ↦ inl (LinuxSll, found.0, found.1)
+        | inl found ↦ inl (LinuxSll, found.0, (codes "sll", refl, found.1))
         | inr no_linux_sll ↦ elim (front_cases (codes "ip" ++ space ∷ []) text) [
-          | inl found ↦ inl (Ip, found.0, found.1)
+          | inl found ↦ inl (Ip, found.0, (codes "ip", refl, found.1))
           | inr no_ip ↦ inr (no_entry text no_ethernet no_linux_sll no_ip)
         ]
       ]
@@ -90,10 +90,14 @@ entry_cases text =
     no_entry : (text : List ℕ) → ((rest : List ℕ) → text ≢ codes "eth" ++ space ∷ rest)
         → ((rest : List ℕ) → text ≢ codes "sll" ++ space ∷ rest)
         → ((rest : List ℕ) → text ≢ codes "ip" ++ space ∷ rest)
-        → (entry : Entry) (rest : List ℕ) → text ≢ entry_word entry ++ space ∷ rest
-    no_entry text no_ethernet no_linux_sll no_ip Ethernet = no_ethernet
-    no_entry text no_ethernet no_linux_sll no_ip LinuxSll = no_linux_sll
-    no_entry text no_ethernet no_linux_sll no_ip Ip = no_ip
+        → (entry : Entry) (rest : List ℕ) → EntryAt text entry rest → ⊥
+    no_entry text no_ethernet no_linux_sll no_ip Ethernet rest at =
+        no_ethernet rest (begins_with text at.0 (codes "eth") rest at.1 at.2)
+    no_entry text no_ethernet no_linux_sll no_ip LinuxSll rest at =
+        no_linux_sll rest (begins_with text at.0 (codes "sll") rest at.1 at.2)
+    no_entry text no_ethernet no_linux_sll no_ip (EtherType type) rest at = at.1
+    no_entry text no_ethernet no_linux_sll no_ip Ip rest at =
+        no_ip rest (begins_with text at.0 (codes "ip") rest at.1 at.2)
 
 -- a line asks something, or it asks nothing
 abbrev AsksOrNot : List ℕ → Type 0
@@ -108,7 +112,7 @@ slice_cases rest =
         | inl said ↦ inl (
           Slice found.0,
           said.0,
-          (found.1, ap (λ t. codes "slice" ++ space ∷ t) found.2, said.1),
+          (found.2.0, found.1, found.2.1, ap (λ t. codes "slice" ++ space ∷ t) found.2.2, said.1),
         )
         | inr none ↦ inr (λ request bytes asks.
             none bytes (asked_slice_of rest found.1 found.0 found.2 request bytes asks).1)
@@ -147,13 +151,13 @@ fragment_cases rest =
           other asked.0 asked.1 asked.2)
     ]
   where
-    behind_time : (rest : List ℕ) (entry : Entry) (text : List ℕ) (parts : rest ≡ entry_word entry ++ space ∷ text)
+    behind_time : (rest : List ℕ) (entry : Entry) (text : List ℕ) (at_entry : EntryAt rest entry text)
         (time timed : List ℕ) (timestamp : ℕ) (at : NumberAt text time timed timestamp)
         (request : Request) (bytes : List ℕ) → Asks (codes "frag" ++ space ∷ rest) request bytes
         → AsksFromChannel entry timestamp timed request bytes
-    behind_time rest entry text parts time timed timestamp at request bytes asks =
+    behind_time rest entry text at_entry time timed timestamp at request bytes asks =
         asked_from_timestamp text time timed timestamp entry at request bytes
-        (asked_fragment_of rest text entry parts request bytes asks)
+        (asked_fragment_of rest text entry at_entry request bytes asks)
 
 drop_cases : (rest : List ℕ) → AsksOrNot (codes "drop" ++ space ∷ rest)
 drop_cases rest =
@@ -180,9 +184,9 @@ no_ask : (line : List ℕ) → ((rest : List ℕ) → line ≢ codes "slice" ++ 
     → ((rest : List ℕ) → line ≢ codes "limit" ++ space ∷ rest)
     → (request : Request) (bytes : List ℕ) → Asks line request bytes → ⊥
 no_ask line no_slice no_fragment no_drop no_limit (Slice entry) bytes asks =
-    no_slice (words (entry_word entry ∷ asks.0 ∷ [])) asks.1
+    no_slice (words (asks.0 ∷ asks.1 ∷ [])) asks.3
 no_ask line no_slice no_fragment no_drop no_limit (Fragment entry timestamp channel) bytes asks =
-    no_fragment (words (entry_word entry ∷ asks.0 ∷ asks.1 ∷ asks.2 ∷ [])) asks.3
+    no_fragment (words (asks.0 ∷ asks.1 ∷ asks.2 ∷ asks.3 ∷ [])) asks.5
 no_ask line no_slice no_fragment no_drop no_limit (Drop timestamp) bytes asks = no_drop asks.0 asks.1
 no_ask line no_slice no_fragment no_drop no_limit (Limit max) bytes asks = no_limit asks.0 asks.1
 
@@ -205,24 +209,26 @@ ask_cases line =
 
 -- what a line asks are bytes
 pub ask_bytes : (line : List ℕ) (request : Request) (bytes : List ℕ) → Asks line request bytes → AreBytes bytes
-ask_bytes line (Slice entry) bytes asks = hex_bytes asks.0 bytes asks.2
-ask_bytes line (Fragment entry timestamp channel) bytes asks = hex_bytes asks.2 bytes asks.6
+ask_bytes line (Slice entry) bytes asks = hex_bytes asks.1 bytes asks.4
+ask_bytes line (Fragment entry timestamp channel) bytes asks = hex_bytes asks.3 bytes asks.8
 ask_bytes line (Drop timestamp) bytes asks = rw asks.3 (λ i. omega arith)
 ask_bytes line (Limit max) bytes asks = rw asks.3 (λ i. omega arith)
 
 -- a line asks nothing else
 pub ask_one : (line : List ℕ) (r s : Request) (a b : List ℕ) → Asks line r a → Asks line s b → (r ≡ s) × (a ≡ b)
-ask_one line (Slice entry) s a b (text, parts, is) y =
+ask_one line (Slice entry) s a b (word, text, names, parts, is) y =
     let again =
-    asked_slice_of (entry_word entry ++ space ∷ text) text entry refl s b (subst (λ l. Asks l s b) parts y) in
+    asked_slice_of (word ++ space ∷ text) text entry (word, names, refl) s b (subst (λ l. Asks l s b) parts y) in
     (again.0, hex_one text a b is again.1)
-ask_one line (Fragment entry timestamp channel) s a b (time, number, text, parts, is_time, is_number, is) y =
+ask_one line (Fragment entry timestamp channel) s a b
+    (word, time, number, text, names, parts, is_time, is_number, is) y =
     let numbered = words (number ∷ text ∷ []) in
     let timed = words (time ∷ number ∷ text ∷ []) in
     let again =
     asked_from_channel numbered number text timestamp channel entry (refl, is_number) s b
     (asked_from_timestamp timed time numbered timestamp entry (refl, is_time) s b
-    (asked_fragment_of (entry_word entry ++ space ∷ timed) timed entry refl s b (subst (λ l. Asks l s b) parts y))) in
+    (asked_fragment_of (word ++ space ∷ timed) timed entry (word, names, refl) s b
+    (subst (λ l. Asks l s b) parts y))) in
     (again.0, hex_one text a b is again.1)
 ask_one line (Drop timestamp) s a b (time, parts, is, none) y =
     let again = asked_drop time s b (subst (λ l. Asks l s b) parts y) in (

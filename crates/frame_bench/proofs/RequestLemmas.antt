@@ -4,10 +4,10 @@ use Rattle.std.proofs.Common.{None, get_or, refl, ap, ◌∙◌, sym, subst, ari
 use Rattle.std.specs.Prelude.{IfSome, IfNone, MatchOption}
 use Rattle.std.proofs.lemmas.List.{append_cancel_left}
 use Rattle.std.specs.Prelude.{codes}
+use Rattle.etherparse.specs.Types.Entry.{Entry}
+use Rattle.etherparse.specs.Types.Entry.TheVariants.{Ethernet, LinuxSll, EtherType, Ip}
 use Rattle.frame_bench.specs.Lines.{space, words}
-use Rattle.frame_bench.specs.Requests.{Asks, IsHex, IsNumber, IsLimit, entry_word}
-use Rattle.frame_bench.specs.declared.requests.Entry.{Entry}
-use Rattle.frame_bench.specs.declared.requests.Entry.TheVariants.{Ethernet, LinuxSll, Ip}
+use Rattle.frame_bench.specs.Requests.{Asks, EntryAt, IsHex, IsNumber, IsLimit}
 use Rattle.frame_bench.specs.declared.requests.Request.{Request}
 use Rattle.frame_bench.specs.declared.requests.Request.TheVariants.{Slice, Fragment, Drop, Limit}
 use Rattle.frame_bench.proofs.TextLemmas.{NumberAt, number_at_one}
@@ -24,19 +24,48 @@ behind_word text word rest None parts refused =
 pub other_word : {A : Type 0} (x y : ℕ) (text rest : List ℕ) → x ∷ text ≡ y ∷ rest → x ≢ y → A
 other_word x y text rest same other = absurd (other (ap (λ t. get_or t 0 0) same))
 
+-- a text that begins with a word begins with what the word is
+pub begins_with : (text word known rest : List ℕ) → word ≡ known → text ≡ word ++ space ∷ rest
+    → text ≡ known ++ space ∷ rest
+begins_with text word known rest same parts = parts ∙ ap (λ w. w ++ space ∷ rest) same
+
+-- what two words are that one text begins with
+both : (text v w known other a b : List ℕ) → v ≡ known → w ≡ other → text ≡ v ++ space ∷ a → text ≡ w ++ space ∷ b
+    → known ++ space ∷ a ≡ other ++ space ∷ b
+both text v w known other a b is_known is_other first second =
+    sym (begins_with text v known a is_known first) ∙ begins_with text w other b is_other second
+
 -- a text begins with the word of one entry
-pub same_entry : (entry other : Entry) (text rest : List ℕ)
-    → entry_word entry ++ space ∷ text ≡ entry_word other ++ space ∷ rest
-    → (entry ≡ other) × (text ≡ rest)
-same_entry Ethernet Ethernet text rest same = (refl, append_cancel_left (codes "eth" ++ space ∷ []) text rest same)
-same_entry LinuxSll LinuxSll text rest same = (refl, append_cancel_left (codes "sll" ++ space ∷ []) text rest same)
-same_entry Ip Ip text rest same = (refl, append_cancel_left (codes "ip" ++ space ∷ []) text rest same)
-same_entry Ethernet LinuxSll text rest same = other_word 101 115 _ _ same (omega arith)
-same_entry Ethernet Ip text rest same = other_word 101 105 _ _ same (omega arith)
-same_entry LinuxSll Ethernet text rest same = other_word 115 101 _ _ same (omega arith)
-same_entry LinuxSll Ip text rest same = other_word 115 105 _ _ same (omega arith)
-same_entry Ip Ethernet text rest same = other_word 105 101 _ _ same (omega arith)
-same_entry Ip LinuxSll text rest same = other_word 105 115 _ _ same (omega arith)
+pub same_entry : (text : List ℕ) (entry other : Entry) (a b : List ℕ) → EntryAt text entry a → EntryAt text other b
+    → (entry ≡ other) × (a ≡ b)
+same_entry text Ethernet Ethernet a b x y = (
+  refl,
+  append_cancel_left (codes "eth" ++ space ∷ []) a b (both text x.0 y.0 (codes "eth") (codes "eth") a b x.1 y.1 x.2 y.2),
+)
+same_entry text LinuxSll LinuxSll a b x y = (
+  refl,
+  append_cancel_left (codes "sll" ++ space ∷ []) a b (both text x.0 y.0 (codes "sll") (codes "sll") a b x.1 y.1 x.2 y.2),
+)
+same_entry text Ip Ip a b x y = (
+  refl,
+  append_cancel_left (codes "ip" ++ space ∷ []) a b (both text x.0 y.0 (codes "ip") (codes "ip") a b x.1 y.1 x.2 y.2),
+)
+same_entry text Ethernet LinuxSll a b x y =
+    other_word 101 115 _ _ (both text x.0 y.0 (codes "eth") (codes "sll") a b x.1 y.1 x.2 y.2) (omega arith)
+same_entry text Ethernet Ip a b x y =
+    other_word 101 105 _ _ (both text x.0 y.0 (codes "eth") (codes "ip") a b x.1 y.1 x.2 y.2) (omega arith)
+same_entry text LinuxSll Ethernet a b x y =
+    other_word 115 101 _ _ (both text x.0 y.0 (codes "sll") (codes "eth") a b x.1 y.1 x.2 y.2) (omega arith)
+same_entry text LinuxSll Ip a b x y =
+    other_word 115 105 _ _ (both text x.0 y.0 (codes "sll") (codes "ip") a b x.1 y.1 x.2 y.2) (omega arith)
+same_entry text Ip Ethernet a b x y =
+    other_word 105 101 _ _ (both text x.0 y.0 (codes "ip") (codes "eth") a b x.1 y.1 x.2 y.2) (omega arith)
+same_entry text Ip LinuxSll a b x y =
+    other_word 105 115 _ _ (both text x.0 y.0 (codes "ip") (codes "sll") a b x.1 y.1 x.2 y.2) (omega arith)
+same_entry text (EtherType type) other a b x y = absurd x.1
+same_entry text Ethernet (EtherType type) a b x y = absurd y.1
+same_entry text LinuxSll (EtherType type) a b x y = absurd y.1
+same_entry text Ip (EtherType type) a b x y = absurd y.1
 
 -- ---- the words of a line, one by one
 
@@ -59,44 +88,47 @@ AsksFromTimestamp entry text request said =
 -- what the lines with these first words ask
 pub asked_slice : (rest : List ℕ) (request : Request) (said : List ℕ)
     → Asks (codes "slice" ++ space ∷ rest) request said
-    → (entry : Entry) × (text : List ℕ) × (rest ≡ entry_word entry ++ space ∷ text)
-    × AsksOf (Slice entry) text request said
-asked_slice rest (Slice entry) said (text, parts, is) = (
+    → (entry : Entry) × (text : List ℕ) × EntryAt rest entry text × AsksOf (Slice entry) text request said
+asked_slice rest (Slice entry) said (word, text, names, parts, is) = (
   entry,
   text,
-  append_cancel_left (codes "slice" ++ space ∷ []) rest (entry_word entry ++ space ∷ text) parts,
+  (word, names, append_cancel_left (codes "slice" ++ space ∷ []) rest (word ++ space ∷ text) parts),
   (refl, is),
 )
-asked_slice rest (Fragment entry timestamp channel) said asks = other_word 115 102 _ _ asks.3 (omega arith)
+asked_slice rest (Fragment entry timestamp channel) said asks = other_word 115 102 _ _ asks.5 (omega arith)
 asked_slice rest (Drop timestamp) said asks = other_word 115 100 _ _ asks.1 (omega arith)
 asked_slice rest (Limit max) said asks = other_word 115 108 _ _ asks.1 (omega arith)
 
 pub asked_fragment : (rest : List ℕ) (request : Request) (said : List ℕ)
     → Asks (codes "frag" ++ space ∷ rest) request said
-    → (entry : Entry) × (text : List ℕ) × (rest ≡ entry_word entry ++ space ∷ text)
+    → (entry : Entry) × (text : List ℕ) × EntryAt rest entry text
     × AsksFromTimestamp entry text request said
-asked_fragment rest (Slice entry) said asks = other_word 102 115 _ _ asks.1 (omega arith)
-asked_fragment rest (Fragment entry timestamp channel) said (time, number, text, parts, is_time, is_number, is) = (
-  entry,
-  words (time ∷ number ∷ text ∷ []),
-  append_cancel_left (codes "frag" ++ space ∷ []) rest
-      (entry_word entry ++ space ∷ words (time ∷ number ∷ text ∷ [])) parts,
-  (
-    time,
-    words (number ∷ text ∷ []),
-    timestamp,
-    (refl, is_time),
-    (number, text, channel, (refl, is_number), (refl, is)),
-  ),
-)
+asked_fragment rest (Slice entry) said asks = other_word 102 115 _ _ asks.3 (omega arith)
+asked_fragment rest (Fragment entry timestamp channel) said
+    (word, time, number, text, names, parts, is_time, is_number, is) = (
+      entry,
+      words (time ∷ number ∷ text ∷ []),
+      (
+        word,
+        names,
+        append_cancel_left (codes "frag" ++ space ∷ []) rest (word ++ space ∷ words (time ∷ number ∷ text ∷ [])) parts,
+      ),
+      (
+        time,
+        words (number ∷ text ∷ []),
+        timestamp,
+        (refl, is_time),
+        (number, text, channel, (refl, is_number), (refl, is)),
+      ),
+    )
 asked_fragment rest (Drop timestamp) said asks = other_word 102 100 _ _ asks.1 (omega arith)
 asked_fragment rest (Limit max) said asks = other_word 102 108 _ _ asks.1 (omega arith)
 
 pub asked_drop : (rest : List ℕ) (request : Request) (said : List ℕ)
     → Asks (codes "drop" ++ space ∷ rest) request said
     → (timestamp : ℕ) × (request ≡ Drop timestamp) × IsNumber rest timestamp × (said ≡ [])
-asked_drop rest (Slice entry) said asks = other_word 100 115 _ _ asks.1 (omega arith)
-asked_drop rest (Fragment entry timestamp channel) said asks = other_word 100 102 _ _ asks.3 (omega arith)
+asked_drop rest (Slice entry) said asks = other_word 100 115 _ _ asks.3 (omega arith)
+asked_drop rest (Fragment entry timestamp channel) said asks = other_word 100 102 _ _ asks.5 (omega arith)
 asked_drop rest (Drop timestamp) said (time, parts, is, none) = (
   timestamp,
   refl,
@@ -108,8 +140,8 @@ asked_drop rest (Limit max) said asks = other_word 100 108 _ _ asks.1 (omega ari
 pub asked_limit : (rest : List ℕ) (request : Request) (said : List ℕ)
     → Asks (codes "limit" ++ space ∷ rest) request said
     → (max : ℕ) × (request ≡ Limit max) × IsLimit rest max × (said ≡ [])
-asked_limit rest (Slice entry) said asks = other_word 108 115 _ _ asks.1 (omega arith)
-asked_limit rest (Fragment entry timestamp channel) said asks = other_word 108 102 _ _ asks.3 (omega arith)
+asked_limit rest (Slice entry) said asks = other_word 108 115 _ _ asks.3 (omega arith)
+asked_limit rest (Fragment entry timestamp channel) said asks = other_word 108 102 _ _ asks.5 (omega arith)
 asked_limit rest (Drop timestamp) said asks = other_word 108 100 _ _ asks.1 (omega arith)
 asked_limit rest (Limit max) said (text, parts, is, none) = (
   max,
@@ -119,20 +151,20 @@ asked_limit rest (Limit max) said (text, parts, is, none) = (
 )
 
 -- the same where further words are known
-pub asked_slice_of : (rest text : List ℕ) (entry : Entry) → rest ≡ entry_word entry ++ space ∷ text
+pub asked_slice_of : (rest text : List ℕ) (entry : Entry) → EntryAt rest entry text
     → (request : Request) (said : List ℕ) → Asks (codes "slice" ++ space ∷ rest) request said
     → AsksOf (Slice entry) text request said
-asked_slice_of rest text entry parts request said asks =
+asked_slice_of rest text entry at request said asks =
     let asked = asked_slice rest request said asks in
-    let same = same_entry entry asked.0 text asked.1 (sym parts ∙ asked.2) in
+    let same = same_entry rest entry asked.0 text asked.1 at asked.2 in
     (ap (λ (e : Entry). Slice e) same.0 ∙ asked.3.0, subst (λ t. IsHex t said) (sym same.1) asked.3.1)
 
-pub asked_fragment_of : (rest text : List ℕ) (entry : Entry) → rest ≡ entry_word entry ++ space ∷ text
+pub asked_fragment_of : (rest text : List ℕ) (entry : Entry) → EntryAt rest entry text
     → (request : Request) (said : List ℕ) → Asks (codes "frag" ++ space ∷ rest) request said
     → AsksFromTimestamp entry text request said
-asked_fragment_of rest text entry parts request said asks =
+asked_fragment_of rest text entry at request said asks =
     let asked = asked_fragment rest request said asks in
-    let same = same_entry entry asked.0 text asked.1 (sym parts ∙ asked.2) in
+    let same = same_entry rest entry asked.0 text asked.1 at asked.2 in
     subst (λ (e : Entry). AsksFromTimestamp e text request said) (sym same.0)
     (subst (λ t. AsksFromTimestamp asked.0 t request said) (sym same.1) asked.3)
 
@@ -155,16 +187,18 @@ asked_from_channel text number rest timestamp channel entry at request said asks
 
 -- a line with all these words asks this
 pub asks_fragment : (rest text time timed number numbered said : List ℕ) (entry : Entry) (timestamp channel : ℕ)
-    → rest ≡ entry_word entry ++ space ∷ text → NumberAt text time timed timestamp
+    → EntryAt rest entry text → NumberAt text time timed timestamp
     → NumberAt timed number numbered channel → IsHex numbered said
     → Asks (codes "frag" ++ space ∷ rest) (Fragment entry timestamp channel) said
-asks_fragment rest text time timed number numbered said entry timestamp channel parts at_time at_number is = (
+asks_fragment rest text time timed number numbered said entry timestamp channel at at_time at_number is = (
+  at.0,
   time,
   number,
   numbered,
-  ap (λ t. codes "frag" ++ space ∷ t) parts
-      ∙ ap (λ t. codes "frag" ++ space ∷ (entry_word entry ++ space ∷ t)) at_time.0
-      ∙ ap (λ t. codes "frag" ++ space ∷ (entry_word entry ++ space ∷ (time ++ space ∷ t))) at_number.0,
+  at.1,
+  ap (λ t. codes "frag" ++ space ∷ t) at.2
+      ∙ ap (λ t. codes "frag" ++ space ∷ (at.0 ++ space ∷ t)) at_time.0
+      ∙ ap (λ t. codes "frag" ++ space ∷ (at.0 ++ space ∷ (time ++ space ∷ t))) at_number.0,
   at_time.1,
   at_number.1,
   is,

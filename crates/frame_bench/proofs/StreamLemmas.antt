@@ -5,7 +5,7 @@ use Rattle.std.proofs.KnownBytes.{Appends-nil, Appends-trans, Consumes-kept, Con
 use Rattle.std.specs.Prelude.{Result, Ok, Err, OnErr}
 use Rattle.std.specs.Io.KnownBytes.{Appends, Consumes, Keeps}
 use Rattle.std.proofs.lemmas.List.Elements.{All-append, All-nil}
-use Rattle.ep_defrag.specs.declared.ip_defrag_pool.IpDefragPool.{IpDefragPool}
+use Rattle.etherparse.specs.Types.IpDefragPool.{IpDefragPool}
 use Rattle.frame_bench.specs.Answers.{AreAnswers, AnswersAfter, AnswersTo, BeginsAnswersAfter, BeginsAnswersTo}
 use Rattle.frame_bench.specs.Answers.{IsAnswer, IsAnswered}
 use Rattle.frame_bench.specs.Lines.{IsWithinLine, line_feed, lines_of}

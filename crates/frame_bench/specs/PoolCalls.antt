@@ -1,17 +1,17 @@
 -- The calls that lines make on the program's pool, whose timestamps, channels and values of drops are numbers.
 use Rattle.std.specs.Prelude.{◌≡◌, ℕ, ◌⊎◌, nat_eq, nat_le, List, [], ◌∷◌, ◌++◌, Option}
 use Rattle.std.specs.Option.{option_map}
-use Rattle.ep_defrag.specs.declared.ip_defrag_pool.IpDefragPool.{IpDefragPool}
-use Rattle.ep_defrag.specs.declared.ip_frag_id.IpFragId.{IpFragId}
-use Rattle.ep_defrag.specs.Calls.{Call, gives_frame, drops_streams, Kept, table_after}
-use Rattle.ep_defrag.specs.Pools.{limit_of, HoldsTable}
-use Rattle.ep_defrag.specs.Streams.{packet_fragment}
-use Rattle.ep_packet.specs.declared.err.slice_error.SliceError.{SliceError}
-use Rattle.ep_packet.specs.Fragments.{fragment_of}
-use Rattle.ep_packet.specs.Frame.{IsFrame}
-use Rattle.ep_packet.specs.Layers.{Layers}
-use Rattle.ep_packet.specs.Refusals.{RefusesFrame}
-use Rattle.frame_bench.specs.Requests.{Asks, frame_entry}
+use Rattle.etherparse.specs.Types.IpDefragPool.{IpDefragPool}
+use Rattle.etherparse.specs.Types.IpFragId.{IpFragId}
+use Rattle.etherparse.specs.Calls.{Call, gives_frame, drops_streams, Kept, table_after}
+use Rattle.etherparse.specs.Pools.{limit_of, HoldsTable}
+use Rattle.etherparse.specs.Streams.{packet_fragment}
+use Rattle.etherparse.specs.Types.SliceError.{SliceError}
+use Rattle.etherparse.specs.PacketFragments.{fragment_of}
+use Rattle.etherparse.specs.Frame.{IsFrame}
+use Rattle.etherparse.specs.Layers.{Layers}
+use Rattle.etherparse.specs.FrameRefusals.{RefusesFrame}
+use Rattle.frame_bench.specs.Requests.{Asks}
 use Rattle.frame_bench.specs.declared.requests.Request.{Request}
 use Rattle.frame_bench.specs.declared.requests.Request.TheVariants.{Slice, Fragment, Drop, Limit}
 
@@ -23,8 +23,8 @@ NumberCall = Call ℕ ℕ ℕ
 abbrev pub frame_call : Layers → ℕ → ℕ → NumberCall
 frame_call layers timestamp channel = gives_frame (option_map packet_fragment (fragment_of layers)) timestamp channel
 
--- What became of the program's pool: its limit, which the last line `limit` gave, or else 65535, and the calls that were
--- made on it since, in their order.
+-- What became of the program's pool: its limit, which the last line `limit` gave, or else 65535, and the calls that
+-- were made on it since, in their order.
 pub record PoolHistory : Type 0 where
   pub limit : ℕ
   pub calls : List NumberCall
@@ -35,14 +35,14 @@ new_pool limit = record { limit = limit; calls = [] }
 abbrev pub with_call : PoolHistory → NumberCall → PoolHistory
 with_call history call = record { limit = history.limit; calls = history.calls ++ call ∷ [] }
 
--- What a request about these bytes makes of a pool. One about a frame's layers makes no call, and so do bytes that are no
--- frame; a limit begins a new pool.
+-- What a request about these bytes makes of a pool. One about a frame's layers makes no call, and so do bytes that are
+-- no frame; a limit begins a new pool.
 abbrev pub IsAfterRequest : PoolHistory → Request → List ℕ → PoolHistory → Type 0
 IsAfterRequest before (Slice entry) bytes after = after ≡ before
 IsAfterRequest before (Fragment entry timestamp channel) bytes after =
-    ((layers : Layers) × IsFrame (frame_entry entry) bytes layers
+    ((layers : Layers) × IsFrame entry bytes layers
     × (after ≡ with_call before (frame_call layers timestamp channel)))
-    ⊎ ((error : SliceError) × RefusesFrame (frame_entry entry) bytes error × (after ≡ before))
+    ⊎ ((error : SliceError) × RefusesFrame entry bytes error × (after ≡ before))
 IsAfterRequest before (Drop timestamp) bytes after = after ≡ with_call before (drops_streams timestamp)
 IsAfterRequest before (Limit max) bytes after = after ≡ new_pool max
 

@@ -1,18 +1,17 @@
 -- What is replied about a fragment and a drop, as text.
 use Rattle.std.specs.Prelude.{◌≡◌, ℕ, ◌⊎◌, List, [], ◌∷◌, codes}
 use Rattle.std.specs.Fmt.{decimal}
-use Rattle.ep_defrag.specs.declared.ip_defrag_error.IpDefragError.{IpDefragError}
-use Rattle.ep_defrag.specs.declared.ip_defrag_error.IpDefragError.TheVariants.{UnalignedFragmentPayloadLen, SegmentTooBig, ConflictingEnd, AllocationFailure}
-use Rattle.ep_defrag.specs.Calls.{Answer, fragment_refused, payload_handed_out, nothing_handed_out, streams_dropped, buffer_returned, answer_to}
-use Rattle.ep_packet.specs.declared.err.slice_error.SliceError.{SliceError}
-use Rattle.ep_packet.specs.Frame.{IsFrame}
-use Rattle.ep_packet.specs.Layers.{Layers}
-use Rattle.ep_packet.specs.Refusals.{RefusesFrame}
+use Rattle.etherparse.specs.Types.IpDefragError.{IpDefragError}
+use Rattle.etherparse.specs.Types.IpDefragError.TheVariants.{UnalignedFragmentPayloadLen, SegmentTooBig, ConflictingEnd, AllocationFailure}
+use Rattle.etherparse.specs.Calls.{Answer, fragment_refused, payload_handed_out, nothing_handed_out, streams_dropped, buffer_returned, answer_to}
+use Rattle.etherparse.specs.Types.SliceError.{SliceError}
+use Rattle.etherparse.specs.Frame.{IsFrame}
+use Rattle.etherparse.specs.Layers.{Layers}
+use Rattle.etherparse.specs.FrameRefusals.{RefusesFrame}
+use Rattle.etherparse.specs.Types.Entry.{Entry}
 use Rattle.frame_bench.specs.Lines.{words}
 use Rattle.frame_bench.specs.PoolCalls.{NumberCall, PoolHistory, frame_call, table_behind}
-use Rattle.frame_bench.specs.Requests.{frame_entry}
 use Rattle.frame_bench.specs.SliceReplies.{hex_text, refusal_text}
-use Rattle.frame_bench.specs.declared.requests.Entry.{Entry}
 
 -- The text of a pool's refusal. An offset is in units of 8 bytes. Want of memory has none: it ends the run.
 abbrev pub pool_error_text : IpDefragError → List ℕ
@@ -37,10 +36,10 @@ pool_answer_text buffer_returned = []
 abbrev pub call_reply : PoolHistory → NumberCall → List ℕ
 call_reply history call = pool_answer_text (answer_to history.limit (table_behind history) call)
 
--- The reply about bytes from an entry on, on the pool that has this behind it: what the pool answers the frame that they
--- are, or why they are none.
+-- The reply about bytes from an entry on, on the pool that has this behind it: what the pool answers the frame that
+-- they are, or why they are none.
 abbrev pub IsFragmentReply : PoolHistory → Entry → ℕ → ℕ → List ℕ → List ℕ → Type 0
 IsFragmentReply history entry timestamp channel bytes reply =
-    ((layers : Layers) × IsFrame (frame_entry entry) bytes layers
+    ((layers : Layers) × IsFrame entry bytes layers
     × (reply ≡ call_reply history (frame_call layers timestamp channel)))
-    ⊎ ((error : SliceError) × RefusesFrame (frame_entry entry) bytes error × (reply ≡ refusal_text error))
+    ⊎ ((error : SliceError) × RefusesFrame entry bytes error × (reply ≡ refusal_text error))

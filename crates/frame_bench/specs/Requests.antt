@@ -1,26 +1,23 @@
 -- What a line asks.
-use Rattle.std.specs.Prelude.{◌≡◌, ℕ, ◌^◌, ◌<◌, ◌≤◌, ◌⊎◌, List, [], ◌∷◌, length, codes, Ok}
+use Rattle.std.specs.Prelude.{◌≡◌, ℕ, ◌^◌, ◌<◌, ◌≤◌, ◌⊎◌, List, [], ◌∷◌, ◌++◌, length, codes, Ok}
 use Rattle.std.specs.Str.Parse.{IsNumeral, digits_value}
 use Rattle.hex.specs.Hex.{decode_of}
-use Rattle.ep_packet.specs.declared.entry.Entry.{Entry as FrameEntry}
-use Rattle.ep_packet.specs.declared.entry.Entry.TheVariants.{Ethernet as ethernet, LinuxSll as linux_sll, Ip as ip}
-use Rattle.frame_bench.specs.Lines.{words}
-use Rattle.frame_bench.specs.declared.requests.Entry.{Entry}
-use Rattle.frame_bench.specs.declared.requests.Entry.TheVariants.{Ethernet, LinuxSll, Ip}
+use Rattle.etherparse.specs.Types.Entry.{Entry}
+use Rattle.etherparse.specs.Types.Entry.TheVariants.{Ethernet, LinuxSll, EtherType, Ip}
+use Rattle.frame_bench.specs.Lines.{space, words}
 use Rattle.frame_bench.specs.declared.requests.Request.{Request}
 use Rattle.frame_bench.specs.declared.requests.Request.TheVariants.{Slice, Fragment, Drop, Limit}
 
--- the word that names an entry
-abbrev pub entry_word : Entry → List ℕ
-entry_word Ethernet = codes "eth"
-entry_word LinuxSll = codes "sll"
-entry_word Ip = codes "ip"
+-- the word names the entry; none names a payload whose ether type is given
+abbrev pub NamesEntry : List ℕ → Entry → Type 0
+NamesEntry word Ethernet = word ≡ codes "eth"
+NamesEntry word LinuxSll = word ≡ codes "sll"
+NamesEntry word (EtherType type) = ⊥
+NamesEntry word Ip = word ≡ codes "ip"
 
--- the entry of frames that an entry of a request is
-abbrev pub frame_entry : Entry → FrameEntry
-frame_entry Ethernet = ethernet
-frame_entry LinuxSll = linux_sll
-frame_entry Ip = ip
+-- the text is the word of an entry, a space, and then this
+abbrev pub EntryAt : List ℕ → Entry → List ℕ → Type 0
+EntryAt text entry rest = (word : List ℕ) × NamesEntry word entry × (text ≡ word ++ space ∷ rest)
 
 -- the bytes that a text says: `-` none, and else each byte by two hexadecimal digits of either case
 abbrev pub IsHex : List ℕ → List ℕ → Type 0
@@ -38,9 +35,11 @@ IsLimit text limit = IsNumber text limit × (length text ≤ 5) × (limit ≤ 65
 -- the line asks this of these bytes, in words that exactly one space parts
 abbrev pub Asks : List ℕ → Request → List ℕ → Type 0
 Asks line (Slice entry) bytes =
-    (text : List ℕ) × (line ≡ words (codes "slice" ∷ entry_word entry ∷ text ∷ [])) × IsHex text bytes
+    (word text : List ℕ) × NamesEntry word entry × (line ≡ words (codes "slice" ∷ word ∷ text ∷ []))
+    × IsHex text bytes
 Asks line (Fragment entry timestamp channel) bytes =
-    (time number text : List ℕ) × (line ≡ words (codes "frag" ∷ entry_word entry ∷ time ∷ number ∷ text ∷ []))
+    (word time number text : List ℕ) × NamesEntry word entry
+    × (line ≡ words (codes "frag" ∷ word ∷ time ∷ number ∷ text ∷ []))
     × IsNumber time timestamp × IsNumber number channel × IsHex text bytes
 Asks line (Drop timestamp) bytes =
     (time : List ℕ) × (line ≡ words (codes "drop" ∷ time ∷ [])) × IsNumber time timestamp × (bytes ≡ [])

@@ -2,29 +2,28 @@
 use Rattle.std.specs.Prelude.{◌≡◌, ℕ, ◌⊎◌, List, [], ◌∷◌, ◌++◌, Option, Some, None, codes}
 use Rattle.std.specs.Fmt.{decimal}
 use Rattle.hex.specs.Hex.{encode_lower}
-use Rattle.ep_base.specs.Names.{layer_name, len_source_name}
-use Rattle.ep_base.specs.declared.err.ip_auth.HeaderError.TheVariants as auth_error
-use Rattle.ep_base.specs.declared.err.ip.HeaderError.TheVariants as ip_error
-use Rattle.ep_base.specs.declared.err.ipv4.HeaderError.TheVariants as ipv4_error
-use Rattle.ep_base.specs.declared.err.ipv6.HeaderError.TheVariants as ipv6_error
-use Rattle.ep_base.specs.declared.err.ipv6_exts.HeaderError.TheVariants as exts_error
-use Rattle.ep_base.specs.declared.err.linux_sll.HeaderError.TheVariants as linux_sll_error
-use Rattle.ep_base.specs.declared.err.macsec.HeaderError.TheVariants as macsec_error
-use Rattle.ep_link.specs.LinkExtensions.{LinkExtension, vlan, macsec}
-use Rattle.ep_link.specs.LinkSlices.{LinkLayer, ethernet2, linux_sll as sll, ether_payload, linux_sll_payload}
-use Rattle.ep_transport.specs.declared.transport_header.TransportHeader.{TransportHeader}
-use Rattle.ep_transport.specs.declared.transport_header.TransportHeader.TheVariants as header
-use Rattle.ep_transport.specs.TransportParts.{TransportLayer}
-use Rattle.ep_base.specs.declared.err.tcp.HeaderError.TheVariants as tcp_error
-use Rattle.ep_packet.specs.declared.err.slice_error.SliceError.{SliceError}
-use Rattle.ep_packet.specs.declared.err.slice_error.SliceError.TheVariants.{Len, LinuxSll, Macsec, Ip, Ipv4, Ipv6, Ipv4Exts, Ipv6Exts, Tcp}
-use Rattle.ep_packet.specs.Frame.{IsFrame}
-use Rattle.ep_packet.specs.FrameBytes.{last_payload}
-use Rattle.ep_packet.specs.Layers.{Layers, NetLayer, ipv4, ipv6, arp}
-use Rattle.ep_packet.specs.Refusals.{RefusesFrame}
+use Rattle.etherparse.specs.Names.{layer_name, len_source_name}
+use Rattle.etherparse.specs.Types.IpAuthHeaderError.TheVariants as auth_error
+use Rattle.etherparse.specs.Types.IpHeaderError.TheVariants as ip_error
+use Rattle.etherparse.specs.Types.Ipv4HeaderError.TheVariants as ipv4_error
+use Rattle.etherparse.specs.Types.Ipv6HeaderError.TheVariants as ipv6_error
+use Rattle.etherparse.specs.Types.Ipv6ExtsHeaderError.TheVariants as exts_error
+use Rattle.etherparse.specs.Types.LinuxSllHeaderError.TheVariants as linux_sll_error
+use Rattle.etherparse.specs.Types.MacsecHeaderError.TheVariants as macsec_error
+use Rattle.etherparse.specs.LinkExtensions.{LinkExtension, vlan, macsec}
+use Rattle.etherparse.specs.LinkSlices.{LinkLayer, ethernet2, linux_sll as sll, ether_payload, linux_sll_payload}
+use Rattle.etherparse.specs.Types.TransportHeader.{TransportHeader}
+use Rattle.etherparse.specs.Types.TransportHeader.TheVariants as header
+use Rattle.etherparse.specs.TransportParts.{TransportLayer}
+use Rattle.etherparse.specs.Types.TcpHeaderError.TheVariants as tcp_error
+use Rattle.etherparse.specs.Types.SliceError.{SliceError}
+use Rattle.etherparse.specs.Types.SliceError.TheVariants.{Len, LinuxSll, Macsec, Ip, Ipv4, Ipv6, Ipv4Exts, Ipv6Exts, Tcp}
+use Rattle.etherparse.specs.Frame.{IsFrame}
+use Rattle.etherparse.specs.FrameBytes.{last_payload}
+use Rattle.etherparse.specs.Layers.{Layers, NetLayer, ipv4, ipv6, arp}
+use Rattle.etherparse.specs.FrameRefusals.{RefusesFrame}
+use Rattle.etherparse.specs.Types.Entry.{Entry}
 use Rattle.frame_bench.specs.Lines.{words}
-use Rattle.frame_bench.specs.Requests.{frame_entry}
-use Rattle.frame_bench.specs.declared.requests.Entry.{Entry}
 
 -- the word for what is not there
 abbrev pub absent : List ℕ
@@ -118,5 +117,5 @@ refusal_text (Tcp (tcp_error.DataOffsetTooSmall data_offset)) =
 -- the reply about bytes from an entry on: the layers of the frame that they are, or why they are none
 abbrev pub IsSliceReply : Entry → List ℕ → List ℕ → Type 0
 IsSliceReply entry bytes reply =
-    ((layers : Layers) × IsFrame (frame_entry entry) bytes layers × (reply ≡ layers_text layers))
-    ⊎ ((error : SliceError) × RefusesFrame (frame_entry entry) bytes error × (reply ≡ refusal_text error))
+    ((layers : Layers) × IsFrame entry bytes layers × (reply ≡ layers_text layers))
+    ⊎ ((error : SliceError) × RefusesFrame entry bytes error × (reply ≡ refusal_text error))

@@ -1,7 +1,7 @@
 -- What is read, what is written, and that the one answers the other.
 use Rattle.std.specs.Prelude.{◌≡◌, ℕ, List, ◌++◌, Option}
 use Rattle.std.specs.Io.KnownBytes.{Consumes, Appends}
-use Rattle.ep_defrag.specs.declared.ip_defrag_pool.IpDefragPool.{IpDefragPool}
+use Rattle.etherparse.specs.Types.IpDefragPool.{IpDefragPool}
 use Rattle.frame_bench.specs.Lines.{lines_of, IsWithinLine}
 use Rattle.frame_bench.specs.Answers.{AreAnswers, BeginsAnswersAfter}
 use Rattle.frame_bench.specs.PoolCalls.{HoldsLines}

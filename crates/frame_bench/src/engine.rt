@@ -14,7 +14,7 @@ use crate::replies::push_line;
 use crate::run_error::RunError;
 use crate::texts::split_at_first;
 use crate::watched::Watched;
-use ep_defrag::IpDefragPool;
+use etherparse::defrag::IpDefragPool;
 use std::alloc::{AllocError, Global};
 use std::io::{Read, Write};
 

@@ -9,7 +9,7 @@ use crate::run_error::RunError;
 pub fn answers()
     ensures { (before : List (List ℕ)) (input : List ℕ) → IsAnswered before input }
 {
-    ep_packet::laws::frames();
+    etherparse::laws::packet::frames();
 }
 
 /// Errors are equal where they are the same.

@@ -11,9 +11,9 @@
 //! or says why the fragment is refused or why the bytes are no frame. A line `drop TS` is answered `ok`, and the pool
 //! keeps the streams whose last accepted fragment has no timestamp below TS.
 //!
-//! A line `limit MAX`, MAX 1 to 5 decimal digits of at most 65535, is answered `ok`, and a new pool takes the place of the
-//! one before, which is given up with its streams: one in which no payload is longer than MAX bytes. The limit of the first
-//! pool is 65535.
+//! A line `limit MAX`, MAX 1 to 5 decimal digits of at most 65535, is answered `ok`, and a new pool takes the place of
+//! the one before, which is given up with its streams: one in which no payload is longer than MAX bytes. The limit of
+//! the first pool is 65535.
 //!
 //! Any other line is answered `err line`.
 #![tactic(auto)]
@@ -21,14 +21,14 @@
 mod decimals;
 pub mod ending;
 pub mod engine;
-mod fragments;
 mod hex_text;
 pub mod laws;
-mod pooling;
+mod pool_replies;
+mod pool_requests;
 mod replies;
 mod requests;
 pub mod run_error;
-mod slicing;
+mod slice_replies;
 #[cfg(test)]
 mod tests;
 mod texts;

@@ -6,10 +6,10 @@ ghost use Rattle.frame_bench.specs.Lines.{line_feed};
 ghost use Rattle.frame_bench.specs.PoolCalls.{PoolHistory, IsAfterRequest, HoldsHistory, HoldsLines};
 ghost use Rattle.frame_bench.specs.Replies.{IsReply};
 
-use crate::pooling::{drop_below, push_fragment};
+use crate::pool_replies::{drop_below, push_fragment};
 use crate::requests::{Request, parse};
-use crate::slicing::push_slice;
-use ep_defrag::IpDefragPool;
+use crate::slice_replies::push_slice;
+use etherparse::defrag::IpDefragPool;
 use std::alloc::{AllocError, Global};
 
 /// Appends the answer to a line behind any others, after which the pool stands, and a line feed. What `bytes` holds is

@@ -1,26 +1,16 @@
 //! What a line asks.
 
-ghost use Rattle.std.specs.Prelude.{◌≡◌, ◌∷◌, ◌++◌, ℕ, List, IfNone, IfOk, IfSome, codes};
+ghost use Rattle.std.specs.Prelude.{◌∷◌, ◌++◌, ℕ, List, IfNone, IfOk, IfSome, codes};
+ghost use Rattle.etherparse.specs.Types.Entry.{Entry};
 ghost use Rattle.frame_bench.specs.Lines.{space};
-ghost use Rattle.frame_bench.specs.Requests.{Asks, entry_word};
-ghost use Rattle.frame_bench.specs.declared.requests.Entry.{Entry};
+ghost use Rattle.frame_bench.specs.Requests.{Asks, EntryAt};
 ghost use Rattle.frame_bench.specs.declared.requests.Request.{Request};
 
-use crate::fragments::{parse_drop, parse_fragment, parse_limit};
 use crate::hex_text::decode;
+use crate::pool_requests::{parse_drop, parse_fragment, parse_limit};
 use crate::texts::behind;
+use etherparse::Entry;
 use std::alloc::AllocError;
-
-/// What stands at the front of the bytes of a line.
-#[derive(Clone, Copy, Debug)]
-pub enum Entry {
-    /// An Ethernet II header.
-    Ethernet,
-    /// The header of a Linux cooked capture (SLL v1).
-    LinuxSll,
-    /// An IP packet.
-    Ip,
-}
 
 /// What a line asks of its bytes.
 #[derive(Clone, Copy, Debug)]
@@ -89,8 +79,8 @@ fn parse_slice(text: &[u8], bytes: &mut Vec<u8>) -> Result<Option<Request>, Allo
 
 /// The entry whose word stands at the front of a text, and what stands behind that word and a space.
 pub fn entry_at(text: &[u8]) -> Option<(Entry, &[u8])>
-    ensures some { IfSome result (λ found. text.now ≡ entry_word found.0 ++ space ∷ found.1.now) }
-    ensures none { IfNone result ((entry : Entry) (rest : List ℕ) → text.now ≡ entry_word entry ++ space ∷ rest → ⊥) }
+    ensures some { IfSome result (λ found. EntryAt text.now found.0 found.1.now) }
+    ensures none { IfNone result ((entry : Entry) (rest : List ℕ) → EntryAt text.now entry rest → ⊥) }
 {
     if let Some(rest) = behind(text, b"eth") {
         return Some((Entry::Ethernet, rest));

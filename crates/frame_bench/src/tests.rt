@@ -9,6 +9,7 @@ mod frames;
 mod ip;
 mod limits;
 mod lines;
+mod memory;
 mod streams;
 
 use crate::engine::run;

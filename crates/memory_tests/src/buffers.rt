@@ -138,6 +138,9 @@ fn copy(rt: &(impl Abort + Print), buffer: &IpDefragBuf) -> IpDefragBuf {
 #[test]
 fn clones(rt: HostRuntime) {
     let mut buffer = new_buffer(rt.alloc());
+    same(&rt, &copy(&rt, &buffer), &buffer);
+    adds(&rt, &mut buffer, "setup", (1, true, b""));
+    same(&rt, &copy(&rt, &buffer), &buffer);
     adds(&rt, &mut buffer, "setup", (0, true, b"abcdefgh"));
     same(&rt, &copy(&rt, &buffer), &buffer);
 }

@@ -2,8 +2,8 @@
 //!
 //! Each test passes whichever of its requests is refused, and where none is. A call that answers want of memory is
 //! named on a line `refused: NAME`, and is made again, which has to give its ordinary answer. `refuse.py` refuses each
-//! request of each test in turn (`rt try --test --fail-alloc N`), looks that a call is named for each, and compares
-//! which requests are those of which call with the table in `requests`.
+//! request of each test in turn, looks that one call is named for each, and compares which requests are those of which
+//! call with the table in `requests`.
 #![tactic(auto)]
 
 #[cfg(test)]

@@ -72,14 +72,34 @@ fn first_frame(rt: HostRuntime) {
 }
 
 /// A frame is refused with this error.
-fn refuses(rt: &impl Abort, pool: &mut Pool, timestamp: u64, frame: &[u8]) {
+fn refuses(
+    rt: &impl Abort,
+    pool: &mut Pool,
+    (frame, timestamp): (&[u8], u64),
+    error: IpDefragError,
+) {
     let packet = SlicedPacket::from_ethernet(frame).expect(rt, "no frame");
+    let answer = pool.process_sliced_packet(&packet, timestamp, 0);
+    same(rt, &answer, &Err(error));
+}
+
+/// 7 bytes where more fragments follow are refused.
+fn refuses_unaligned(rt: &impl Abort, pool: &mut Pool, timestamp: u64) {
     let error = IpDefragError::UnalignedFragmentPayloadLen {
         offset: offset(rt, 1),
         payload_len: 7,
     };
-    let answer = pool.process_sliced_packet(&packet, timestamp, 0);
-    same(rt, &answer, &Err(error));
+    refuses(rt, pool, (VLAN_1_UNALIGNED, timestamp), error);
+}
+
+/// The last 8 bytes of 24 are refused for this limit.
+fn refuses_behind(rt: &impl Abort, pool: &mut Pool, max: u16) {
+    let error = IpDefragError::SegmentTooBig {
+        offset: offset(rt, 2),
+        payload_len: 8,
+        max,
+    };
+    refuses(rt, pool, (VLAN_1_BEHIND, 1), error);
 }
 
 /// A refused fragment leaves the timestamp, so that the drop takes the stream.
@@ -87,7 +107,7 @@ fn refuses(rt: &impl Abort, pool: &mut Pool, timestamp: u64, frame: &[u8]) {
 fn refused_keeps_time(rt: HostRuntime) {
     let mut pool = IpDefragPool::new(rt.alloc());
     answers(&rt, &mut pool, FIRST, (VLAN_1_FIRST, 1), 8, b"");
-    refuses(&rt, &mut pool, 5, VLAN_1_UNALIGNED);
+    refuses_unaligned(&rt, &mut pool, 5);
     pool.retain(|timestamp| *timestamp >= 3);
     same(&rt, &streams(&mut pool), &0);
     answers(&rt, &mut pool, FIRST, (VLAN_1_LAST, 6), 16, b"");
@@ -104,12 +124,26 @@ fn skips(rt: &impl Abort, pool: &mut Pool, frame: &[u8]) {
 fn without_memory(rt: HostRuntime) {
     let mut pool = IpDefragPool::new(rt.alloc());
     skips(&rt, &mut pool, WHOLE_PACKET);
-    refuses(&rt, &mut pool, 1, VLAN_1_UNALIGNED);
+    refuses_unaligned(&rt, &mut pool, 1);
     same(&rt, &streams(&mut pool), &0);
     answers(&rt, &mut pool, "setup", (VLAN_1_FIRST, 1), 8, b"");
     skips(&rt, &mut pool, VLAN_1_FIRST);
-    refuses(&rt, &mut pool, 1, VLAN_1_UNALIGNED);
+    refuses_unaligned(&rt, &mut pool, 1);
     pool.retain(|timestamp| *timestamp >= 3);
     same(&rt, &streams(&mut pool), &0);
+    asks_once(&rt, rt.alloc());
+}
+
+/// What ends behind the limit asks for no memory, with and without a stream, nor does a pool of another limit, which
+/// takes the place of the first one and its streams.
+#[test]
+fn limits_without_memory(rt: HostRuntime) {
+    let mut pool = IpDefragPool::with_limit(rt.alloc(), 8);
+    refuses_behind(&rt, &mut pool, 8);
+    answers(&rt, &mut pool, "setup", (VLAN_1_FIRST, 1), 8, b"");
+    refuses_behind(&rt, &mut pool, 8);
+    pool = IpDefragPool::with_limit(rt.alloc(), 23);
+    same(&rt, &streams(&mut pool), &0);
+    refuses_behind(&rt, &mut pool, 23);
     asks_once(&rt, rt.alloc());
 }

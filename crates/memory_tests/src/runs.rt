@@ -16,13 +16,20 @@ fn stopped(rt: &(impl Abort + Print), name: &str, stop: &RunStop) {
 /// Both halves of a payload and a frame of another stream in between.
 const FRAMES: [&[u8]; 3] = [VLAN_1_FIRST, VLAN_2_FIRST, VLAN_1_LAST];
 
+/// The same, and behind the first of them one that ends at 24.
+const FRAMES_BEHIND: [&[u8]; 4] = [VLAN_1_FIRST, VLAN_1_BEHIND, VLAN_2_FIRST, VLAN_1_LAST];
+
 type Calls = Vec<PoolCall<'static, u64, u8, u64>>;
 
-fn call_list(rt: &impl Abort, alloc: Global) -> Result<Calls, AllocError> {
-    let mut calls = Vec::with_capacity(alloc, 3)?;
-    for frame in FRAMES {
+fn call_list(
+    rt: &impl Abort,
+    alloc: Global,
+    frames: &[&'static [u8]],
+) -> Result<Calls, AllocError> {
+    let mut calls = Vec::with_capacity(alloc, frames.len())?;
+    for frame in frames {
         let call = PoolCall::Frame {
-            packet: SlicedPacket::from_ethernet(frame).expect(rt, "no frame"),
+            packet: SlicedPacket::from_ethernet(*frame).expect(rt, "no frame"),
             timestamp: 1,
             channel_id: 0,
         };
@@ -32,21 +39,24 @@ fn call_list(rt: &impl Abort, alloc: Global) -> Result<Calls, AllocError> {
 }
 
 /// The calls, and where that was refused, when they are made again.
-fn calls(rt: &(impl Abort + Print), alloc: Global) -> Calls {
-    match call_list(rt, alloc) {
+fn calls(rt: &(impl Abort + Print), alloc: Global, frames: &[&'static [u8]]) -> Calls {
+    match call_list(rt, alloc, frames) {
         Ok(calls) => calls,
         Err(_) => {
             refused(rt, "setup");
-            call_list(rt, alloc).expect(rt, "refused twice")
+            call_list(rt, alloc, frames).expect(rt, "refused twice")
         }
     }
 }
 
+/// The same frames as bytes, behind bytes that are no frame.
+const BYTES: [&[u8]; 4] = [b"\x50", VLAN_1_FIRST, VLAN_2_FIRST, VLAN_1_LAST];
+
 type Frames = Vec<FrameCall<'static, u64, u8, u64>>;
 
 fn frame_list(alloc: Global) -> Result<Frames, AllocError> {
-    let mut calls = Vec::with_capacity(alloc, 3)?;
-    for bytes in FRAMES {
+    let mut calls = Vec::with_capacity(alloc, 4)?;
+    for bytes in BYTES {
         let call = FrameCall::Frame {
             entry: Entry::Ethernet,
             bytes,
@@ -58,7 +68,7 @@ fn frame_list(alloc: Global) -> Result<Frames, AllocError> {
     Ok(calls)
 }
 
-/// The same of frames as bytes.
+/// The calls with bytes, and where that was refused, when they are made again.
 fn frames(rt: &(impl Abort + Print), alloc: Global) -> Frames {
     match frame_list(alloc) {
         Ok(calls) => calls,
@@ -80,7 +90,7 @@ fn is_payload(answer: &PoolAnswer, payload: &[u8]) -> bool {
 
 /// The answers of a run over the packets.
 fn answers_of_calls(rt: &(impl Abort + Print), alloc: Global) -> Result<Vec<PoolAnswer>, RunStop> {
-    let calls = calls(rt, alloc);
+    let calls = calls(rt, alloc, &FRAMES);
     let keep = |limit: &u64, timestamp: &u64| *timestamp >= *limit;
     match run_calls(alloc, calls, keep) {
         Ok((answers, _pool)) => Ok(answers),
@@ -88,12 +98,12 @@ fn answers_of_calls(rt: &(impl Abort + Print), alloc: Global) -> Result<Vec<Pool
     }
 }
 
-/// There are three answers, of which the last is the first stream's payload.
-fn are_whole(rt: &impl Abort, answers: &[PoolAnswer]) {
-    same(rt, &answers.len(), &3);
+/// There are so many answers, of which the last is the first stream's payload.
+fn are_whole(rt: &impl Abort, answers: &[PoolAnswer], count: usize) {
+    same(rt, &answers.len(), &count);
     same(
         rt,
-        &is_payload(answers.last().expect(rt, "three"), WHOLE),
+        &is_payload(answers.last().expect(rt, "some"), WHOLE),
         &true,
     );
 }
@@ -101,13 +111,34 @@ fn are_whole(rt: &impl Abort, answers: &[PoolAnswer]) {
 #[test]
 fn of_calls(rt: HostRuntime) {
     match answers_of_calls(&rt, rt.alloc()) {
-        Ok(answers) => are_whole(&rt, &answers),
+        Ok(answers) => are_whole(&rt, &answers, 3),
         Err(stop) => {
             stopped(&rt, "run_calls", &stop);
-            are_whole(
-                &rt,
-                &answers_of_calls(&rt, rt.alloc()).expect(&rt, "refused twice"),
-            );
+            let answers = answers_of_calls(&rt, rt.alloc()).expect(&rt, "refused twice");
+            are_whole(&rt, &answers, 3);
+        }
+    }
+}
+
+/// The answers of a run within 16 bytes, with a frame that ends behind them.
+fn answers_within(rt: &(impl Abort + Print), alloc: Global) -> Result<Vec<PoolAnswer>, RunStop> {
+    let calls = calls(rt, alloc, &FRAMES_BEHIND);
+    let keep = |limit: &u64, timestamp: &u64| *timestamp >= *limit;
+    match run_calls_with_limit(alloc, 16, calls, keep) {
+        Ok((answers, _pool)) => Ok(answers),
+        Err(stop) => Err(stop),
+    }
+}
+
+/// A frame behind the limit is refused without memory, and counts among the calls.
+#[test]
+fn of_calls_with_limit(rt: HostRuntime) {
+    match answers_within(&rt, rt.alloc()) {
+        Ok(answers) => are_whole(&rt, &answers, 4),
+        Err(stop) => {
+            stopped(&rt, "run_calls_with_limit", &stop);
+            let answers = answers_within(&rt, rt.alloc()).expect(&rt, "refused twice");
+            are_whole(&rt, &answers, 4);
         }
     }
 }
@@ -133,10 +164,10 @@ fn is_whole(answer: &FrameAnswer) -> bool {
     }
 }
 
-/// There are three answers, of which the last is the first stream's payload.
+/// There are four answers, of which the last is the first stream's payload.
 fn are_whole_frames(rt: &impl Abort, answers: &[FrameAnswer]) {
-    same(rt, &answers.len(), &3);
-    same(rt, &is_whole(answers.last().expect(rt, "three")), &true);
+    same(rt, &answers.len(), &4);
+    same(rt, &is_whole(answers.last().expect(rt, "four")), &true);
 }
 
 #[test]

@@ -85,6 +85,16 @@ fn not_given_back(rt: HostRuntime) {
     long_then_short(&rt, rt.alloc(), false);
 }
 
+/// A payload that comes back to a pool where no place is reserved for it is freed: that asks for no memory.
+#[test]
+fn given_back_without_place(rt: HostRuntime) {
+    let mut pool = IpDefragPool::new(rt.alloc());
+    let whole = completed(&rt, &mut pool, 1, (b"abcdefgh", b"ijkl"));
+    let mut other: Pool = IpDefragPool::new(rt.alloc());
+    other.return_buf(whole);
+    asks_once(&rt, rt.alloc());
+}
+
 /// Streams of two fragments, one after the other, whose payloads go back: after the first one none asks for memory.
 #[test]
 fn steady(rt: HostRuntime) {
@@ -96,10 +106,13 @@ fn steady(rt: HostRuntime) {
     asks_once(&rt, rt.alloc());
 }
 
-/// A stream begins with 2,000 bytes and ends with none, and one begins with none.
+/// The longest payload comes in two fragments, each of which a frame can carry; a stream ends with no bytes, and one
+/// begins with none.
 #[test]
 fn large_and_empty(rt: HostRuntime) {
     let mut pool = IpDefragPool::new(rt.alloc());
+    let longest = completed(&rt, &mut pool, 1, (&[7; 32768], &[7; 32767]));
+    same(&rt, &longest.payload.len(), &65535);
     let large = completed(&rt, &mut pool, 1, (&[7; 2000], b""));
     same(&rt, &large.payload.len(), &2000);
     let short = completed(&rt, &mut pool, 2, (b"", b"abc"));

@@ -1,11 +1,28 @@
 -- What the bytes of a file begin with.
-use Rattle.std.proofs.Common.{◌≡◌, ℕ, ◌<◌, ◌≤◌, ◌+◌, ◌-◌, ◌^◌, List, [], ◌∷◌, ◌++◌, length, take, drop, sym, refl, ap, subst, ◌∙◌, arith}
-use Rattle.std.proofs.lemmas.List.{length-take-le, length-drop, take_all, take-append-drop}
+use Rattle.std.proofs.Common.{◌≡◌, ℕ, ◌<◌, ◌≤◌, ◌+◌, ◌-◌, ◌^◌, List, [], ◌∷◌, ◌++◌, length, take, drop, sym, refl, ap, subst, ◌∙◌, inl, inr, arith}
+use Rattle.std.proofs.Math.Seq.{take-append_seam, drop-append_seam}
+use Rattle.std.proofs.lemmas.Bool.{cases_lt}
+use Rattle.std.proofs.lemmas.List.{get_or-take, get_or_past, length-take, length-take-le, length-drop, take_all}
+use Rattle.std.proofs.lemmas.List.{take-append-drop}
 use Rattle.std.proofs.lemmas.Nat.{from_le_bytes-to_le_bytes_4, le_bytes_4}
 use Rattle.std.specs.Int.{w32, from_le_bytes, to_le_bytes}
-use Rattle.ep_base.specs.Bytes.{AreBytes}
-use Rattle.ep_base.proofs.BytesLemmas.{AreBytes-take, same_parts}
+use Rattle.etherparse.specs.Bytes.{AreBytes}
 use Rattle.slice_bench.specs.Files.{HoldsFrames, StartsWith}
+
+-- fronts of one length are one front, and what follows is one rest
+same_parts : (a b x y : List ℕ) → length a ≡ length b → a ++ x ≡ b ++ y → (a ≡ b) × (x ≡ y)
+same_parts a b x y len same = (
+  sym (take-append_seam a x) ∙ ap (take (length a)) same ∙ ap (λ (n : ℕ). take n (b ++ y)) len ∙ take-append_seam b y,
+  sym (drop-append_seam a x) ∙ ap (drop (length a)) same ∙ ap (λ (n : ℕ). drop n (b ++ y)) len ∙ drop-append_seam b y,
+)
+
+-- a front of bytes is bytes
+AreBytes-take : (n : ℕ) (bytes : List ℕ) → AreBytes bytes → AreBytes (take n bytes)
+AreBytes-take n bytes fits i =
+    elim (cases_lt i n) [
+      | inl within ↦ rw (get_or-take n bytes i 0 within) (fits i)
+      | inr past ↦ rw (get_or_past (take n bytes) i 0 (omega (arith, length-take n bytes))) (omega arith)
+    ]
 
 -- bytes start with one frame only
 pub one_frame : (bytes a b x y : List ℕ) → StartsWith bytes a x → StartsWith bytes b y → (a ≡ b) × (x ≡ y)

@@ -3,16 +3,12 @@
 ghost use Rattle.std.specs.Prelude.{◌≡◌, ◌<◌, ◌^◌, IfErr};
 
 use crate::bench_error::BenchError;
-use ep_base::IpNumber;
-use ep_build::err::BuildWriteError;
-use ep_build::{PacketBuilder, PacketBuilderStep};
-use ep_ext::{Ipv4Extensions, Ipv6Extensions};
-use ep_ip::{Ipv4Header, Ipv6Header};
-use ep_link::{
-    ArpPacket, DoubleVlanHeader, Ethernet2Header, LinkExtHeader, LinkHeader, VlanHeader,
+use etherparse::err::packet::BuildWriteError;
+use etherparse::{
+    ArpPacket, DoubleVlanHeader, Ethernet2Header, IpHeaders, IpNumber, Ipv4Extensions, Ipv4Header,
+    Ipv6Extensions, Ipv6Header, LinkExtHeader, LinkHeader, NetHeaders, PacketBuilder,
+    PacketBuilderStep, PacketHeaders, PayloadSlice, TransportHeader, VlanHeader,
 };
-use ep_packet::{IpHeaders, NetHeaders, PacketHeaders, PayloadSlice};
-use ep_transport::TransportHeader;
 use std::alloc::Global;
 
 /// What a frame is built from.

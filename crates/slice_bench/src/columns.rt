@@ -1,10 +1,10 @@
 //! What is done with a frame, and what is summed of it.
 
-use ep_ip::Ipv4Slice;
-use ep_link::{LinkHeader, LinkSlice};
-use ep_packet::err::SliceError;
-use ep_packet::{Entry, IpHeaders, NetHeaders, NetSlice, PacketHeaders, SlicedPacket};
-use ep_transport::{TransportHeader, TransportSlice};
+use etherparse::err::packet::SliceError;
+use etherparse::{
+    Entry, IpHeaders, Ipv4Slice, LinkHeader, LinkSlice, NetHeaders, NetSlice, PacketHeaders,
+    SlicedPacket, TransportHeader, TransportSlice,
+};
 
 /// Something that is done with each frame, or with each IP packet, in turn.
 pub trait Column<'a> {

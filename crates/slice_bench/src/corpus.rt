@@ -3,8 +3,7 @@
 ghost use Rattle.std.specs.Prelude.{◌≡◌, IfErr};
 
 use crate::bench_error::BenchError;
-use ep_link::EtherPayloadSlice;
-use ep_packet::{NetSlice, SlicedPacket};
+use etherparse::{EtherPayloadSlice, NetSlice, SlicedPacket};
 use std::alloc::Global;
 
 /// The IP packets in frames, each where its frame has one, with what its length field leaves.

@@ -1,8 +1,8 @@
 //! Putting the fragmented payloads of frames together.
 
 use crate::bench_error::BenchError;
-use ep_defrag::{IpDefragError, IpDefragPool};
-use ep_packet::SlicedPacket;
+use etherparse::SlicedPacket;
+use etherparse::defrag::{IpDefragError, IpDefragPool};
 use std::alloc::Global;
 
 /// How many bytes a new pool hands out of these frames, in order. It sees what is no frame as nothing, and gets each

@@ -25,8 +25,8 @@ impl Hash for Silent {
     fn hash<H: Hasher>(&self, _state: &mut H) {}
 }
 
-/// The frames of two streams that differ in the VLAN alone, each with the payload that answers it on a channel of its own,
-/// or nothing where that is empty.
+/// The frames of two streams that differ in the VLAN alone, each with the payload that answers it on a channel of its
+/// own, or nothing where that is empty.
 const FRAMES: [(&[u8], &[u8]); 5] = [
     (VLAN_1_FIRST, b""),
     (VLAN_2_FIRST, b""),

@@ -32,7 +32,7 @@ pub(super) const CUTS: [Needs; 7] = [
     Needs {
         words: b"slice eth ",
         frame: b"0708090a0b0c0102030405060800\
-            45000030000040001406e374c0a80101c0a801020015000c000030390000000050020fa0dc7a00000102030405060708",
+            45000030000040001406e374c0a80101c0a801020015000c000030390000000050000fa0dc7a00000102030405060708",
         layers: &[
             (14, 0, b"err len 14 ", b" Slice Ethernet2Header 0"),
             (34, 14, b"err len 20 ", b" Slice Ipv4Header 14"),

@@ -1,5 +1,5 @@
-//! Readers and writers that fail, end or take nothing behind every number of bytes, and some that move random numbers of
-//! bytes.
+//! Readers and writers that fail, end or take nothing behind every number of bytes, and some that move random numbers
+//! of bytes.
 
 use super::cuts::{CUTS, push_refusal};
 use super::streams::{SINGLE, Turn, WHOLE, ending_of};

@@ -1,4 +1,5 @@
-//! Short floods of lines to the pool: each cycle of lines comes again and again (`compare/floods.py` has the long ones).
+//! Short floods of lines to the pool: each cycle of lines comes again and again (`compare/floods.py` has the long
+//! ones).
 
 use super::{assert_answers, push_line};
 use std::alloc::Global;

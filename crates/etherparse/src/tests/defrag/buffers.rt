@@ -3,8 +3,8 @@
 use super::Bytes::{Rising, Zeros};
 use super::*;
 
-/// A fragment at an offset in units of 8 bytes, whether more follow, its bytes, and whether the buffer is complete after
-/// it.
+/// A fragment at an offset in units of 8 bytes, whether more follow, its bytes, and whether the buffer is complete
+/// after it.
 pub(super) type Step = (u16, bool, Bytes, bool);
 
 pub(super) type Answers = Vec<Result<(), IpDefragError>>;
@@ -291,58 +291,4 @@ fn many_fragments(rt: HostRuntime) {
         &(true, &payload),
     );
     same(&rt, &buffer.clone().expect(&rt, "no memory"), &buffer);
-}
-
-/// Adds a fragment, a second time where there was no memory at first: then nothing may have changed.
-fn adds_again(
-    rt: &impl Abort,
-    buffer: &mut IpDefragBuf,
-    units: u16,
-    len: usize,
-    (shown, sections): (&[u8], &[IpFragRange]),
-) {
-    if let Err(error) = buffer.add(offset(rt, units), true, PAYLOAD) {
-        same(rt, &error, &IpDefragError::AllocationFailure { len });
-        same(rt, &buffer.data().as_slice(), &shown);
-        same(rt, &buffer.sections().as_slice(), &sections);
-        same(rt, &buffer.end(), &None);
-        same(rt, &buffer.add(offset(rt, units), true, PAYLOAD), &Ok(()));
-    }
-}
-
-/// Takes memory in `add` alone, so that each request of it may be refused: then the same call succeeds again.
-#[test]
-fn want_of_memory(rt: HostRuntime) {
-    let mut buffer = new_buffer(rt.alloc());
-    adds_again(&rt, &mut buffer, 0, 8, (b"", &[]));
-    adds_again(&rt, &mut buffer, 8, 72, (PAYLOAD, &[section(0, 8)]));
-    same(
-        &rt,
-        &(buffer.data().len(), buffer.sections().len()),
-        &(72, 2),
-    );
-}
-
-/// Takes memory in `add_all` alone.
-#[test]
-fn want_of_memory_at_once(rt: HostRuntime) {
-    let fragments = [
-        Fragment {
-            offset: IpFragOffset::ZERO,
-            more_fragments: true,
-            payload: PAYLOAD,
-        },
-        Fragment {
-            offset: offset(&rt, 1),
-            more_fragments: false,
-            payload: PAYLOAD,
-        },
-    ];
-    let (bytes, sections) = (Vec::new(rt.alloc()), Vec::new(rt.alloc()));
-    match add_all(rt.alloc(), IpNumber::UDP, bytes, sections, &fragments) {
-        Ok((buffer, answers)) => {
-            same(&rt, &(buffer.is_complete(), answers.len()), &(true, 2));
-        }
-        Err(stop) => same(&rt, &(stop.at < 2), &true),
-    }
 }

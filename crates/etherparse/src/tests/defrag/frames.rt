@@ -273,18 +273,3 @@ fn five_cuts_of_ipv6(rt: HostRuntime) {
         (LenSource::Ipv6HeaderPayloadLen, &payload),
     );
 }
-
-/// Each request of the run for memory may be refused (`rt try --test --fail-alloc N`): it then stops.
-#[test]
-fn want_of_memory(rt: HostRuntime) {
-    let calls = [
-        frame(Entry::Ip, REFUSED, 1),
-        frame(Entry::Ip, FIRST_IPV4, 1),
-        frame(Entry::Ip, LAST_IPV4, 1),
-    ];
-    let calls = Vec::from_array(rt.alloc(), calls).expect(&rt, "no memory");
-    match run_with_limits(rt.alloc(), calls) {
-        Ok((answers, _pool)) => same(&rt, &answers.len(), &3),
-        Err(stop) => same(&rt, &(stop.at < 3), &true),
-    }
-}

@@ -310,36 +310,3 @@ fn used_again(rt: HostRuntime) {
     completes(&rt, &mut pool, (1, false), b"89ABCDEF", b"");
     completes(&rt, &mut pool, (0, true), b"01234567", b"0123456789ABCDEF");
 }
-
-/// A packet whose fragment ends there is answered by this payload, or by nothing where it is empty: the second time,
-/// where there was no memory at first.
-fn is_answered(
-    rt: &impl Abort,
-    pool: &mut IpDefragPool<u64, u8>,
-    packet: &[u8],
-    len: usize,
-    payload: &[u8],
-) {
-    let packet = SlicedPacket::from_ip(packet).expect(rt, "refused");
-    let mut answer = pool.process_sliced_packet(&packet, 1, 0);
-    if answer == Err(IpDefragError::AllocationFailure { len }) {
-        answer = pool.process_sliced_packet(&packet, 1, 0);
-    }
-    let is_wanted = is_payload(&answer, LenSource::Ipv4HeaderTotalLen, payload);
-    same(rt, &is_wanted, &true);
-}
-
-/// Takes memory in the pool's calls alone, so that each request may be refused: then the same call succeeds again.
-#[test]
-fn want_of_memory(rt: HostRuntime) {
-    let mut pool = IpDefragPool::new(rt.alloc());
-    let first =
-        b"\x45\x00\x00\x1c\x00\x01\x20\x00\x14\x11\x03\x7d\xc0\xa8\x01\x01\xc0\xa8\x01\x02abcdefgh";
-    is_answered(&rt, &mut pool, first, 8, b"");
-    let last =
-        b"\x45\x00\x00\x1c\x00\x01\x00\x02\x14\x11\x23\x7b\xc0\xa8\x01\x01\xc0\xa8\x01\x02abcdefgh";
-    is_answered(&rt, &mut pool, last, 24, b"");
-    let between =
-        b"\x45\x00\x00\x1c\x00\x01\x20\x01\x14\x11\x03\x7c\xc0\xa8\x01\x01\xc0\xa8\x01\x02abcdefgh";
-    is_answered(&rt, &mut pool, between, 16, b"abcdefghabcdefghabcdefgh");
-}

@@ -1,5 +1,5 @@
-//! Frames that are cut to every length, and what each parser answers: which layer misses bytes, where it begins, and how
-//! many bytes it needs. The answers are from the pictures of the standards.
+//! Frames that are cut to every length, and what each parser answers: which layer misses bytes, where it begins, and
+//! how many bytes it needs. The answers are from the pictures of the standards.
 
 use crate::err::Layer;
 use crate::err::packet::SliceError;
@@ -201,8 +201,8 @@ fn tcp_options(rt: HostRuntime) {
     refuses_cuts(&rt, IPV6, TCP_OPTIONS, &rows, 68);
 }
 
-/// Messages with a header of eight bytes: replies, unreachable destinations, source quenches, redirects, requests, times
-/// exceeded, problems with parameters, and types that are not known.
+/// Messages with a header of eight bytes: replies, unreachable destinations, source quenches, redirects, requests,
+/// times exceeded, problems with parameters, and types that are not known.
 #[test]
 fn icmpv4(rt: HostRuntime) {
     let none = LenSource::Ipv6HeaderPayloadLen;
@@ -278,8 +278,8 @@ fn macsec_with_type(rt: HostRuntime) {
     refuses_cuts(&rt, MACSEC, counted, &packet, 12);
 }
 
-/// MACsec tags without a type: of a modified payload, of an encrypted one that was not modified, with an identifier, and
-/// of an encrypted one whose short length is 0.
+/// MACsec tags without a type: of a modified payload, of an encrypted one that was not modified, with an identifier,
+/// and of an encrypted one whose short length is 0.
 #[test]
 fn macsec_without_type(rt: HostRuntime) {
     let modified = [
@@ -307,6 +307,8 @@ fn open_length(rt: HostRuntime) {
         short(40, 40, Layer::Ipv6Header, 0),
     ];
     refuses_cuts(&rt, Entry::Ip, OPEN_LENGTH, &rows, 40);
+    let header = [short(40, 40, Layer::Ipv6Header, 0)];
+    refuses_cuts(&rt, IPV6, OPEN_LENGTH, &header, 40);
     for n in 40..44 {
         let bytes = OPEN_LENGTH.get(..n).expect(&rt, "no cut of the packet");
         let payload = OPEN_LENGTH.get(40..n).expect(&rt, "no cut of the payload");

@@ -1,5 +1,7 @@
 //! The layers of packets, seen through the calls that answer single ones.
 
+use crate::err::packet::SliceError;
+use crate::err::{Layer, LenError};
 use crate::tests::checks::same;
 use crate::tests::samples::*;
 use crate::*;
@@ -59,6 +61,43 @@ fn ip_payload_of_a_frame(rt: HostRuntime) {
         payload: &FRAME[34..],
     };
     same(&rt, &packet.ip_payload(), &Some(&payload));
+}
+
+#[test]
+fn places_in_a_frame(rt: HostRuntime) {
+    let packet = SlicedPacket::from_ethernet(FRAME).expect(&rt, "refused");
+    let net = packet.net.as_ref().expect(&rt, "a net layer");
+    same(&rt, &(net.header_len(), packet.payload_offset()), &(20, 42));
+}
+
+#[test]
+fn datagram_of_a_frame(rt: HostRuntime) {
+    let packet = SlicedPacket::from_ethernet(FRAME).expect(&rt, "refused");
+    let transport = packet.transport.expect(&rt, "a transport layer");
+    let port = transport.udp().map(|datagram| datagram.destination_port());
+    same(&rt, &port, &Some(1234));
+    let icmp = transport.icmpv4().is_some() || transport.icmpv6().is_some();
+    same(&rt, &(transport.tcp().is_some(), icmp), &(false, false));
+}
+
+/// The destination port of a datagram in an IPv4 packet. What a layer is refused for is the error of a packet.
+fn port_in(packet: &[u8]) -> Result<u16, SliceError> {
+    let packet = Ipv4Slice::from_slice(packet)?;
+    let datagram = UdpSlice::from_slice(packet.payload().payload)?;
+    Ok(datagram.destination_port())
+}
+
+#[test]
+fn errors_of_layers(rt: HostRuntime) {
+    let error = LenError {
+        required_len: 20,
+        len: 19,
+        len_source: LenSource::Slice,
+        layer: Layer::Ipv4Header,
+        layer_start_offset: 0,
+    };
+    same(&rt, &port_in(&FRAME[14..]), &Ok(1234));
+    same(&rt, &port_in(&FRAME[14..33]), &Err(SliceError::Len(error)));
 }
 
 /// A tag whose identifier is this number, which is at most 4095.

@@ -1,5 +1,5 @@
-//! Frames whose length fields lie: each is refused with the layer that its bytes do not suffice for, what set their end,
-//! and how many there are. The answers are from the pictures of the standards.
+//! Frames whose length fields lie: each is refused with the layer that its bytes do not suffice for, what set their
+//! end, and how many there are. The answers are from the pictures of the standards.
 
 use crate::err::packet::SliceError;
 use crate::err::{Layer, LenError, ipv4, tcp};
@@ -37,7 +37,8 @@ fn refused(rt: &impl Abort, frame: &[u8], error: &SliceError) {
     same(rt, &headers.as_ref(), &Some(error));
 }
 
-/// Slices refuse the frame with this error, and headers take it, since they leave the length field of UDP to the reader.
+/// Slices refuse the frame with this error, and headers take it, since they leave the length field of UDP to the
+/// reader.
 fn refused_in_slices(rt: &impl Abort, frame: &[u8], error: &SliceError) {
     let sliced = SlicedPacket::from_ethernet(frame).err();
     same(rt, &sliced.as_ref(), &Some(error));

@@ -16,8 +16,8 @@ pub const ARP_FRAME: &[u8] =
 pub const COOKED_FRAME: &[u8] =
     b"\x00\x03\x00\x01\x00\x06\x01\x02\x03\x04\x05\x06\x00\x00\x08\x00\x45\x00\x00\x24\x00\x00\x40\x00\x14\x11\xe3\x75\xc0\xa8\x01\x01\xc0\xa8\x01\x02\x00\x15\x04\xd2\x00\x10\x67\x7f\x01\x02\x03\x04\x05\x06\x07\x08";
 
-/// An IPv6 packet whose payload takes all bytes: hop by hop options of 16 bytes, destination options, a routing header, a
-/// fragment header that tells no fragment, an authentication header with a check value of four bytes, the final
+/// An IPv6 packet whose payload takes all bytes: hop by hop options of 16 bytes, destination options, a routing header,
+/// a fragment header that tells no fragment, an authentication header with a check value of four bytes, the final
 /// destination options, and a datagram without payload.
 pub const EVERY_EXTENSION: &[u8] =
     b"\x60\0\0\0\0\0\x00\x40\0\0\0\0\0\0\0\0\0\0\0\0\0\0\0\0\0\0\0\0\0\0\0\0\0\0\0\0\0\0\0\0\x3c\x01\0\0\0\0\0\0\0\0\0\0\0\0\0\0\x2b\0\0\0\0\0\0\0\x2c\0\0\0\0\0\0\0\x33\0\0\0\0\0\0\x01\x3c\x02\0\0\0\0\0\x02\0\0\0\x03\xaa\xbb\xcc\xdd\x11\0\0\0\0\0\0\0\x00\x15\x04\xd2\x00\x08\0\0";

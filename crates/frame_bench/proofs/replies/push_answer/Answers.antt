@@ -1,6 +1,6 @@
 use Rattle.std.proofs.Common.{◌≡◌, ◌∷◌, ◌++◌, ℕ, List, [], inl, inr, refl}
 use Rattle.std.proofs.lemmas.Result.{on_ok_weaker}
-use Rattle.ep_defrag.specs.declared.ip_defrag_pool.IpDefragPool.{IpDefragPool}
+use Rattle.etherparse.specs.Types.IpDefragPool.{IpDefragPool}
 use Rattle.frame_bench.specs.Answers.{IsAnswer}
 use Rattle.frame_bench.specs.PoolCalls.{PoolHistory, IsAfterRequest, HoldsHistory, HoldsLines}
 use Rattle.frame_bench.specs.Replies.{IsReply}

@@ -1,0 +1,9 @@
+use Rattle.std.proofs.Common.{◌∙◌}
+use Rattle.frame_bench.specs.PoolCalls.{table_behind}
+use Rattle.frame_bench.proofs.pool_replies.give_back.Goals as goal
+
+pub returns-in-Ok-Some : goal.returns-in-Ok-Some
+returns-in-Ok-Some c = λ history held. record {
+  limit = c.return_buf.ensures.limit ∙ held.limit;
+  table = c.return_buf.ensures.holds (table_behind history) held.table;
+}

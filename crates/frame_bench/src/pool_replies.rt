@@ -1,0 +1,178 @@
+//! The reply about a fragment and a drop.
+
+ghost use Rattle.std.specs.Prelude.{◌≡◌, ◌∷◌, ◌++◌, [], nat_le, ℕ, IsFalse, List, OnOk};
+ghost use Rattle.std.specs.Fmt.{decimal};
+ghost use Rattle.etherparse.specs.Calls.{drops_streams, payload_handed_out};
+ghost use Rattle.etherparse.specs.Pools.{plain_frame_answer, plain_payload, wants_memory};
+ghost use Rattle.etherparse.specs.DefragRefusals.{is_want_of_memory};
+ghost use Rattle.etherparse.specs.Types.IpDefragError.TheVariants.{SegmentTooBig};
+ghost use Rattle.etherparse.specs.Layers.{layers_of};
+ghost use Rattle.frame_bench.specs.Lines.{space};
+ghost use Rattle.frame_bench.specs.PoolCalls.{PoolHistory, IsAfterRequest, HoldsHistory, frame_call, with_call};
+ghost use Rattle.frame_bench.specs.PoolReplies.{IsFragmentReply, call_reply, pool_answer_text, pool_error_text};
+ghost use Rattle.frame_bench.specs.declared.requests.Request.TheVariants as request;
+
+use crate::slice_replies::push_refusal;
+use crate::{decimals, hex_text};
+use etherparse::defrag::{IpDefragError, IpDefragPayloadVec, IpDefragPool};
+use etherparse::{Entry, SlicedPacket};
+use std::alloc::AllocError;
+
+/// Hands the frame to the pool and appends what it answers, or appends why the bytes are no frame. A payload that is
+/// handed out goes back to the pool.
+pub fn push_fragment(
+    output: &mut Vec<u8>,
+    pool: &mut IpDefragPool<u64, u64>,
+    entry: Entry,
+    timestamp: u64,
+    channel: u64,
+    bytes: &[u8],
+) -> Result<(), AllocError>
+    ensures reply { OnOk result ((history : PoolHistory) → HoldsHistory history pool.old → (reply : List ℕ)
+        × IsFragmentReply history entry timestamp channel bytes.now reply
+        × (output.new.items ≡ output.old.items ++ reply)) }
+    ensures holds { OnOk result ((history : PoolHistory) → HoldsHistory history pool.old → (after : PoolHistory)
+        × IsAfterRequest history (request.Fragment entry timestamp channel) bytes.now after
+        × HoldsHistory after pool.new) }
+{
+    match SlicedPacket::from_entry(entry, bytes) {
+        Ok(packet) => push_frame(output, pool, &packet, timestamp, channel),
+        Err(error) => push_refusal(output, &error),
+    }
+}
+
+/// Hands a packet to the pool and appends what it answers.
+fn push_frame(
+    output: &mut Vec<u8>,
+    pool: &mut IpDefragPool<u64, u64>,
+    packet: &SlicedPacket<'_>,
+    timestamp: u64,
+    channel: u64,
+) -> Result<(), AllocError>
+    ensures reply { OnOk result ((history : PoolHistory) → HoldsHistory history pool.old → output.new.items
+        ≡ output.old.items ++ call_reply history (frame_call (layers_of packet.now) timestamp channel)) }
+    ensures holds { OnOk result ((history : PoolHistory) → HoldsHistory history pool.old →
+        HoldsHistory (with_call history (frame_call (layers_of packet.now) timestamp channel)) pool.new) }
+{
+    let answer = pool.process_sliced_packet(packet, timestamp, channel);
+    push_pool_answer(output, &answer)?;
+    give_back(pool, answer);
+    Ok(())
+}
+
+/// Gives the payload of an answer back to the pool, if it has one.
+fn give_back(
+    pool: &mut IpDefragPool<u64, u64>,
+    answer: Result<Option<IpDefragPayloadVec>, IpDefragError>,
+)
+    ensures { (history : PoolHistory) → HoldsHistory history pool.old → HoldsHistory history pool.new }
+{
+    if let Ok(Some(payload)) = answer {
+        pool.return_buf(payload);
+    }
+}
+
+/// Drops the streams whose timestamp is below this one.
+pub fn drop_below(pool: &mut IpDefragPool<u64, u64>, timestamp: u64)
+    ensures { (history : PoolHistory) → HoldsHistory history pool.old →
+        HoldsHistory (with_call history (drops_streams timestamp)) pool.new }
+{
+    pool.retain(
+        |kept: &u64| -> bool
+            ensures { result ≡ nat_le timestamp kept.now }
+        { *kept >= timestamp },
+    );
+}
+
+/// Appends what a pool answered to a frame. Want of memory has no text and is an error here.
+fn push_pool_answer(
+    output: &mut Vec<u8>,
+    answer: &Result<Option<IpDefragPayloadVec>, IpDefragError>,
+) -> Result<(), AllocError>
+    ensures memory { OnOk result (IsFalse (wants_memory answer.now)) }
+    ensures text { OnOk result (output.new.items
+        ≡ output.old.items ++ pool_answer_text (plain_frame_answer answer.now)) }
+{
+    match answer {
+        Ok(None) => output.extend_from_slice(b"none"),
+        Ok(Some(payload)) => push_payload(output, payload),
+        Err(error) => push_pool_error(output, error),
+    }
+}
+
+/// Appends a payload's number and its bytes.
+fn push_payload(output: &mut Vec<u8>, payload: &IpDefragPayloadVec) -> Result<(), AllocError>
+    ensures { OnOk result (output.new.items
+        ≡ output.old.items ++ pool_answer_text (payload_handed_out (plain_payload payload.now))) }
+{
+    let number = payload.ip_number.0;
+    decimals::push_behind(output, b"payload ", u64::from(number))?;
+    output.push(b' ')?;
+    hex_text::push(output, payload.payload.as_slice())
+}
+
+/// Appends the text of a pool's refusal. Want of memory has none and is an error here.
+fn push_pool_error(output: &mut Vec<u8>, error: &IpDefragError) -> Result<(), AllocError>
+    ensures memory { OnOk result (IsFalse (is_want_of_memory error.now)) }
+    ensures text { OnOk result (output.new.items ≡ output.old.items ++ pool_error_text error.now) }
+{
+    match error {
+        IpDefragError::SegmentTooBig {
+            offset,
+            payload_len,
+            max,
+        } => push_too_big(output, offset.value(), *payload_len, *max),
+        IpDefragError::UnalignedFragmentPayloadLen {
+            offset,
+            payload_len,
+        } => {
+            let offset = offset.value();
+            push_pair(
+                output,
+                b"err unaligned ",
+                u64::from(offset),
+                *payload_len as u64,
+            )
+        }
+        IpDefragError::ConflictingEnd {
+            previous_end,
+            conflicting_end,
+        } => {
+            push_pair(
+                output,
+                b"err conflict ",
+                u64::from(*previous_end),
+                u64::from(*conflicting_end),
+            )
+        }
+        IpDefragError::AllocationFailure { .. } => Err(AllocError),
+    }
+}
+
+/// Appends the numbers of a fragment that is too long, its offset in units of 8 bytes.
+fn push_too_big(
+    output: &mut Vec<u8>,
+    offset: u16,
+    payload_len: usize,
+    max: u16,
+) -> Result<(), AllocError>
+    ensures { OnOk result (output.new.items
+        ≡ output.old.items ++ pool_error_text (SegmentTooBig offset payload_len max)) }
+{
+    push_pair(
+        output,
+        b"err too-big ",
+        u64::from(offset),
+        payload_len as u64,
+    )?;
+    decimals::push_behind(output, b" ", u64::from(max))
+}
+
+/// Appends a text and two numbers with a space between them.
+fn push_pair(output: &mut Vec<u8>, text: &[u8], first: u64, second: u64) -> Result<(), AllocError>
+    ensures { OnOk result (output.new.items
+        ≡ output.old.items ++ (text.now ++ (decimal first ++ space ∷ decimal second))) }
+{
+    decimals::push_behind(output, text, first)?;
+    decimals::push_behind(output, b" ", second)
+}

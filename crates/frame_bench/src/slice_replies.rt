@@ -1,0 +1,184 @@
+//! The reply about a frame.
+
+ghost use Rattle.std.specs.Prelude.{◌≡◌, ◌∷◌, ◌++◌, [], ℕ, List, OnOk, map};
+ghost use Rattle.std.specs.Option.{option_map};
+ghost use Rattle.etherparse.specs.LinkExtensions.{link_extension_of};
+ghost use Rattle.etherparse.specs.LinkSlices.{link_layer_of};
+ghost use Rattle.etherparse.specs.Layers.{layers_of, net_layer_of};
+ghost use Rattle.etherparse.specs.TransportParts.{transport_layer_of};
+ghost use Rattle.frame_bench.specs.Lines.{space};
+ghost use Rattle.frame_bench.specs.SliceReplies.{IsSliceReply, extension_text, extensions_word};
+ghost use Rattle.frame_bench.specs.SliceReplies.{layers_text, link_word, net_word, refusal_text, transport_word};
+
+use crate::{decimals, hex_text};
+use etherparse::err::packet::SliceError;
+use etherparse::err::{LenError, ip, ip_auth, ipv4, ipv6, ipv6_exts, linux_sll, macsec, tcp};
+use etherparse::{Entry, LinkExtSlice, LinkSlice, NetSlice, SlicedPacket, TransportSlice};
+use std::alloc::AllocError;
+
+/// Appends the text of the frame's layers, or why the bytes are no frame.
+pub fn push_slice(output: &mut Vec<u8>, entry: Entry, bytes: &[u8]) -> Result<(), AllocError>
+    ensures { OnOk result ((reply : List ℕ) × IsSliceReply entry bytes.now reply
+        × (output.new.items ≡ output.old.items ++ reply)) }
+{
+    match SlicedPacket::from_entry(entry, bytes) {
+        Ok(packet) => push_layers(output, &packet),
+        Err(error) => push_refusal(output, &error),
+    }
+}
+
+/// Appends a word for each layer, and the payload of the innermost.
+fn push_layers(output: &mut Vec<u8>, packet: &SlicedPacket<'_>) -> Result<(), AllocError>
+    ensures { OnOk result (output.new.items ≡ output.old.items ++ layers_text (layers_of packet.now)) }
+{
+    let link = link_word(&packet.link);
+    let net = net_word(&packet.net);
+    let transport = transport_word(&packet.transport);
+    output.extend_from_slice(b"ok ")?;
+    push_word(output, link)?;
+    push_extensions(output, packet.link_exts.as_slice())?;
+    output.push(b' ')?;
+    push_word(output, net)?;
+    push_word(output, transport)?;
+    hex_text::push(output, packet.payload())
+}
+
+/// Appends a word and a space.
+fn push_word(output: &mut Vec<u8>, word: &str) -> Result<(), AllocError>
+    ensures { OnOk result (output.new.items ≡ output.old.items ++ (word.now ++ space ∷ [])) }
+{
+    output.extend_from_slice(word.as_bytes())?;
+    output.push(b' ')?;
+    Ok(())
+}
+
+/// The word for a link layer.
+fn link_word(link: &Option<LinkSlice<'_>>) -> &'static str
+    ensures { result.now ≡ link_word (option_map link_layer_of link.now) }
+{
+    match link {
+        Some(LinkSlice::Ethernet2(_)) => "eth",
+        Some(LinkSlice::LinuxSll(_)) => "sll",
+        Some(LinkSlice::EtherPayload(_) | LinkSlice::LinuxSllPayload(_)) | None => "-",
+    }
+}
+
+/// Appends the link extensions with a comma between two, or `-` for none.
+fn push_extensions(output: &mut Vec<u8>, extensions: &[LinkExtSlice<'_>]) -> Result<(), AllocError>
+    ensures { OnOk result (output.new.items
+        ≡ output.old.items ++ extensions_word (map link_extension_of extensions.now)) }
+{
+    let Some((first, others)) = extensions.split_first() else {
+        return output.extend_from_slice(b"-");
+    };
+    push_extension(output, first)?;
+    for extension in others {
+        output.push(b',')?;
+        push_extension(output, extension)?;
+    }
+    Ok(())
+}
+
+/// Appends a link extension: a VLAN with its identifier.
+fn push_extension(output: &mut Vec<u8>, extension: &LinkExtSlice<'_>) -> Result<(), AllocError>
+    ensures { OnOk result (output.new.items ≡ output.old.items ++ extension_text (link_extension_of extension.now)) }
+{
+    match extension {
+        LinkExtSlice::Vlan(tag) => {
+            let vlan_id = tag.vlan_identifier().value();
+            decimals::push_behind(output, b"vlan:", u64::from(vlan_id))
+        }
+        LinkExtSlice::Macsec(_) => output.extend_from_slice(b"macsec"),
+    }
+}
+
+/// The word for a net layer.
+fn net_word(net: &Option<NetSlice<'_>>) -> &'static str
+    ensures { result.now ≡ net_word (option_map net_layer_of net.now) }
+{
+    match net {
+        Some(NetSlice::Ipv4(_)) => "ipv4",
+        Some(NetSlice::Ipv6(_)) => "ipv6",
+        Some(NetSlice::Arp(_)) => "arp",
+        None => "-",
+    }
+}
+
+/// The word for a transport layer.
+fn transport_word(transport: &Option<TransportSlice<'_>>) -> &'static str
+    ensures { result.now ≡ transport_word (option_map transport_layer_of transport.now) }
+{
+    match transport {
+        Some(TransportSlice::Udp(_)) => "udp",
+        Some(TransportSlice::Tcp(_)) => "tcp",
+        Some(TransportSlice::Icmpv4(_)) => "icmpv4",
+        Some(TransportSlice::Icmpv6(_)) => "icmpv6",
+        None => "-",
+    }
+}
+
+/// Appends the text of a refusal.
+pub fn push_refusal(output: &mut Vec<u8>, error: &SliceError) -> Result<(), AllocError>
+    ensures { OnOk result (output.new.items ≡ output.old.items ++ refusal_text error.now) }
+{
+    match error {
+        SliceError::Len(error) => push_len_error(output, error),
+        SliceError::LinuxSll(linux_sll::HeaderError::UnsupportedPacketTypeField { packet_type }) =>
+            { decimals::push_behind(output, b"err sll-packet-type ", u64::from(*packet_type)) }
+        SliceError::LinuxSll(
+            linux_sll::HeaderError::UnsupportedArpHardwareId { arp_hardware_type },
+        ) => {
+            decimals::push_behind(
+                output,
+                b"err sll-arp-hardware ",
+                u64::from(*arp_hardware_type),
+            )
+        }
+        SliceError::Macsec(macsec::HeaderError::UnexpectedVersion) => {
+            output.extend_from_slice(b"err macsec-version")
+        }
+        SliceError::Macsec(macsec::HeaderError::InvalidUnmodifiedShortLen) => {
+            output.extend_from_slice(b"err macsec-short-length")
+        }
+        SliceError::Ip(ip::HeaderError::UnsupportedIpVersion { version_number }) => {
+            decimals::push_behind(output, b"err ip-version ", u64::from(*version_number))
+        }
+        SliceError::Ip(ip::HeaderError::Ipv4HeaderLengthSmallerThanHeader { ihl }) => {
+            decimals::push_behind(output, b"err ip-ihl ", u64::from(*ihl))
+        }
+        SliceError::Ipv4(ipv4::HeaderError::UnexpectedVersion { version_number }) => {
+            decimals::push_behind(output, b"err ipv4-version ", u64::from(*version_number))
+        }
+        SliceError::Ipv4(ipv4::HeaderError::HeaderLengthSmallerThanHeader { ihl }) => {
+            decimals::push_behind(output, b"err ipv4-ihl ", u64::from(*ihl))
+        }
+        SliceError::Ipv6(ipv6::HeaderError::UnexpectedVersion { version_number }) => {
+            decimals::push_behind(output, b"err ipv6-version ", u64::from(*version_number))
+        }
+        SliceError::Ipv4Exts(ip_auth::HeaderError::ZeroPayloadLen) => {
+            output.extend_from_slice(b"err ipv4-auth-zero")
+        }
+        SliceError::Ipv6Exts(ipv6_exts::HeaderError::HopByHopNotAtStart) => {
+            output.extend_from_slice(b"err ipv6-hop-by-hop")
+        }
+        SliceError::Ipv6Exts(
+            ipv6_exts::HeaderError::IpAuth(ip_auth::HeaderError::ZeroPayloadLen),
+        ) => output.extend_from_slice(b"err ipv6-auth-zero"),
+        SliceError::Tcp(tcp::HeaderError::DataOffsetTooSmall { data_offset }) => {
+            decimals::push_behind(output, b"err tcp-data-offset ", u64::from(*data_offset))
+        }
+    }
+}
+
+/// Appends the numbers and names of a layer that has too few bytes.
+fn push_len_error(output: &mut Vec<u8>, error: &LenError) -> Result<(), AllocError>
+    ensures { OnOk result (output.new.items ≡ output.old.items ++ refusal_text (SliceError.Len error.now)) }
+{
+    let offset = error.layer_start_offset;
+    decimals::push_behind(output, b"err len ", error.required_len as u64)?;
+    decimals::push_behind(output, b" ", error.len as u64)?;
+    output.push(b' ')?;
+    push_word(output, error.len_source.name())?;
+    push_word(output, error.layer.name())?;
+    decimals::push(output, offset as u64)
+}

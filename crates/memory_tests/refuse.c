@@ -1,0 +1,42 @@
+/* Refuses one request for memory of the program that it is preloaded into (`LD_PRELOAD`), with the C library of GNU:
+ * the one whose number the variable `REFUSE` says, from 1 on. Where it comes to that, the file that `REFUSED` names is
+ * made. */
+#include <errno.h>
+#include <fcntl.h>
+#include <stdlib.h>
+#include <unistd.h>
+
+void *__libc_malloc(size_t size);
+void *__libc_realloc(void *memory, size_t size);
+
+static unsigned long requests, refused;
+
+__attribute__((constructor)) static void start(void)
+{
+    const char *number = getenv("REFUSE");
+    refused = number ? strtoul(number, 0, 10) : 0;
+    requests = 0;
+}
+
+static int is_refused(void)
+{
+    const char *name;
+    requests += 1;
+    if (requests != refused)
+        return 0;
+    name = getenv("REFUSED");
+    if (name)
+        close(open(name, O_WRONLY | O_CREAT, 0600));
+    errno = ENOMEM;
+    return 1;
+}
+
+void *malloc(size_t size)
+{
+    return is_refused() ? 0 : __libc_malloc(size);
+}
+
+void *realloc(void *memory, size_t size)
+{
+    return is_refused() ? 0 : __libc_realloc(memory, size);
+}
