@@ -32,21 +32,25 @@ other=${datagram/04d2/0035}
     record "${addresses}0800${datagram%0708}"
 } > "$work/capture"
 
-if command -v gcc > /dev/null; then
-    gcc -std=c99 -Wall -Wextra -Werror -O2 -I"$top/include" c/filter.c \
-        "$top/include/etherparse_heap.c" "$archive" -o "$work/filter"
+if gcc --version > /dev/null 2>&1; then
+    build() {
+        gcc -std=c99 -Wall -Wextra -Werror -O2 -I"$top/include" "c/$1.c" \
+            "$top/include/etherparse_heap.c" "$archive" -o "$work/$1"
+    }
+    build filter
     "$work/filter" 1234 "$work/capture" | tee "$work/filter.out"
     cmp "$work/filter.out" c/filter.out
-    gcc -std=c99 -Wall -Wextra -Werror -O2 -I"$top/include" c/build.c \
-        "$top/include/etherparse_heap.c" "$archive" -o "$work/build"
-    "$work/build" | tee "$work/build.out"
-    cmp "$work/build.out" c/build.out
-    echo "examples: c/filter.c and c/build.c printed what they must"
+    for name in build reassemble; do
+        build "$name"
+        "$work/$name" | tee "$work/$name.out"
+        cmp "$work/$name.out" "c/$name.out"
+    done
+    echo "examples: c/filter.c, c/build.c and c/reassemble.c printed what they must"
 else
     echo "examples: no gcc, so the C examples were not run"
 fi
 
-if command -v cargo > /dev/null && command -v cc > /dev/null; then
+if cargo --version > /dev/null 2>&1 && cc --version > /dev/null 2>&1; then
     cd "$top/rust"
     cargo test --quiet --offline
     cargo run --quiet --offline --example filter -- 1234 "$work/capture" | tee "$work/filter.out"

@@ -7,9 +7,10 @@
  * For all calls:
  * - A pointer is never null, also where the length beside it is 0, and no two pointers of a call overlap. A pointer to
  *   `len` bytes is to that many bytes, which are at most PTRDIFF_MAX.
- * - No call keeps a pointer, has a state or prints; any may be called from many threads at once. The calls that build
- *   frames or write a text take memory by malloc and give it back before they return; no other call takes any.
- * - What a call fills in is numbers alone. Nothing in it points anywhere, and nothing has to be freed.
+ * - But for pools no call keeps a pointer or has a state, and any may be called from many threads at once. None prints.
+ *   The calls that build frames or write a text take memory by malloc and give it back before they return, and a pool
+ *   keeps some until it is freed; no other call takes any.
+ * - What a call fills in is numbers alone. Nothing in it points anywhere, and but for pools nothing has to be freed.
  * - size_t has 64 bits.
  *
  * Link with the archive libetherparse_c.a, which `rt lib` leaves in crates/etherparse_c/out, and with
@@ -31,7 +32,10 @@ enum etherparse_status {
     ETHERPARSE_UNKNOWN_CHOICE = 2, /* a number in the place of a choice is none of those below */
     ETHERPARSE_TOO_SMALL = 3,     /* the buffer has too few bytes; how many are needed is told */
     ETHERPARSE_TOO_LONG = 4,      /* the payload is longer than the headers' length fields can count */
-    ETHERPARSE_OUT_OF_MEMORY = 5  /* there was no memory */
+    ETHERPARSE_OUT_OF_MEMORY = 5, /* there was no memory */
+    ETHERPARSE_COMPLETE = 6,      /* a payload is complete, and handed out */
+    ETHERPARSE_FRAGMENT_REFUSED = 7, /* the fragment in a frame is refused; the answer says why */
+    ETHERPARSE_PAYLOAD_WAITS = 8  /* a payload waits in the pool, which takes no frame before it is handed out */
 };
 
 /* What a frame begins with. */
@@ -249,6 +253,67 @@ uint32_t etherparse_build_tcp(const struct etherparse_route *route, const struct
 uint32_t etherparse_build_icmp_echo(const struct etherparse_route *route, uint8_t is_reply, uint16_t id, uint16_t seq,
                                     const uint8_t *payload, size_t payload_len, uint8_t *buffer, size_t buffer_len,
                                     size_t *written);
+
+/* ---- Putting fragmented payloads together
+ *
+ * A pool holds what came of each payload that is not complete yet. Each is put together as if it were alone: fragments
+ * belong together where VLAN tags, addresses, identification, protocol and the caller's channel are the same. A pool
+ * takes memory by malloc, which etherparse_pool_free gives back. It stays on the thread that made it, for one call at a
+ * time; other threads may have pools of their own. */
+struct etherparse_pool;
+
+/* The greatest number of bytes of a payload in a pool of etherparse_pool_new. */
+#define ETHERPARSE_MAX_PAYLOAD 65535
+
+/* Makes a pool without streams, whose address is left in `pool`. Answers ETHERPARSE_OK, or ETHERPARSE_OUT_OF_MEMORY,
+ * and `*pool` is as it was. What `*pool` held before is neither read nor freed. */
+uint32_t etherparse_pool_new(struct etherparse_pool **pool);
+
+/* The same of a pool in which no payload is longer than `limit` bytes: a fragment that ends behind it is refused. The
+ * limit bounds what one stream can cost, and a buffer of that many bytes has room for every payload. Below 8 no payload
+ * of more than one fragment is ever complete. */
+uint32_t etherparse_pool_with_limit(uint16_t limit, struct etherparse_pool **pool);
+
+/* Frees a pool that one of these calls made. It must not be used again. */
+void etherparse_pool_free(struct etherparse_pool *pool);
+
+/* Why a fragment is refused. */
+enum etherparse_fragment_refusal {
+    ETHERPARSE_FRAGMENT_UNALIGNED = 1,      /* its length is no multiple of 8, and more fragments follow */
+    ETHERPARSE_FRAGMENT_TOO_BIG = 2,        /* it ends behind the pool's limit */
+    ETHERPARSE_FRAGMENT_CONFLICTING_END = 3 /* it ends elsewhere than others say */
+};
+
+/* What is told of a frame that is given to a pool. What the status does not speak of is 0. */
+struct etherparse_pool_answer {
+    struct etherparse_refusal refusal; /* ETHERPARSE_REFUSED: why the bytes are no frame */
+    uint32_t fragment_refusal; /* ETHERPARSE_FRAGMENT_REFUSED: enum etherparse_fragment_refusal */
+    uint32_t len_source; /* of a payload: what gave the lengths of its fragments, enum etherparse_len_source */
+    uint8_t ip_number;   /* of a payload: its protocol number */
+    size_t len;          /* of a payload: the number of its bytes */
+};
+
+/* Gives a frame to a pool, which came at `timestamp` on `channel`, both numbers of the caller's own. `entry` and
+ * `ether_type` are those of etherparse_slice. Answers
+ * - ETHERPARSE_COMPLETE: with it a payload is complete; it stands at the front of `buffer`, and its stream ends;
+ * - ETHERPARSE_TOO_SMALL: one is complete that is longer than `buffer`: `answer->len` bytes. It is not lost: it waits in
+ *   the pool until etherparse_pool_take hands it out;
+ * - ETHERPARSE_OK: none is complete with it; it carries a fragment that is now held, or none;
+ * - ETHERPARSE_REFUSED, ETHERPARSE_FRAGMENT_REFUSED, ETHERPARSE_OUT_OF_MEMORY (for the fragment),
+ *   ETHERPARSE_UNKNOWN_CHOICE (of the entry): the streams are as they were;
+ * - ETHERPARSE_PAYLOAD_WAITS: the frame was not looked at, since a payload of `answer->len` bytes waits.
+ * But for ETHERPARSE_COMPLETE the buffer is as it was. */
+uint32_t etherparse_pool_push(struct etherparse_pool *pool, uint32_t entry, uint16_t ether_type, const uint8_t *bytes,
+                              size_t len, uint64_t timestamp, uint64_t channel, uint8_t *buffer, size_t buffer_len,
+                              struct etherparse_pool_answer *answer);
+
+/* Hands out the payload that waits in a pool. Answers ETHERPARSE_COMPLETE; ETHERPARSE_TOO_SMALL, and it still waits; or
+ * ETHERPARSE_OK where none waits. The last two leave the buffer as it was. */
+uint32_t etherparse_pool_take(struct etherparse_pool *pool, uint8_t *buffer, size_t buffer_len,
+                              struct etherparse_pool_answer *answer);
+
+/* Drops the streams whose last fragment that was taken came before `timestamp`. */
+void etherparse_pool_drop_older(struct etherparse_pool *pool, uint64_t timestamp);
 
 #ifdef __cplusplus
 }

@@ -1,5 +1,5 @@
 /* The memory of libetherparse_c.a, over malloc: compile this file and link it beside the archive. The calls that build
- * frames or write a text take memory for as long as they run; no other call takes any.
+ * frames or write a text take memory for as long as they run, and pools keep some; no other call takes any.
  *
  * malloc aligns a block to each power of two up to 16 that divides its size, and no greater alignment is asked for. */
 #include <stdbool.h>

@@ -99,7 +99,47 @@ pub struct TcpFields {
     pub flags: u8,
 }
 
+/// A pool of fragments, of which there are addresses alone.
+#[repr(C)]
+#[derive(Debug)]
+pub struct Pool {
+    _private: [u8; 0],
+}
+
+/// What is told of a frame that is given to a pool.
+#[repr(C)]
+#[derive(Clone, Copy, Debug, Default, PartialEq, Eq)]
+pub struct PoolAnswer {
+    pub refusal: Refusal,
+    pub fragment_refusal: u32,
+    pub len_source: u32,
+    pub ip_number: u8,
+    pub len: usize,
+}
+
 extern "C" {
+    pub fn etherparse_pool_new(pool: *mut *mut Pool) -> u32;
+    pub fn etherparse_pool_with_limit(limit: u16, pool: *mut *mut Pool) -> u32;
+    pub fn etherparse_pool_free(pool: *mut Pool);
+    pub fn etherparse_pool_push(
+        pool: *mut Pool,
+        entry: u32,
+        ether_type: u16,
+        bytes: *const u8,
+        len: usize,
+        timestamp: u64,
+        channel: u64,
+        buffer: *mut u8,
+        buffer_len: usize,
+        answer: *mut PoolAnswer,
+    ) -> u32;
+    pub fn etherparse_pool_take(
+        pool: *mut Pool,
+        buffer: *mut u8,
+        buffer_len: usize,
+        answer: *mut PoolAnswer,
+    ) -> u32;
+    pub fn etherparse_pool_drop_older(pool: *mut Pool, timestamp: u64);
     pub fn etherparse_build_udp(
         route: *const Route,
         source_port: u16,

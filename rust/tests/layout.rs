@@ -1,7 +1,8 @@
-//! That the declarations here, those of the C header and those of the Rattle crate say the same layouts.
+//! That the declarations here, those of the C header and those of the Rattle crate say the same layouts and calls, and
+//! what the calls answer.
 
-use etherparse_c::declared::{Ip, LinkExt, Packet, Part, Payload, Refusal, Route, TcpFields};
-use std::collections::HashMap;
+use etherparse_c::declared::{self, Ip, LinkExt, Packet, Part, Payload, PoolAnswer, Refusal, Route, TcpFields};
+use std::collections::{BTreeMap, HashMap};
 use std::mem::{offset_of, size_of};
 
 /// A struct's fields with their offsets, its size and its alignment, by C's rules.
@@ -64,7 +65,10 @@ fn of_c(text: &str) -> HashMap<String, Layout> {
     };
     let mut known = HashMap::new();
     for part in text.split("\nstruct etherparse_").skip(1) {
-        let (name, rest) = part.split_once(" {").unwrap();
+        let (name, rest) = part.split_once(" {").unwrap_or((part, ""));
+        if name.contains(';') {
+            continue; // its fields are not told
+        }
         let body = rest.split("\n}").next().unwrap();
         let fields = body.lines().filter_map(|line| {
             let (kind, name) = line.trim().trim_start_matches("struct ").split(';').next()?.split_once(' ')?;
@@ -95,8 +99,8 @@ macro_rules! declared {
 fn layouts_are_the_same() {
     let top = concat!(env!("CARGO_MANIFEST_DIR"), "/..");
     let read = |path: &str| std::fs::read_to_string(format!("{top}/{path}")).unwrap();
-    let mut rattle = of_rattle(&read("crates/etherparse_c/src/packet.rt"));
-    rattle.extend(of_rattle(&read("crates/etherparse_c/src/route.rt")));
+    let files = ["packet", "route", "pool_answer"].map(|name| read(&format!("crates/etherparse_c/src/{name}.rt")));
+    let rattle = of_rattle(&files.concat());
     let c = of_c(&read("include/etherparse.h"));
     let here = declared! {
         Part { kind, offset, len }
@@ -111,6 +115,7 @@ fn layouts_are_the_same() {
         TcpFields {
             source_port, destination_port, sequence_number, acknowledgment_number, window_size, urgent_pointer, flags
         }
+        PoolAnswer { refusal, fragment_refusal, len_source, ip_number, len }
         Packet {
             link, link_exts, link_ext_count, source_port, destination_port, net, ip, transport, payload, refusal
         }
@@ -120,6 +125,66 @@ fn layouts_are_the_same() {
         assert_eq!(rattle.get(name), Some(layout), "{name} in Rattle");
         assert_eq!(c.get(name), Some(layout), "{name} in C");
     }
+}
+
+/// A call: its name, and how its parameters and its result are passed, `ptr` for every address.
+type Calls = BTreeMap<String, (Vec<&'static str>, Option<&'static str>)>;
+
+/// How a value of a type is passed.
+fn passed(kind: &str) -> &'static str {
+    match kind.trim_start_matches("const ").split(' ').next().unwrap() {
+        _ if kind.contains(['*', '&']) => "ptr",
+        "OwnedPool" => "ptr", // a struct of one address
+        "u8" | "uint8_t" => "u8",
+        "u16" | "uint16_t" => "u16",
+        "u32" | "uint32_t" => "u32",
+        "u64" | "uint64_t" => "u64",
+        "usize" | "size_t" => "usize",
+        other => panic!("what is {other}?"),
+    }
+}
+
+/// The calls that a text of Rust or Rattle declares, each behind this word. A `Global` is not passed, and a slice is
+/// passed as its address and its length.
+fn calls_of(text: &str, word: &str) -> Calls {
+    let one = |declared: &str| {
+        let (name, rest) = declared.split_once('(').unwrap();
+        let (params, rest) = rest.split_once(')').unwrap();
+        let kinds = params.split(',').filter_map(|param| Some(param.split_once(": ")?.1.trim()));
+        let passed_as = kinds.filter(|kind| *kind != "Global").flat_map(|kind| match kind {
+            "&[u8]" | "&mut [u8]" => vec!["ptr", "usize"],
+            other => vec![passed(other)],
+        });
+        let result = rest.trim_start().strip_prefix("-> ").map(|result| passed(&result[..3]));
+        (name.to_string(), (passed_as.collect(), result))
+    };
+    text.split(word).skip(1).map(one).collect()
+}
+
+/// The calls that the C header declares.
+fn calls_of_c(text: &str) -> Calls {
+    let (code, _) = text.split("/*").fold((String::new(), true), |(code, first), part| {
+        (code + if first { part } else { part.split_once("*/").unwrap().1 }, false)
+    });
+    let one = |declared: &str| {
+        let (head, params) = declared.trim().strip_suffix(')')?.split_once('(')?;
+        let (result, name) = head.lines().last()?.split_once(' ')?;
+        let params = params.split(',').map(|param| passed(param.trim()));
+        Some((name.to_string(), (params.collect(), (result != "void").then(|| passed(result)))))
+    };
+    code.split(';').filter_map(one).collect()
+}
+
+#[test]
+fn calls_are_the_same() {
+    let top = concat!(env!("CARGO_MANIFEST_DIR"), "/..");
+    let read = |path: &str| std::fs::read_to_string(format!("{top}/{path}")).unwrap();
+    let files = ["building", "checksum", "pooling", "slicing", "texts"];
+    let rattle = files.map(|name| read(&format!("crates/etherparse_c/src/{name}.rt"))).concat();
+    let rattle = calls_of(&rattle, "pub extern \"C\" fn ");
+    assert_eq!(rattle.len(), 12);
+    assert_eq!(calls_of(&read("rust/src/declared.rs"), "    pub fn "), rattle);
+    assert_eq!(calls_of_c(&read("include/etherparse.h")), rattle);
 }
 
 /// Every frame that is cut anywhere is a frame or refused, with parts that lie in it, one behind the other.
@@ -208,5 +273,103 @@ fn texts_need_room() {
         let text: &[u8] = if is_there { b"HopByHopNotAtStart\0" } else { &[] };
         assert_eq!(buffer[..text.len()], *text);
         assert!(buffer[text.len()..].iter().all(|byte| *byte == 7));
+    }
+}
+
+/// The fragment of an IPv4 packet with this identification, at an offset in units of 8 bytes.
+fn fragment(identification: u8, offset: u8, more: bool, payload: &[u8]) -> Vec<u8> {
+    let len = 20 + payload.len() as u8;
+    let flags = u8::from(more) << 5;
+    let mut packet = vec![0x45, 0, 0, len, 0, identification, flags, offset, 64, 17, 0, 0, 10, 0, 0, 1, 10, 0, 0, 2];
+    packet.extend(payload);
+    packet
+}
+
+/// A pool through the declared calls: what each answers, and what it leaves in the buffer.
+#[test]
+fn pools_answer() {
+    let mut pool = std::ptr::null_mut();
+    // SAFETY: the pointers of all calls are of variables here, which do not overlap; the pool is made first, freed last.
+    unsafe {
+        assert_eq!(declared::etherparse_pool_with_limit(32, &mut pool), 0);
+    }
+    let push = |entry: u32, frame: &[u8], timestamp: u64, channel: u64, buffer: &mut [u8]| {
+        let mut answer = PoolAnswer { fragment_refusal: 9, ip_number: 9, len: 9, ..PoolAnswer::default() };
+        let (bytes, len) = (frame.as_ptr(), frame.len());
+        let (into, room) = (buffer.as_mut_ptr(), buffer.len());
+        let status = unsafe {
+            declared::etherparse_pool_push(pool, entry, 0, bytes, len, timestamp, channel, into, room, &mut answer)
+        };
+        (status, answer)
+    };
+    let take = |buffer: &mut [u8]| {
+        let mut answer = PoolAnswer::default();
+        let status = unsafe {
+            declared::etherparse_pool_take(pool, buffer.as_mut_ptr(), buffer.len(), &mut answer)
+        };
+        (status, answer.len, answer.ip_number, answer.len_source)
+    };
+    let nothing = PoolAnswer::default();
+    let mut buffer = [7; 20];
+    assert_eq!(take(&mut buffer), (0, 0, 0, 0));
+
+    // what is no frame, no entry, and no fragment
+    let whole = fragment(1, 0, false, &[0, 21, 4, 210, 0, 8, 0, 0]);
+    let (status, answer) = push(3, &whole[..19], 1, 0, &mut buffer);
+    assert_eq!((status, answer.refusal.kind, answer.fragment_refusal, answer.len), (1, 1, 0, 0));
+    assert_eq!(push(4, &whole, 1, 0, &mut buffer), (2, nothing));
+    assert_eq!(push(3, &whole, 1, 0, &mut buffer), (0, nothing));
+
+    // refused fragments
+    let refused = |kind: u32| (7, PoolAnswer { fragment_refusal: kind, ..nothing });
+    assert_eq!(push(3, &fragment(1, 0, true, b"1234"), 1, 0, &mut buffer), refused(1));
+    assert_eq!(push(3, &fragment(1, 4, false, b"1"), 1, 0, &mut buffer), refused(2));
+    assert_eq!(push(3, &fragment(1, 1, false, b"abcd"), 1, 0, &mut buffer), (0, nothing));
+    assert_eq!(push(3, &fragment(1, 1, true, b"abcdefgh"), 1, 0, &mut buffer), refused(3));
+    assert_eq!(buffer, [7; 20]);
+
+    // two streams, of which the second is longer than the buffer
+    let told = |len: usize| PoolAnswer { ip_number: 17, len_source: 2, len, ..nothing };
+    assert_eq!(push(3, &fragment(2, 2, false, b"ijklmnop"), 2, 0, &mut buffer), (0, nothing));
+    assert_eq!(push(3, &fragment(2, 0, true, b"ABCDEFGH"), 2, 0, &mut buffer), (0, nothing));
+    assert_eq!(push(3, &fragment(1, 0, true, b"12345678"), 2, 0, &mut buffer), (6, told(12)));
+    assert_eq!(buffer, *b"12345678abcd\x07\x07\x07\x07\x07\x07\x07\x07");
+    buffer = [7; 20];
+    assert_eq!(push(3, &fragment(2, 1, true, b"abcdefgh"), 2, 0, &mut buffer), (3, told(24)));
+    assert_eq!(push(3, &fragment(3, 0, true, b"12345678"), 3, 0, &mut buffer), (8, told(24)));
+    assert_eq!(take(&mut buffer), (3, 24, 17, 2));
+    assert_eq!(buffer, [7; 20]);
+    let mut room = [7; 25];
+    assert_eq!(take(&mut room), (6, 24, 17, 2));
+    assert_eq!(room, *b"ABCDEFGHabcdefghijklmnop\x07");
+    assert_eq!(take(&mut room), (0, 0, 0, 0));
+
+    // what is dropped begins anew, by its last fragment's time
+    assert_eq!(push(3, &fragment(4, 1, false, b"x"), 4, 0, &mut buffer), (0, nothing));
+    assert_eq!(push(3, &fragment(4, 1, false, b"x"), 5, 1, &mut buffer), (0, nothing));
+    unsafe { declared::etherparse_pool_drop_older(pool, 5) };
+    assert_eq!(push(3, &fragment(4, 0, true, b"12345678"), 6, 0, &mut buffer), (0, nothing));
+    assert_eq!(push(3, &fragment(4, 0, true, b"12345678"), 6, 1, &mut buffer), (6, told(9)));
+    unsafe { declared::etherparse_pool_free(pool) };
+}
+
+/// A pool of the greatest limit, and the wrapper's own buffer.
+#[test]
+fn pools_hand_out_long_payloads() {
+    use etherparse_c::{Entry, Pool, PushError};
+    let mut pool = Pool::new().unwrap();
+    let refusal = pool.push(Entry::Ip, &[0x45], 0, 0).unwrap_err();
+    assert!(matches!(refusal, PushError::Refused(_)) && refusal.to_string().starts_with("Ipv4Header"));
+    let last = 255;
+    for part in (0..=last).rev() {
+        let payload = [part; 8];
+        let answer = pool.push(Entry::Ip, &fragment(1, part, part < last, &payload), 0, 0).unwrap();
+        match answer {
+            Some(payload) => {
+                assert_eq!((part, payload.bytes.len()), (0, 2048));
+                assert!(payload.bytes.iter().enumerate().all(|(at, byte)| usize::from(*byte) == at / 8));
+            }
+            None => assert!(part > 0),
+        }
     }
 }

@@ -1,3 +1,4 @@
+pub mod HeldSteps
 pub mod LenLemmas
 pub mod PlaceLemmas
 pub mod TagLemmas

@@ -3,5 +3,8 @@ pub mod Places
 pub mod Refusals
 pub mod Answers
 pub mod Building
+pub mod Holding
 pub mod Placing
+pub mod Pointing
+pub mod Pools
 pub mod RefusalTexts

@@ -47,7 +47,7 @@ pub(crate) fn describe(told: &mut Packet, packet: &SlicedPacket<'_>)
 
 /// What is said where nothing is refused.
 #[inline(always)]
-fn no_refusal() -> Refusal
+pub(crate) fn no_refusal() -> Refusal
     ensures { result ≡ no_refusal }
 {
     Refusal {

@@ -12,6 +12,12 @@ pub const TOO_SMALL: u32 = 3;
 pub const TOO_LONG: u32 = 4;
 /// There was no memory.
 pub const OUT_OF_MEMORY: u32 = 5;
+/// A payload is complete.
+pub const COMPLETE: u32 = 6;
+/// The fragment in a frame is refused.
+pub const FRAGMENT_REFUSED: u32 = 7;
+/// A payload waits in the pool, for which no buffer had room yet.
+pub const PAYLOAD_WAITS: u32 = 8;
 
 /// An Ethernet II header.
 pub const LINK_ETHERNET2: u32 = 1;

@@ -44,7 +44,7 @@ pub extern "C" fn etherparse_slice(
 
 /// What a frame begins with.
 #[inline(always)]
-fn entry_of(entry: u32, ether_type: u16) -> Option<Entry>
+pub(crate) fn entry_of(entry: u32, ether_type: u16) -> Option<Entry>
     ensures { result ≡ entry_of entry ether_type }
 {
     match entry {

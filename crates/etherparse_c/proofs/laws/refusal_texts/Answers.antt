@@ -1,4 +1,3 @@
-use Rattle.std.proofs.Common.{◌≡◌, Option, Some, refl, rules}
 use Rattle.etherparse_c.proofs.TextLemmas.{texts_of_refusals}
 use Rattle.etherparse_c.proofs.laws.refusal_texts.Goals as goal
 
