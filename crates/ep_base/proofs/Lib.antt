@@ -3,6 +3,6 @@ pub mod ComparisonLemmas
 pub mod CutRefusalLemmas
 pub mod DecidedLemmas
 pub mod MissingLemmas
-pub mod Residue
-pub mod Sums
+pub mod ResidueLemmas
+pub mod SumLemmas
 pub mod TableLemmas

@@ -1,9 +1,9 @@
 pub mod LengthLemmas
 pub mod SizeLemmas
 pub mod WritingLemmas
-pub mod LinkReadBack
-pub mod NetReadBack
-pub mod TransportReadBack
+pub mod LinkReadBackLemmas
+pub mod NetReadBackLemmas
+pub mod TransportReadBackLemmas
 pub mod ReadBackLemmas
 pub mod FitLemmas
 pub mod FrameBytesLemmas

@@ -27,9 +27,9 @@ use Rattle.ep_build.specs.Fits.{FitsLink, FitsTransport}
 use Rattle.ep_build.specs.ReadBack.{IsArpReadBack, IsEntryOf, IsReadBack, message_of}
 use Rattle.ep_build.specs.declared.link_part.LinkPart.{LinkPart}
 use Rattle.ep_build.specs.declared.link_part.LinkPart.TheVariants as link
-use Rattle.ep_build.proofs.LinkReadBack.{IsNet, frame_is}
-use Rattle.ep_build.proofs.NetReadBack.{NetOf, fragments_linked, net_of, said_fragments}
-use Rattle.ep_build.proofs.TransportReadBack.{transport_of}
+use Rattle.ep_build.proofs.LinkReadBackLemmas.{IsNet, frame_is}
+use Rattle.ep_build.proofs.NetReadBackLemmas.{NetOf, fragments_linked, net_of, said_fragments}
+use Rattle.ep_build.proofs.TransportReadBackLemmas.{transport_of}
 
 -- ---- IP
 

@@ -51,7 +51,7 @@ pub record CompleteInTurn (limit : ℕ) (accepted : List IpFragment) (first seco
 -- ---- frames that carry them
 
 -- a frame of bytes that carries a fragment
-pub record FragmentFrame : Type 0 where
+pub record CarryingFrame : Type 0 where
   pub entry : Entry
   pub bytes : List ℕ
   pub are_bytes : AreBytes bytes
@@ -61,20 +61,20 @@ pub record FragmentFrame : Type 0 where
   pub carries : fragment_of layers ≡ Some found
 
 -- what a pool is given of it
-abbrev pub given_by : FragmentFrame → Option PacketFragment
+abbrev pub given_by : CarryingFrame → Option PacketFragment
 given_by frame = option_map packet_fragment (fragment_of frame.layers)
 
 -- the name of its stream on a channel
-abbrev pub name_in : {C : Type 0} → FragmentFrame → C → IpFragId C
+abbrev pub name_in : {C : Type 0} → CarryingFrame → C → IpFragId C
 name_in frame channel = name_of (packet_fragment frame.found) channel
 
 -- a frame carries this fragment of the stream of another frame
-abbrev pub CarriesOf : FragmentFrame → IpFragment → FragmentFrame → Type 0
+abbrev pub CarriesOf : CarryingFrame → IpFragment → CarryingFrame → Type 0
 CarriesOf seen fragment frame =
     frame.found ≡ record seen.found { offset = fragment.offset; more = fragment.more; bytes = fragment.bytes }
 
 -- the answer to a frame is what these fragments of its stream put together
-abbrev pub HandsOutAll : {T C : Type 0} → ℕ → (IpFragId C → Option (Kept T)) → FragmentFrame → C → List IpFragment
+abbrev pub HandsOutAll : {T C : Type 0} → ℕ → (IpFragId C → Option (Kept T)) → CarryingFrame → C → List IpFragment
     → Type 0
 HandsOutAll limit table frame channel fragments =
     answer_to_frame limit table (given_by frame) channel
@@ -83,12 +83,12 @@ HandsOutAll limit table frame channel fragments =
 -- A frame that carries the first fragment hands the payload out; or it hands nothing out, and then one that carries the
 -- second does. The bytes are those that came, with those of the two on top.
 pub record FramesComplete {T C : Type 0} (limit : ℕ) (eq : C → C → Bool) (table : IpFragId C → Option (Kept T))
-    (seen : FragmentFrame) (channel : C) (timestamp : T) (accepted : List IpFragment) (first second : IpFragment)
+    (seen : CarryingFrame) (channel : C) (timestamp : T) (accepted : List IpFragment) (first second : IpFragment)
     : Type 0 where
-  pub frame : FragmentFrame
+  pub frame : CarryingFrame
   pub is_first : CarriesOf seen first frame
   pub hands_out : HandsOutAll limit table frame channel (accepted ++ first ∷ [])
       ⊎ ((answer_to_frame limit table (given_by frame) channel ≡ nothing_handed_out)
-      × ((last : FragmentFrame) × CarriesOf seen second last
+      × ((last : CarryingFrame) × CarriesOf seen second last
       × HandsOutAll limit (table_with_frame limit eq table (given_by frame) timestamp channel) last channel
       (accepted ++ first ∷ second ∷ [])))

@@ -7,7 +7,7 @@ ghost use Rattle.ep_defrag.specs.Ranges.{touches, merge_of, SharePoint};
 ghost use Rattle.ep_defrag.specs.Fragments.{IpFragment, fragment_with, is_final, IsCovered, reach_of, end_of, assembled, is_complete, IsComplete, FillAlike, TouchAlike};
 ghost use Rattle.ep_defrag.specs.Refusals.{FitsWithin, FitInTurn, FitInTurnWithin};
 ghost use Rattle.ep_base.specs.Bytes.{AreBytes};
-ghost use Rattle.ep_defrag.specs.Completing.{FillBoth, front_fragment, back_fragment, is_part, CompleteInTurn, FragmentFrame, name_in, CarriesOf, FramesComplete};
+ghost use Rattle.ep_defrag.specs.Completing.{FillBoth, front_fragment, back_fragment, is_part, CompleteInTurn, CarryingFrame, name_in, CarriesOf, FramesComplete};
 ghost use Rattle.ep_defrag.specs.Cuts.{IsCut};
 ghost use Rattle.ep_defrag.specs.Buffers.{IsUnchanged, ip_number_of, data_of, sections_of, HoldsFragments};
 ghost use Rattle.ep_defrag.specs.Comparisons.{range_cmp, buffer_cmp, error_cmp};
@@ -125,11 +125,11 @@ pub fn small_limits_complete_nothing()
 pub fn two_frames_complete<Timestamp, CustomChannelId: Eq + Hash>()
     // Of a stream of which some frame carries a fragment, frames carry every fragment of at most 32768 bytes that more
     // fragments follow or that does not begin the payload.
-    ensures some { (seen : FragmentFrame) (fragment : IpFragment) → fragment.offset < 2 ^ 13 →
+    ensures some { (seen : CarryingFrame) (fragment : IpFragment) → fragment.offset < 2 ^ 13 →
         length fragment.bytes ≤ 32768 → AreBytes fragment.bytes → IsTrue (is_part fragment) →
-        (frame : FragmentFrame) × CarriesOf seen fragment frame }
+        (frame : CarryingFrame) × CarriesOf seen fragment frame }
     ensures complete { (pool : IpDefragPool Timestamp CustomChannelId)
-        (table : IpFragId CustomChannelId → Option (Kept Timestamp)) (seen : FragmentFrame)
+        (table : IpFragId CustomChannelId → Option (Kept Timestamp)) (seen : CarryingFrame)
         (channel : CustomChannelId) (front back : List ℕ) (timestamp : Timestamp) →
         HoldsTable CustomChannelId.eq pool table → 8 ≤ limit_of pool → AreBytes front → AreBytes back →
         let accepted = accepted_in (table (name_in seen channel)) in

@@ -24,7 +24,7 @@ use Rattle.ep_ext.proofs.ChainLemmas.{taken_is_kind}
 use Rattle.ep_ext.proofs.FragmentHeaderLemmas.{fragment_header_is_read}
 use Rattle.ep_ext.proofs.IpAuthLemmas.{ip_auth_is_read}
 use Rattle.ep_ext.proofs.RawExtensionLemmas.{raw_extension_is_read}
-use Rattle.ep_ext.proofs.HeaderLaws.{header_laws}
+use Rattle.ep_ext.proofs.HeaderLawLemmas.{header_laws}
 use Rattle.ep_ext.proofs.PartLemmas.{ReadPart, part_behind_fits, part_decided, part_lens}
 
 -- a refusal for want of what the cut took, of which the end of the bytes at hand is the limit

@@ -1,9 +1,9 @@
-pub mod ChainBytes
+pub mod ChainBytesLemmas
 pub mod CutRefusalLemmas
 pub mod ChainLemmas
-pub mod Comparisons
+pub mod ComparisonLemmas
 pub mod FragmentHeaderLemmas
-pub mod HeaderLaws
+pub mod HeaderLawLemmas
 pub mod IpAuthLemmas
 pub mod LinkLemmas
 pub mod MissingLemmas
@@ -13,9 +13,9 @@ pub mod ReadLemmas
 pub mod ReadingLemmas
 pub mod RefusalLemmas
 pub mod ShownLemmas
-pub mod ValueLaws
+pub mod ValueLawLemmas
 pub mod ValueLemmas
-pub mod WalkLaws
+pub mod WalkLawLemmas
 pub mod WalkLemmas
-pub mod WalkLength
-pub mod WalkMarks
+pub mod WalkLengthLemmas
+pub mod WalkMarkLemmas

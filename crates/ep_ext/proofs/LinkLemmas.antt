@@ -24,7 +24,7 @@ use Rattle.ep_ext.specs.Walks.{marked, header_at, missing_at}
 use Rattle.ep_ext.proofs.ChainLemmas.{ends_at_once, one_authentication}
 use Rattle.ep_ext.proofs.ValueLemmas.{headers_take, headers_end, first_none_taken}
 use Rattle.ep_ext.proofs.WalkLemmas.{IsMarked, marked_none, mark_more, found_is, found_kind, left_is}
-use Rattle.ep_ext.proofs.WalkMarks.{no_marks}
+use Rattle.ep_ext.proofs.WalkMarkLemmas.{no_marks}
 
 -- ---- where all headers were taken, no further one is
 

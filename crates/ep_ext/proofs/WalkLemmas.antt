@@ -17,7 +17,7 @@ use Rattle.ep_ext.specs.Chains.{is_first, is_taken, parts_bytes, FitParts}
 use Rattle.ep_ext.specs.Ipv6Chains.{no_ipv6_extensions, extensions_of, with_part, with_destination, has_destination, final_by, ipv6_parts, header_for, IsWalkBehind, missing_number, walk_refusal, WalksAll, RefusesWalk}
 use Rattle.ep_ext.specs.Walks.{marked, header_at, missing_at}
 use Rattle.ep_ext.proofs.ValueLemmas.{HasTaken, none_taken, taken_more, with_parts-append, bytes-append}
-use Rattle.ep_ext.proofs.WalkMarks.{no_marks, marks_left, unmarked}
+use Rattle.ep_ext.proofs.WalkMarkLemmas.{no_marks, marks_left, unmarked}
 
 -- the marks are those of the headers that were taken
 pub record IsMarked (taken : List ℕ) (walked : Ipv6Extensions) (marks : Marks) : Type 0 where

@@ -2,7 +2,7 @@
 use Rattle.std.proofs.Common.{◌≡◌, ℕ, List, ◌++◌, length, refl, ap, ◌∙◌, append_assoc, length-append, arith}
 use Rattle.std.proofs.lemmas.Grind.{common_steps}
 use Rattle.ep_base.specs.Layer.{Reading}
-use Rattle.ep_ext.proofs.ChainBytes.{chain_encoded, chain_len}
+use Rattle.ep_ext.proofs.ChainBytesLemmas.{chain_encoded, chain_len}
 use Rattle.ep_ext.specs.Chains.{chain_of, ipv4, ipv6}
 use Rattle.ep_ip.specs.declared.ipv4_header.Ipv4Header.{Ipv4Header}
 use Rattle.ep_ip.specs.declared.ipv6_header.Ipv6Header.{Ipv6Header}

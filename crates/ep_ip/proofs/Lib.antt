@@ -1,9 +1,9 @@
 pub mod CutLemmas
 pub mod CutRefusalLemmas
-pub mod ExtensionLaws
+pub mod ExtensionLawLemmas
 pub mod Ipv4Lemmas
 pub mod Ipv6Lemmas
 pub mod MissingLemmas
 pub mod PacketLemmas
 pub mod IpBytesLemmas
-pub mod RefusalPlaces
+pub mod RefusalPlaceLemmas

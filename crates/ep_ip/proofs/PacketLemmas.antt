@@ -35,7 +35,7 @@ use Rattle.ep_ip.specs.Ipv6.{IsIpv6Packet, ipv6_payload_source, ipv6_bytes}
 use Rattle.ep_ip.specs.IpPackets.{IpPacket, IsIpv4, RefusesIpv4, RefusesIpv4Chain, ipv4_chain_refusal}
 use Rattle.ep_ip.specs.IpPackets.{IsIpv6, RefusesIpv6, RefusesIpv6Chain, ipv6_chain_refusal}
 use Rattle.ep_ip.specs.IpPackets.{IpPart, ipv4_part, ipv6_part, IsIp, RefusesIp, ip_version_rows, of_ipv4_error, of_ipv6_error}
-use Rattle.ep_ip.proofs.ExtensionLaws.{extension_chain}
+use Rattle.ep_ip.proofs.ExtensionLawLemmas.{extension_chain}
 use Rattle.ep_ip.proofs.Ipv4Lemmas.{ipv4_packet_is_read}
 use Rattle.ep_ip.proofs.Ipv6Lemmas.{ipv6_packet_is_read}
 

@@ -4,6 +4,6 @@ pub mod Ethernet2Lemmas
 pub mod LinkExtensionLemmas
 pub mod LinuxSllLemmas
 pub mod MacsecLemmas
-pub mod MacsecReads
+pub mod MacsecReadLemmas
 pub mod MissingLemmas
 pub mod VlanLemmas

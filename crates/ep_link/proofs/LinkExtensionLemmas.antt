@@ -19,7 +19,7 @@ use Rattle.ep_link.specs.LinkExtensions.{LinkExtension, vlan, macsec, IsVlanType
 use Rattle.ep_link.specs.LinkExtensions.{BeginsLinkExtension, EncodesTag, IsLinkExtension, RefusesLinkExtension}
 use Rattle.ep_link.specs.LinkExtensions.{extension_header, extension_payload, link_ext_header_len}
 use Rattle.ep_link.proofs.MacsecLemmas.{macsec_is_read, payload_by_bytes}
-use Rattle.ep_link.proofs.MacsecReads.{encoded_len}
+use Rattle.ep_link.proofs.MacsecReadLemmas.{encoded_len}
 use Rattle.ep_link.proofs.VlanLemmas.{vlan_is_read}
 
 -- ---- types

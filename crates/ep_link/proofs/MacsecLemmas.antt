@@ -22,7 +22,7 @@ use Rattle.ep_link.specs.declared.link_ext.macsec_header.MacsecHeader.{MacsecHea
 use Rattle.ep_link.specs.Macsec.{ptype_len, macsec_len_of, IsMacsecHeader, IsMacsec, IsMacsecCut, macsec_header_rows}
 use Rattle.ep_link.specs.Macsec.{macsec_rows, HasNoRoomForType, short_len_of, modification_of, sci_bit_of, type_len_by}
 use Rattle.ep_link.specs.Macsec.{tag_len_of, payload_len_of, macsec_header_of, macsec_payload_bytes, payload_by}
-use Rattle.ep_link.proofs.MacsecReads.{IsWhole, encoded_read, encoded_whole, whole_encodes, type_len_by_same}
+use Rattle.ep_link.proofs.MacsecReadLemmas.{IsWhole, encoded_read, encoded_whole, whole_encodes, type_len_by_same}
 
 -- ---- a whole tag at the front of bytes
 

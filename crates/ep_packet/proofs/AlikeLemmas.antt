@@ -32,7 +32,7 @@ use Rattle.ep_packet.specs.Layers.{NetLayer, ipv4, ipv6, arp, Layers, ipv6_layer
 use Rattle.ep_packet.specs.Frame.{NetKind, only_ipv4, only_ipv6, only_arp, any_ip, net_kind, most_link_exts, IsFrameIn, IsInside, IsNetLayer, IsNetPart}
 use Rattle.ep_packet.specs.Refusals.{RefusesFrameIn, RefusesInside, RefusesNetLayer, RefusesNetPart, RefusesTransportBehind, net_header_len, transport_refusal}
 use Rattle.ep_packet.specs.TwoParsers.{IsUdpLengthRefusal, StopsAtSecondKind}
-use Rattle.ep_packet.proofs.Deciders.{Deciders, ExtensionPart}
+use Rattle.ep_packet.proofs.DeciderLemmas.{Deciders, ExtensionPart}
 use Rattle.ep_packet.proofs.NetLemmas.{layer_decided, net_decided}
 
 -- what is known of the two readings of chains and of transport layers

@@ -48,9 +48,9 @@ use Rattle.ep_packet.specs.Layers.{NetLayer, arp, ip_layer, ipv4, ipv4_layer, ip
 use Rattle.ep_packet.specs.Frame.{IsFrameIn, IsInside, IsNetLayer, IsNetPart, IsTransportBehind, NetKind, any_ip, most_link_exts, net_kind, only_arp, only_ipv4, only_ipv6}
 use Rattle.ep_packet.specs.Refusals.{RefusesExtensionAt, RefusesFrameIn, RefusesInside, RefusesNetLayer, RefusesNetPart, RefusesTransportIn, extension_refusal, further_behind, ip_refusal, ipv4_refusal, ipv6_refusal, len_refusal, linux_sll_refusal, transport_refusal}
 use Rattle.ep_packet.specs.UncutTags.{CutsNothing}
-use Rattle.ep_packet.proofs.Deciders.{ExtensionPart}
+use Rattle.ep_packet.proofs.DeciderLemmas.{ExtensionPart}
 use Rattle.ep_packet.proofs.InsideLemmas.{inside_decided}
-use Rattle.ep_packet.proofs.LayerLaws.{layer_laws}
+use Rattle.ep_packet.proofs.LayerLawLemmas.{layer_laws}
 use Rattle.ep_packet.proofs.MissingLemmas.{ExtensionStart, RefusesBehind, SllStart, ethernet2_len, ethernet2_start, extension_at_start, linux_sll_len, longer_ethernet2, longer_extension, longer_linux_sll, sll_at_start, tag_len, uncut_left, whole_len}
 use Rattle.ep_packet.proofs.NetLemmas.{layer_decided}
 

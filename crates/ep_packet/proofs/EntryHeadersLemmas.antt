@@ -39,7 +39,7 @@ use Rattle.ep_packet.specs.Payloads.{ether_payload_behind, ether_payload_of_part
 use Rattle.ep_packet.specs.Refusals.{RefusesFrameIn, RefusesInside}
 use Rattle.ep_packet.specs.HeadersWalk.{FillsInside, FillsNet, begun, open_behind, with_net}
 use Rattle.ep_packet.proofs.FrameLemmas.{frames_decided}
-use Rattle.ep_packet.proofs.LayerLaws.{layer_laws}
+use Rattle.ep_packet.proofs.LayerLawLemmas.{layer_laws}
 use Rattle.ep_packet.proofs.FrameBytesLemmas.{frame_in_order}
 use Rattle.ep_packet.proofs.HeadersLemmas.{net_innermost}
 

@@ -9,7 +9,7 @@ use Rattle.ep_link.specs.LinkExtensions.{LinkExtension, EncodesTag, extension_ty
 use Rattle.ep_link.specs.LinkSlices.{LinkLayer, ethernet2, linux_sll as sll, ether_payload}
 use Rattle.ep_link.specs.LinuxSll.{linux_sll_bytes, protocol_ether_type}
 use Rattle.ep_transport.specs.TransportParts.{TransportLayer, EncodesTransport, AreTransport, payload_in}
-use Rattle.ep_packet.proofs.Deciders.{Deciders}
+use Rattle.ep_packet.proofs.DeciderLemmas.{Deciders}
 use Rattle.ep_packet.proofs.NetBytesLemmas.{LayerBytes, layer_bytes}
 use Rattle.ep_packet.specs.declared.entry.Entry.{Entry}
 use Rattle.ep_packet.specs.declared.entry.Entry.TheVariants.{Ethernet as ethernet, LinuxSll as linux_sll, EtherType as ether_type, Ip as ip}

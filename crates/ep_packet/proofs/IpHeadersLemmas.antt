@@ -39,7 +39,7 @@ use Rattle.ep_ext.specs.Ipv4Chains.{ipv4_first, ipv4_linked, ipv4_parts, ipv4_wa
 use Rattle.ep_ext.specs.Ipv6Chains.{RefusesWalk, ipv6_first, ipv6_linked, ipv6_parts}
 use Rattle.ep_ext.proofs.LinkLemmas.{linked_chain, linked_chain_4, linked_value, linked_walk, linked_walk_4}
 use Rattle.ep_ext.proofs.WalkLemmas.{one_walk, one_walk_refusal, walks_not_refused}
-use Rattle.ep_ext.proofs.WalkLength.{walk_len}
+use Rattle.ep_ext.proofs.WalkLengthLemmas.{walk_len}
 use Rattle.ep_ip.specs.declared.ipv4_header.Ipv4Header.{Ipv4Header}
 use Rattle.ep_ip.specs.declared.ipv6_header.Ipv6Header.{Ipv6Header}
 use Rattle.ep_ip.specs.IpPackets.{IpPacket, IpPart, ipv4_part, ipv6_part, IsIp, IsIpv4, IsIpv6, RefusesIp, RefusesIpv4}

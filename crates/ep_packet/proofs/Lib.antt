@@ -1,11 +1,11 @@
 pub mod AlikeLemmas
 pub mod CutRefusalLemmas
-pub mod Deciders
+pub mod DeciderLemmas
 pub mod EntryLemmas
 pub mod FrameBytesLemmas
 pub mod FrameLemmas
 pub mod InsideLemmas
-pub mod LayerLaws
+pub mod LayerLawLemmas
 pub mod NetLemmas
 pub mod OffsetLemmas
 pub mod MissingLemmas

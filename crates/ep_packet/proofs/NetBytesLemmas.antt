@@ -13,7 +13,7 @@ use Rattle.ep_packet.specs.Layers.{NetLayer, ipv4, ipv6, arp, ipv4_layer, ipv6_l
 use Rattle.ep_packet.specs.Frame.{NetKind, only_ipv4, only_ipv6, only_arp, any_ip, IsNetLayer}
 use Rattle.ep_packet.specs.FrameBytes.{EncodesNet, behind_net}
 use Rattle.ep_packet.specs.Refusals.{net_header_len}
-use Rattle.ep_packet.proofs.Deciders.{Deciders}
+use Rattle.ep_packet.proofs.DeciderLemmas.{Deciders}
 
 -- the bytes of a net layer: its headers, the payload of an IP packet, and what is left
 pub record LayerBytes (bytes : List ℕ) (layer : NetLayer) : Type 0 where

@@ -13,7 +13,7 @@ use Rattle.ep_packet.specs.Layers.{NetLayer, arp, ipv4_layer, ipv6_layer, ip_lay
 use Rattle.ep_packet.specs.Frame.{NetKind, only_ipv4, only_ipv6, only_arp, any_ip, IsNetLayer, IsTransportBehind, IsNetPart}
 use Rattle.ep_packet.specs.Refusals.{RefusesNetLayer, RefusesTransportBehind, RefusesNetPart, net_header_len, transport_refusal, ipv4_refusal, ipv6_refusal, ip_refusal, len_refusal}
 use Rattle.ep_packet.specs.FrameBytes.{behind_net}
-use Rattle.ep_packet.proofs.Deciders.{Deciders}
+use Rattle.ep_packet.proofs.DeciderLemmas.{Deciders}
 use Rattle.ep_packet.proofs.NetBytesLemmas.{behind_payload, layer_bytes}
 
 -- ---- the net layer alone

@@ -12,7 +12,7 @@ use Rattle.ep_link.specs.LinkSlices.{LinkLayer, ethernet2, linux_sll, ether_payl
 use Rattle.ep_link.specs.Macsec.{ptype_len, sci_len}
 use Rattle.ep_link.specs.declared.link_ext.macsec_ptype.MacsecPType.{MacsecPType}
 use Rattle.ep_link.specs.declared.link_ext.macsec_ptype.MacsecPType.TheVariants as ptype
-use Rattle.ep_link.proofs.MacsecReads.{encoded_len as macsec_encoded_len}
+use Rattle.ep_link.proofs.MacsecReadLemmas.{encoded_len as macsec_encoded_len}
 use Rattle.std.specs.Int.{w16, to_be_bytes}
 use Rattle.ep_transport.specs.Icmpv4.{FitsIcmpv4Fields, icmpv4_kind, icmpv4_len, icmpv4_rest_with}
 use Rattle.ep_transport.specs.Icmpv6.{FitsIcmpv6Fields, icmpv6_rest_with}

@@ -7,8 +7,8 @@ pub mod ReadingLemmas
 pub mod SumLemmas
 pub mod TcpLemmas
 pub mod TcpOptionLemmas
-pub mod TcpOptionItems
-pub mod TcpOptionReads
+pub mod TcpOptionItemLemmas
+pub mod TcpOptionReadLemmas
 pub mod TransportLemmas
 pub mod UdpLemmas
-pub mod TransportPlaces
+pub mod TransportPlaceLemmas

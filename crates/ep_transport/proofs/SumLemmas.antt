@@ -3,7 +3,7 @@ use Rattle.std.proofs.Common.{◌≡◌, ℕ, zero, suc, ◌%◌, List, [], ◌�
 use Rattle.std.specs.Int.{w16, to_be_bytes}
 use Rattle.std.proofs.lemmas.List.{length-append}
 use Rattle.ep_base.specs.Checksum.{ones_sum, ones_add, checksum_of, no_zero}
-use Rattle.ep_base.proofs.Sums.{ones_sum-append, ones_sum-checksum, ones_sum-word, ones_sum_le}
+use Rattle.ep_base.proofs.SumLemmas.{ones_sum-append, ones_sum-checksum, ones_sum-word, ones_sum_le}
 
 -- the sum of some bytes and of more behind them, of which the first end with a whole word
 pub sum_more : (front back : List ℕ) (n m : ℕ) → n ≡ ones_sum front → length front % 2 ≡ 0

@@ -8,7 +8,7 @@ use Rattle.ep_ip.proofs.IpBytesLemmas.{encoded_len as ipv4_encoded_len, ipv6_len
 use Rattle.ep_ip.specs.Ipv6.{ipv6_bytes}
 use Rattle.ep_link.specs.LinkExtensions.{LinkExtension, vlan, macsec, EncodesTag}
 use Rattle.ep_link.specs.LinkSlices.{LinkLayer, ethernet2, linux_sll, ether_payload, linux_sll_payload}
-use Rattle.ep_link.proofs.MacsecReads.{encoded_len as macsec_encoded_len}
+use Rattle.ep_link.proofs.MacsecReadLemmas.{encoded_len as macsec_encoded_len}
 use Rattle.std.specs.Int.{w16, to_be_bytes}
 use Rattle.ep_transport.specs.Icmpv4.{FitsIcmpv4Fields, icmpv4_kind, icmpv4_len, icmpv4_rest_with}
 use Rattle.ep_transport.specs.Icmpv6.{FitsIcmpv6Fields, icmpv6_rest_with}

@@ -1,4 +1,4 @@
-pub mod HeldSteps
+pub mod HeldStepLemmas
 pub mod LenLemmas
 pub mod PlaceLemmas
 pub mod TagLemmas

@@ -9,7 +9,7 @@ use Rattle.ep_packet.specs.Frame.{IsFrame}
 use Rattle.ep_packet.specs.FrameBytes.{AreInOrder, EncodesLink, EncodesNet, EncodesTags, last_payload}
 use Rattle.ep_packet.specs.Layers.{Layers}
 use Rattle.ep_packet.proofs.FrameBytesLemmas.{frame_in_order}
-use Rattle.ep_packet.proofs.LayerLaws.{layer_laws}
+use Rattle.ep_packet.proofs.LayerLawLemmas.{layer_laws}
 use Rattle.etherparse_c.specs.declared.packet.Packet.{Packet}
 use Rattle.etherparse_c.specs.Description.{description, link_len, net_len, net_offset, payload_offset, tag_len, transport_len, transport_offset}
 use Rattle.etherparse_c.specs.Places.{AreTagsAt, Describes, bytes_at}

@@ -1,1 +1,1 @@
-pub mod Appending
+pub mod AppendingLemmas

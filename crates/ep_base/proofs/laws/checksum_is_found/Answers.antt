@@ -1,4 +1,4 @@
-use Rattle.ep_base.proofs.Sums.{ones_sum-checksum}
+use Rattle.ep_base.proofs.SumLemmas.{ones_sum-checksum}
 use Rattle.ep_base.proofs.laws.checksum_is_found.Goals as goal
 
 pub returns : goal.returns

@@ -1,4 +1,4 @@
-use Rattle.ep_base.proofs.Sums.{ones_sum-exchange}
+use Rattle.ep_base.proofs.SumLemmas.{ones_sum-exchange}
 use Rattle.ep_base.proofs.laws.order_of_parts.Goals as goal
 
 pub returns : goal.returns

@@ -1,4 +1,4 @@
-use Rattle.ep_base.proofs.Sums.{ones_add-comm, ones_add-assoc, ones_add-none}
+use Rattle.ep_base.proofs.SumLemmas.{ones_add-comm, ones_add-assoc, ones_add-none}
 use Rattle.ep_base.proofs.laws.order_of_sums.Goals as goal
 
 pub returns-clause-commutes : goal.returns-clause-commutes

@@ -1,4 +1,4 @@
-use Rattle.ep_base.proofs.Sums.{ones_sum-mod, ones_sum_le, ones_sum-zero}
+use Rattle.ep_base.proofs.SumLemmas.{ones_sum-mod, ones_sum_le, ones_sum-zero}
 use Rattle.ep_base.proofs.laws.sum_is_a_residue.Goals as goal
 
 pub returns-clause-same : goal.returns-clause-same

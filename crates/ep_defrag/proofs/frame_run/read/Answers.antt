@@ -1,6 +1,6 @@
 use Rattle.std.proofs.lemmas.Result.{err_from_is_err_and}
 use Rattle.ep_packet.specs.Layers.{layers_of}
-use Rattle.ep_defrag.proofs.Frames.{layers_read, refused_read}
+use Rattle.ep_defrag.proofs.FrameLemmas.{layers_read, refused_read}
 use Rattle.ep_defrag.proofs.frame_run.read.Goals as goal
 
 pub returns-in_err-packet-in-Frame : goal.returns-in_err-packet-in-Frame

@@ -1,6 +1,6 @@
 use Rattle.std.proofs.Common.{◌≡◌, ◌∙◌, ◌++◌, ◌-◌, min, length, ap, arith}
 use Rattle.ep_defrag.specs.Buffers.{extended}
-use Rattle.ep_defrag.proofs.Writing.{put_in_parts}
+use Rattle.ep_defrag.proofs.WritingLemmas.{put_in_parts}
 use Rattle.ep_defrag.proofs.ip_defrag_bytes.put.Goals as goal
 
 pub returns-clause-items : goal.returns-clause-items

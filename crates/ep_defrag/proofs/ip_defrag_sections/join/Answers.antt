@@ -2,7 +2,7 @@ use Rattle.std.proofs.Common.{◌≡◌, ◌<◌, ◌+◌, set, refl, rules, ari
 use Rattle.std.specs.List.{remove_range}
 use Rattle.ep_defrag.specs.Ranges.{hull, AreApart}
 use Rattle.std.proofs.lemmas.Bool.Decides.{nat_tests}
-use Rattle.ep_defrag.proofs.Joining.{insert_joins, insert_apart, union_joins, union_apart}
+use Rattle.ep_defrag.proofs.JoiningLemmas.{insert_joins, insert_apart, union_joins, union_apart}
 use Rattle.ep_defrag.proofs.ip_defrag_sections.join.Goals as goal
 
 pub returns-then-is_empty-clause-items : goal.returns-then-is_empty-clause-items

@@ -1,8 +1,8 @@
 use Rattle.std.proofs.Common.{nat_le, nat_lt, rules}
 use Rattle.std.proofs.lemmas.List.Sorted.{IsPartitionPoint-from_clause, IsPartitionedBy-leb, IsPartitionedBy-ltb}
 use Rattle.ep_defrag.specs.declared.ip_frag_range.IpFragRange.{IpFragRange}
-use Rattle.ep_defrag.proofs.Apart.{starts_rise, ends_rise}
-use Rattle.ep_defrag.proofs.Joining.{near_from_points, some_between}
+use Rattle.ep_defrag.proofs.ApartLemmas.{starts_rise, ends_rise}
+use Rattle.ep_defrag.proofs.JoiningLemmas.{near_from_points, some_between}
 use Rattle.ep_defrag.proofs.ip_defrag_sections.neighbours.Goals as goal
 
 pub returns-clause-near : goal.returns-clause-near

@@ -2,8 +2,8 @@ use Rattle.std.proofs.Common.{[], ap, sym, ◌∙◌}
 use Rattle.std.proofs.lemmas.List.Elements.{recursion_from_All}
 use Rattle.ep_defrag.specs.BuiltCuts.{IsBuiltCut, IsUnder, KeepsAll, answers_to_frames}
 use Rattle.ep_defrag.specs.FrameCalls.{pool_calls}
-use Rattle.ep_defrag.proofs.BuiltCuts.{answers_all, come, frames_all, keeps_all}
-use Rattle.ep_defrag.proofs.Frames.{answers_in}
+use Rattle.ep_defrag.proofs.BuiltCutLemmas.{answers_all, come, frames_all, keeps_all}
+use Rattle.ep_defrag.proofs.FrameLemmas.{answers_in}
 use Rattle.ep_defrag.proofs.laws.built_cuts_come_out.Goals as goal
 
 pub returns-clause-alone : goal.returns-clause-alone

@@ -1,6 +1,6 @@
 use Rattle.std.proofs.lemmas.List.Elements.{recursion_from_All}
 use Rattle.ep_defrag.specs.Cuts.{IsCut}
-use Rattle.ep_defrag.proofs.Cuts.{cut_fits_after}
+use Rattle.ep_defrag.proofs.CutLemmas.{cut_fits_after}
 use Rattle.ep_defrag.proofs.laws.cut_fits.Goals as goal
 
 pub returns : goal.returns

@@ -1,7 +1,7 @@
 use Rattle.ep_defrag.specs.Isolation.{fragments_of}
 use Rattle.ep_defrag.specs.Calls.{calls_of}
-use Rattle.ep_defrag.proofs.Cuts.{complete_cuts}
-use Rattle.ep_defrag.proofs.Alone.{cuts_only, cuts_come, all_cuts}
+use Rattle.ep_defrag.proofs.CutLemmas.{complete_cuts}
+use Rattle.ep_defrag.proofs.AloneLemmas.{cuts_only, cuts_come, all_cuts}
 use Rattle.ep_defrag.proofs.laws.cuts_come_out.Goals as goal
 
 pub returns-clause-only : goal.returns-clause-only

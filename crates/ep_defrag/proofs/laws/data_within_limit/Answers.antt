@@ -1,6 +1,6 @@
 use Rattle.ep_defrag.specs.Pools.{limit_of, stream_named}
-use Rattle.ep_defrag.proofs.Completing.{reach_short}
-use Rattle.ep_defrag.proofs.FramesComplete.{entry_data}
+use Rattle.ep_defrag.proofs.CompletingLemmas.{reach_short}
+use Rattle.ep_defrag.proofs.FramesCompleteLemmas.{entry_data}
 use Rattle.ep_defrag.proofs.laws.data_within_limit.Goals as goal
 
 pub returns-clause-reach : goal.returns-clause-reach

@@ -1,4 +1,4 @@
-use Rattle.ep_defrag.proofs.Equal.{alike_from_same, same_from_alike, touch_from_fill}
+use Rattle.ep_defrag.proofs.EqualLemmas.{alike_from_same, same_from_alike, touch_from_fill}
 use Rattle.ep_defrag.proofs.laws.equal_buffers.Goals as goal
 
 pub returns-clause-held : goal.returns-clause-held

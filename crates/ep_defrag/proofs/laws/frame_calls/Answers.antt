@@ -1,4 +1,4 @@
-use Rattle.ep_defrag.proofs.Frames.{read_once}
+use Rattle.ep_defrag.proofs.FrameLemmas.{read_once}
 use Rattle.ep_defrag.proofs.laws.frame_calls.Goals as goal
 
 pub returns : goal.returns

@@ -1,4 +1,4 @@
-use Rattle.ep_defrag.proofs.Completing.{one_fits, one_completes}
+use Rattle.ep_defrag.proofs.CompletingLemmas.{one_fits, one_completes}
 use Rattle.ep_defrag.proofs.laws.one_fragment_completes.Goals as goal
 
 pub returns : goal.returns

@@ -1,5 +1,5 @@
 use Rattle.std.proofs.Common.{[]}
-use Rattle.ep_defrag.proofs.Frames.{answers_in}
+use Rattle.ep_defrag.proofs.FrameLemmas.{answers_in}
 use Rattle.ep_defrag.proofs.laws.refused_frames_change_nothing.Goals as goal
 
 pub returns : goal.returns

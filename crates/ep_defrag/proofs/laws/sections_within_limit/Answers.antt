@@ -1,5 +1,5 @@
 use Rattle.ep_defrag.specs.Pools.{limit_of, stream_named}
-use Rattle.ep_defrag.proofs.SectionCount.{held_few, entry_few}
+use Rattle.ep_defrag.proofs.SectionCountLemmas.{held_few, entry_few}
 use Rattle.ep_defrag.proofs.laws.sections_within_limit.Goals as goal
 
 pub returns-clause-buffer : goal.returns-clause-buffer

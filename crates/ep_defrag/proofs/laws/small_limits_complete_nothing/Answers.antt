@@ -1,7 +1,7 @@
 use Rattle.std.proofs.Common.{true, ◌≡◌}
 use Rattle.std.proofs.lemmas.List.Elements.{recursion_from_All}
 use Rattle.ep_defrag.specs.Completing.{is_part}
-use Rattle.ep_defrag.proofs.Completing.{small_not_complete}
+use Rattle.ep_defrag.proofs.CompletingLemmas.{small_not_complete}
 use Rattle.ep_defrag.proofs.laws.small_limits_complete_nothing.Goals as goal
 
 pub returns : goal.returns

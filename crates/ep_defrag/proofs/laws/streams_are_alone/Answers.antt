@@ -1,4 +1,4 @@
-use Rattle.ep_defrag.proofs.Alone.{alone}
+use Rattle.ep_defrag.proofs.AloneLemmas.{alone}
 use Rattle.ep_defrag.proofs.laws.streams_are_alone.Goals as goal
 
 pub returns : goal.returns

@@ -1,4 +1,4 @@
-use Rattle.ep_defrag.proofs.Completing.{two_complete}
+use Rattle.ep_defrag.proofs.CompletingLemmas.{two_complete}
 use Rattle.ep_defrag.proofs.laws.two_fragments_complete.Goals as goal
 
 pub returns : goal.returns

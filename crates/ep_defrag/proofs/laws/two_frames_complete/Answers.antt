@@ -2,8 +2,8 @@ use Rattle.std.proofs.Common.{refl}
 use Rattle.ep_defrag.specs.Calls.{accepted_in}
 use Rattle.ep_defrag.specs.Completing.{name_in}
 use Rattle.ep_defrag.specs.Pools.{limit_of, stream_named}
-use Rattle.ep_defrag.proofs.Carrying.{carrying}
-use Rattle.ep_defrag.proofs.FramesComplete.{entry_in_turn, frames_complete}
+use Rattle.ep_defrag.proofs.CarryingLemmas.{carrying}
+use Rattle.ep_defrag.proofs.FramesCompleteLemmas.{entry_in_turn, frames_complete}
 use Rattle.ep_defrag.proofs.laws.two_frames_complete.Goals as goal
 
 pub returns-clause-some : goal.returns-clause-some

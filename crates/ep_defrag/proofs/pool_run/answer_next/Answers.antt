@@ -1,5 +1,5 @@
 use Rattle.std.proofs.Common.{sym, ◌∙◌, of_calls}
-use Rattle.ep_defrag.proofs.Taking.{frame_answer, frame_holds, frame_memory, frame_limit}
+use Rattle.ep_defrag.proofs.TakingLemmas.{frame_answer, frame_holds, frame_memory, frame_limit}
 use Rattle.ep_defrag.proofs.pool_run.answer_next.Goals as goal
 
 pub returns-then-lacks_memory-clause-memory : goal.returns-then-lacks_memory-clause-memory

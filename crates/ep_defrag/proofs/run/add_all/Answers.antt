@@ -3,7 +3,7 @@ use Rattle.std.proofs.lemmas.List.{take_more, get_or_default}
 use Rattle.std.proofs.lemmas.List.Elements.{All-same}
 use Rattle.ep_defrag.specs.declared.ip_defrag_error.IpDefragError.TheVariants.{AllocationFailure}
 use Rattle.ep_defrag.specs.Runs.{accepted_after, answers_after}
-use Rattle.ep_defrag.proofs.Runs.{answers_no_memory, accepted_after-push, answers_after-push}
+use Rattle.ep_defrag.proofs.RunLemmas.{answers_no_memory, accepted_after-push, answers_after-push}
 use Rattle.ep_defrag.proofs.run.add_all.Goals as goal
 
 pub loop-at-preserved : goal.loop-at-preserved

@@ -2,7 +2,7 @@ use Rattle.std.proofs.Common.{ap}
 use Rattle.std.proofs.lemmas.Bool.Decides.{Decides-like}
 use Rattle.ep_base.proofs.ComparisonLemmas.{same_option, four_and}
 use Rattle.ep_ext.specs.ExtensionParts.{hop_by_hop, destination_options, authentication}
-use Rattle.ep_ext.proofs.Comparisons.{same_fragment, same_ip_auth, same_raw_extension, same_routing, there_fits, fit_each, fit_routing}
+use Rattle.ep_ext.proofs.ComparisonLemmas.{same_fragment, same_ip_auth, same_raw_extension, same_routing, there_fits, fit_each, fit_routing}
 use Rattle.ep_ext.proofs.laws.comparisons.Goals as goal
 
 pub returns-clause-fragment_header : goal.returns-clause-fragment_header

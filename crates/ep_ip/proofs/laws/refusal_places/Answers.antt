@@ -1,6 +1,6 @@
 use Rattle.ep_base.specs.declared.err.ipv4.SliceError.TheVariants as ipv4_error
 use Rattle.ep_base.specs.declared.err.ipv6.SliceError.TheVariants as ipv6_error
-use Rattle.ep_ip.proofs.RefusalPlaces.{ipv4_within, ipv6_within}
+use Rattle.ep_ip.proofs.RefusalPlaceLemmas.{ipv4_within, ipv6_within}
 use Rattle.ep_ip.proofs.laws.refusal_places.Goals as goal
 
 pub returns : goal.returns

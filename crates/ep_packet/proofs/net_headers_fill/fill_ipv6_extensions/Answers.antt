@@ -6,10 +6,10 @@ use Rattle.ep_base.specs.declared.ip_payload_slice.IpPayloadSlice.{IpPayloadSlic
 use Rattle.ep_ext.specs.declared.ipv6_exts.Ipv6Extensions.{Ipv6Extensions}
 use Rattle.ep_ext.specs.Chains.{chain_fragments, chain_of}
 use Rattle.ep_ext.specs.Ipv6Chains.{ipv6_parts}
-use Rattle.ep_ext.proofs.ValueLaws.{chain_value_fragments}
+use Rattle.ep_ext.proofs.ValueLawLemmas.{chain_value_fragments}
 use Rattle.ep_ip.specs.IpPackets.{ipv6_part}
 use Rattle.ep_ip.specs.Ipv6.{ipv6_payload_source}
-use Rattle.ep_ip.proofs.ExtensionLaws.{exts_within}
+use Rattle.ep_ip.proofs.ExtensionLawLemmas.{exts_within}
 use Rattle.ep_ip.proofs.PacketLemmas.{shown_packet}
 use Rattle.ep_packet.specs.declared.net_headers.NetHeaders.TheVariants as variant
 use Rattle.ep_packet.proofs.HeadersLemmas.{fills_read}

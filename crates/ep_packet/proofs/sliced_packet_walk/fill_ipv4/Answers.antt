@@ -2,7 +2,7 @@ use Rattle.std.proofs.Common.{ap, arith}
 use Rattle.std.proofs.lemmas.Result.{err_from_is_err_and}
 use Rattle.ep_base.specs.Layer.{slices}
 use Rattle.ep_base.specs.declared.err.len_error.LenError.{LenError}
-use Rattle.ep_ip.proofs.RefusalPlaces.{ipv4_start, ipv4_within}
+use Rattle.ep_ip.proofs.RefusalPlaceLemmas.{ipv4_start, ipv4_within}
 use Rattle.ep_packet.specs.declared.net_slice.NetSlice.TheVariants as slice
 use Rattle.ep_packet.specs.Frame.{only_ipv4}
 use Rattle.ep_packet.proofs.NetWalkLemmas.{ipv4_shown, net_refused}

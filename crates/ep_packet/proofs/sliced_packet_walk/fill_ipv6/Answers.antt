@@ -2,7 +2,7 @@ use Rattle.std.proofs.Common.{ap, sym, arith, inl, length, length-append}
 use Rattle.std.proofs.lemmas.Result.{err_from_is_err_and}
 use Rattle.ep_base.specs.Layer.{slices}
 use Rattle.ep_base.specs.declared.err.len_error.LenError.{LenError}
-use Rattle.ep_ip.proofs.RefusalPlaces.{ipv6_start, ipv6_within}
+use Rattle.ep_ip.proofs.RefusalPlaceLemmas.{ipv6_start, ipv6_within}
 use Rattle.ep_packet.specs.declared.net_slice.NetSlice.TheVariants as slice
 use Rattle.ep_packet.specs.Frame.{only_ipv6}
 use Rattle.ep_packet.specs.Refusals.{ipv6_refusal}

@@ -1,4 +1,4 @@
-use Rattle.ep_transport.proofs.TcpOptionItems.{items_there, one_list}
+use Rattle.ep_transport.proofs.TcpOptionItemLemmas.{items_there, one_list}
 use Rattle.ep_transport.proofs.laws.tcp_option_items.Goals as goal
 
 pub returns : goal.returns

@@ -1,4 +1,4 @@
-use Rattle.ep_transport.proofs.TcpOptionItems.{read_back}
+use Rattle.ep_transport.proofs.TcpOptionItemLemmas.{read_back}
 use Rattle.ep_transport.proofs.laws.tcp_options_read_back.Goals as goal
 
 pub returns : goal.returns

@@ -1,5 +1,5 @@
 use Rattle.ep_base.specs.declared.err.tcp.HeaderSliceError.TheVariants as header_error
-use Rattle.ep_transport.proofs.TransportPlaces.{at_start}
+use Rattle.ep_transport.proofs.TransportPlaceLemmas.{at_start}
 use Rattle.ep_transport.proofs.laws.transport_places.Goals as goal
 
 pub returns : goal.returns

@@ -3,7 +3,7 @@ use Rattle.std.proofs.lemmas.List.{take_all, length-drop}
 use Rattle.ep_base.specs.Bytes.{AreBytes}
 use Rattle.ep_transport.specs.declared.tcp_option_element.TcpOptionElement.TheVariants.{SelectiveAcknowledgement, Timestamp}
 use Rattle.ep_transport.specs.TcpOptionBytes.{IsOption}
-use Rattle.ep_transport.proofs.TcpOptionReads.{timestamp_there, blocks_there}
+use Rattle.ep_transport.proofs.TcpOptionReadLemmas.{timestamp_there, blocks_there}
 use Rattle.ep_transport.proofs.tcp_options_iterator.read_option.Goals as goal
 
 pub returns-in_ok-size-in-5-clause-ok : goal.returns-in_ok-size-in-5-clause-ok

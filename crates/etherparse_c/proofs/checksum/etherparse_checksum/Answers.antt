@@ -1,5 +1,5 @@
 use Rattle.std.proofs.Common.{rules}
-use Rattle.ep_base.proofs.Sums.{ones_add-none}
+use Rattle.ep_base.proofs.SumLemmas.{ones_add-none}
 use Rattle.etherparse_c.proofs.checksum.etherparse_checksum.Goals as goal
 
 pub returns : goal.returns

@@ -2,7 +2,7 @@ use Rattle.std.proofs.Common.{[], vec_len, vec_capacity, ap, ◌∙◌}
 use Rattle.etherparse.specs.Steps.{ip_held, ip_link, ip_step_headers, transport_held}
 use Rattle.etherparse.specs.Types.TransportHeader.TheVariants as header
 use Rattle.example_generator.specs.Frames.{datagram_v6, ipv6_between, link_between, udp_between}
-use Rattle.example_generator.proofs.Appending.{appended, same_transport}
+use Rattle.example_generator.proofs.AppendingLemmas.{appended, same_transport}
 use Rattle.example_generator.proofs.frames.write_datagram_v6.Goals as goal
 
 pub returns : goal.returns

@@ -4,7 +4,7 @@ use Rattle.etherparse.specs.Types.TcpHeader.{TcpHeader}
 use Rattle.etherparse.specs.Steps.{ip_held, ip_link, ip_step_headers, transport_held}
 use Rattle.etherparse.specs.Types.TransportHeader.TheVariants as header
 use Rattle.example_generator.specs.Frames.{syn, ipv4_between, link_between, syn_between}
-use Rattle.example_generator.proofs.Appending.{appended, same_transport}
+use Rattle.example_generator.proofs.AppendingLemmas.{appended, same_transport}
 use Rattle.example_generator.proofs.frames.write_syn.Goals as goal
 
 pub returns : goal.returns

@@ -1,6 +1,6 @@
 use Rattle.std.proofs.Common.{◌∙◌, ap, rules}
 use Rattle.ep_base.specs.Checksum.{residue}
-use Rattle.ep_base.proofs.Sums.{ones_add-words, sum_with_last, words_of_32}
+use Rattle.ep_base.proofs.SumLemmas.{ones_add-words, sum_with_last, words_of_32}
 use Rattle.ep_base.proofs.checksum.Sum16BitWords.add_4bytes.Goals as goal
 
 pub returns : goal.returns

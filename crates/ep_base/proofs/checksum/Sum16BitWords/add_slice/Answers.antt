@@ -1,8 +1,8 @@
 use Rattle.std.proofs.Common.{◌≡◌, ◌∙◌, ◌+◌, ◌%◌, ◌++◌, sym, ap, refl, rules, length}
 use Rattle.std.proofs.lemmas.List.{take-append-drop}
 use Rattle.ep_base.specs.Checksum.{residue, word_sum}
-use Rattle.ep_base.proofs.Sums.{ones_add-words, sum_with_last, sum_with_word, words_of_64}
-use Rattle.ep_base.proofs.Sums.{word_sum-append, word_sum-zeros}
+use Rattle.ep_base.proofs.SumLemmas.{ones_add-words, sum_with_last, sum_with_word, words_of_64}
+use Rattle.ep_base.proofs.SumLemmas.{word_sum-append, word_sum-zeros}
 use Rattle.ep_base.proofs.checksum.Sum16BitWords.add_slice.Goals as goal
 
 pub loop-piece-preserved : goal.loop-piece-preserved

@@ -6,7 +6,7 @@ use Rattle.ep_defrag.specs.Ranges.{merges}
 use Rattle.ep_defrag.specs.Fragments.{IpFragment, fragment_with}
 use Rattle.ep_defrag.specs.Refusals.{RefusesFragment}
 use Rattle.ep_defrag.specs.Buffers.{HoldsFragments, IsUnchanged, data_of, sections_of}
-use Rattle.ep_defrag.proofs.Held.{data_len, HoldsFragments-push, HoldsFragments-same, in_place_when_held}
+use Rattle.ep_defrag.proofs.HeldLemmas.{data_len, HoldsFragments-push, HoldsFragments-same, in_place_when_held}
 use Rattle.ep_defrag.proofs.ip_defrag_buf.IpDefragBuf.add.Goals as goal
 
 pub returns-clause-fits : goal.returns-clause-fits

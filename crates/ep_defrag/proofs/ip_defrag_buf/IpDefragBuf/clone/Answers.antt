@@ -1,6 +1,6 @@
 use Rattle.std.proofs.Common.{refl, rules}
 use Rattle.std.proofs.lemmas.List.Elements.{same_from_all_zip}
-use Rattle.ep_defrag.proofs.Held.{HoldsFragments-same}
+use Rattle.ep_defrag.proofs.HeldLemmas.{HoldsFragments-same}
 use Rattle.ep_defrag.proofs.ip_defrag_buf.IpDefragBuf.clone.Goals as goal
 
 pub returns-clause-holds : goal.returns-clause-holds

@@ -1,6 +1,6 @@
 use Rattle.std.proofs.Common.{◌≡◌, ◌&&◌, is_some, ap, ◌∙◌}
 use Rattle.ep_defrag.specs.Buffers.{known_end_of, sections_of, is_whole}
-use Rattle.ep_defrag.proofs.Held.{complete_when_held}
+use Rattle.ep_defrag.proofs.HeldLemmas.{complete_when_held}
 use Rattle.ep_defrag.proofs.ip_defrag_buf.IpDefragBuf.is_complete.Goals as goal
 
 pub returns-clause-complete : goal.returns-clause-complete

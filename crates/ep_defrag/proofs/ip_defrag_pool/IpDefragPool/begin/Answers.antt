@@ -3,8 +3,8 @@ use Rattle.ep_defrag.specs.declared.ip_defrag_pool.OpenStream.{OpenStream}
 use Rattle.ep_defrag.specs.Calls.{Payload}
 use Rattle.ep_defrag.specs.Pools.{stream_at, stream_named}
 use Rattle.ep_defrag.specs.Streams.{source_of}
-use Rattle.ep_defrag.proofs.Entries.{put_stream}
-use Rattle.ep_defrag.proofs.Taking.{begins_refused, begins_whole, begins}
+use Rattle.ep_defrag.proofs.EntryLemmas.{put_stream}
+use Rattle.ep_defrag.proofs.TakingLemmas.{begins_refused, begins_whole, begins}
 use Rattle.ep_defrag.proofs.ip_defrag_pool.IpDefragPool.begin.Goals as goal
 
 pub returns-in-Err : goal.returns-in-Err

@@ -1,7 +1,7 @@
 use Rattle.std.proofs.Common.{ap, sym, refl, ◌∙◌, Some}
 use Rattle.ep_defrag.specs.Calls.{Payload}
 use Rattle.ep_defrag.specs.Streams.{source_of}
-use Rattle.ep_defrag.proofs.Entries.{absent_stream, present_stream, removed_stream}
+use Rattle.ep_defrag.proofs.EntryLemmas.{absent_stream, present_stream, removed_stream}
 use Rattle.ep_defrag.proofs.ip_defrag_pool.IpDefragPool.hand_out.Goals as goal
 
 pub returns-in_err-stream-clause-payload : goal.returns-in_err-stream-clause-payload

@@ -2,8 +2,8 @@ use Rattle.std.proofs.Common.{ap, sym, refl, subst, ◌∙◌}
 use Rattle.std.specs.Option.{option_map}
 use Rattle.ep_defrag.specs.declared.ip_defrag_pool.OpenStream.{OpenStream}
 use Rattle.ep_defrag.specs.Pools.{stream_at, payload_in, IsWhole}
-use Rattle.ep_defrag.proofs.Entries.{absent_stream, present_stream, written_stream, changed_again}
-use Rattle.ep_defrag.proofs.Taking.{goes_on_refused, goes_on_more, goes_on_whole}
+use Rattle.ep_defrag.proofs.EntryLemmas.{absent_stream, present_stream, written_stream, changed_again}
+use Rattle.ep_defrag.proofs.TakingLemmas.{goes_on_refused, goes_on_more, goes_on_whole}
 use Rattle.ep_defrag.proofs.ip_defrag_pool.IpDefragPool.process_fragment.Goals as goal
 
 pub begin-requires : goal.begin-requires

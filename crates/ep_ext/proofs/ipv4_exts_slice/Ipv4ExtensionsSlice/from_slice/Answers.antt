@@ -7,7 +7,7 @@ use Rattle.ep_ext.specs.ExtensionParts.{authentication}
 use Rattle.ep_ext.specs.IpAuthSlices.{ip_auth_slice_bytes, ip_auth_slice_header}
 use Rattle.ep_base.proofs.BytesLemmas.{rest_of}
 use Rattle.ep_ext.specs.Chains.{ipv4, chain_of}
-use Rattle.ep_ext.proofs.HeaderLaws.{header_laws}
+use Rattle.ep_ext.proofs.HeaderLawLemmas.{header_laws}
 use Rattle.ep_ext.proofs.ChainLemmas.{one_chain, refused_no_chain, auth_refused, ends_at_once, one_authentication, number_other, number_same}
 use Rattle.ep_ext.proofs.ipv4_exts_slice.Ipv4ExtensionsSlice.from_slice.Goals as goal
 

@@ -3,7 +3,7 @@ use Rattle.ep_base.specs.Bytes.{AreBytes}
 use Rattle.ep_base.specs.Layer.{headers}
 use Rattle.ep_ext.specs.Chains.{ipv6, chain_of}
 use Rattle.ep_ext.specs.Ipv6Chains.{extensions_of}
-use Rattle.ep_ext.proofs.HeaderLaws.{header_laws}
+use Rattle.ep_ext.proofs.HeaderLawLemmas.{header_laws}
 use Rattle.ep_ext.proofs.ChainLemmas.{one_chain, refused_no_chain}
 use Rattle.ep_ext.proofs.ipv6_exts.Ipv6Extensions.from_slice.Goals as goal
 

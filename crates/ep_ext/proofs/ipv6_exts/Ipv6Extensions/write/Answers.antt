@@ -8,9 +8,9 @@ use Rattle.ep_ext.specs.Chains.{parts_bytes}
 use Rattle.ep_ext.specs.Ipv6Chains.{RefusesWalk, missing_number, extensions_of, ipv6_parts}
 use Rattle.ep_ext.specs.Walks.{marked, header_ref_part, header_at}
 use Rattle.ep_ext.proofs.WalkLemmas.{WalkedBy, walk_start, walk_more, walk_fewer, walk_end, written_more, fit_more, one_walk, one_walk_refusal, walks_not_refused, room_for, succeeds, on_ok, on_err, when_ok}
-use Rattle.ep_ext.proofs.WalkLength.{walk_len}
-use Rattle.ep_ext.proofs.WalkLaws.{walk_there}
-use Rattle.ep_ext.proofs.WalkMarks.{no_marks, marks_left}
+use Rattle.ep_ext.proofs.WalkLengthLemmas.{walk_len}
+use Rattle.ep_ext.proofs.WalkLawLemmas.{walk_there}
+use Rattle.ep_ext.proofs.WalkMarkLemmas.{no_marks, marks_left}
 use Rattle.ep_ext.proofs.ipv6_exts.Ipv6Extensions.write.Goals as goal
 
 pub returns-in-Err-clause-walk : goal.returns-in-Err-clause-walk

@@ -1,5 +1,5 @@
 use Rattle.ep_ext.proofs.WalkLemmas.{HasWritten}
-use Rattle.ep_ext.proofs.WalkMarks.{marks_left}
+use Rattle.ep_ext.proofs.WalkMarkLemmas.{marks_left}
 use Rattle.ep_ext.proofs.ipv6_exts.Ipv6Extensions.write.Given as goal
 
 abbrev pub invariant-loop-header : goal.invariant-loop-header

@@ -1,4 +1,4 @@
-use Rattle.ep_ext.proofs.ChainBytes.{chain_encoded, chain_len}
+use Rattle.ep_ext.proofs.ChainBytesLemmas.{chain_encoded, chain_len}
 use Rattle.ep_ext.proofs.laws.chains.chain_bytes.Goals as goal
 
 pub returns : goal.returns

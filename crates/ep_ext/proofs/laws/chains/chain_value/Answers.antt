@@ -1,4 +1,4 @@
-use Rattle.ep_ext.proofs.ValueLaws.{chain_value_len, chain_value_fragments}
+use Rattle.ep_ext.proofs.ValueLawLemmas.{chain_value_len, chain_value_fragments}
 use Rattle.ep_ext.proofs.laws.chains.chain_value.Goals as goal
 
 pub returns : goal.returns

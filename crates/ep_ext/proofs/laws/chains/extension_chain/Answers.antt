@@ -1,4 +1,4 @@
-use Rattle.ep_ext.proofs.HeaderLaws.{header_laws}
+use Rattle.ep_ext.proofs.HeaderLawLemmas.{header_laws}
 use Rattle.ep_ext.proofs.ChainLemmas.{chain_decided}
 use Rattle.ep_ext.proofs.laws.chains.extension_chain.Goals as goal
 

@@ -1,4 +1,4 @@
-use Rattle.ep_ext.proofs.WalkLaws.{walk_decided}
+use Rattle.ep_ext.proofs.WalkLawLemmas.{walk_decided}
 use Rattle.ep_ext.proofs.laws.chains.walk_ipv6.Goals as goal
 
 pub returns : goal.returns

@@ -1,6 +1,6 @@
 use Rattle.std.proofs.Common.{◌≡◌, ◌-◌, ◌%◌, ℕ, length, sym, ap, ap₂, ◌∙◌, arith}
 use Rattle.ep_base.specs.Checksum.{ones_add, ones_sum}
-use Rattle.ep_base.proofs.Sums.{ones_sum-append, ones_add-none}
+use Rattle.ep_base.proofs.SumLemmas.{ones_sum-append, ones_add-none}
 use Rattle.ep_ip.proofs.ipv4_header.Ipv4Header.calc_header_checksum.Goals as goal
 
 pub returns : goal.returns

@@ -7,7 +7,7 @@ use Rattle.ep_base.specs.declared.ip_number.IpNumber.{IpNumber}
 use Rattle.ep_ext.specs.Chains.{chain_of}
 use Rattle.ep_ext.specs.Ipv4Chains.{ipv4_slice_parts}
 use Rattle.ep_ip.specs.Ipv4Slices.{ipv4_header_slice_bytes}
-use Rattle.ep_ip.proofs.ExtensionLaws.{auth_within}
+use Rattle.ep_ip.proofs.ExtensionLawLemmas.{auth_within}
 use Rattle.ep_ip.proofs.PacketLemmas.{ipv4_refused, ipv4_shown}
 use Rattle.ep_ip.proofs.ipv4_slice.Ipv4Slice.from_slice.Goals as goal
 

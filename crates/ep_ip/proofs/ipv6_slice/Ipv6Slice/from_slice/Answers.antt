@@ -7,7 +7,7 @@ use Rattle.ep_base.specs.declared.ip_number.IpNumber.{IpNumber}
 use Rattle.ep_ext.specs.Chains.{chain_of}
 use Rattle.ep_ext.specs.Ipv6Slices.{ipv6_slice_parts}
 use Rattle.ep_ip.specs.Ipv6Slices.{ipv6_header_slice_bytes}
-use Rattle.ep_ip.proofs.ExtensionLaws.{exts_within}
+use Rattle.ep_ip.proofs.ExtensionLawLemmas.{exts_within}
 use Rattle.ep_ip.proofs.PacketLemmas.{ipv6_refused, ipv6_shown}
 use Rattle.ep_ip.proofs.ipv6_slice.Ipv6Slice.from_slice.Goals as goal
 

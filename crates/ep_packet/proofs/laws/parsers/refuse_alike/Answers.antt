@@ -1,5 +1,5 @@
 use Rattle.ep_packet.proofs.AlikeLemmas.{ReadingLaws, frame_alone, frame_refused}
-use Rattle.ep_packet.proofs.LayerLaws.{layer_laws}
+use Rattle.ep_packet.proofs.LayerLawLemmas.{layer_laws}
 use Rattle.ep_packet.proofs.laws.parsers.refuse_alike.Goals as goal
 
 pub returns : goal.returns

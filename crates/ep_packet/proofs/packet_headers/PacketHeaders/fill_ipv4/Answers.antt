@@ -3,7 +3,7 @@ use Rattle.std.proofs.lemmas.Result.{IfOk-weaker, IfErr-weaker}
 use Rattle.ep_base.specs.Layer.{headers}
 use Rattle.ep_base.specs.declared.err.len_error.LenError.{LenError}
 use Rattle.ep_ip.specs.IpPackets.{ipv4_part}
-use Rattle.ep_ip.proofs.RefusalPlaces.{ipv4_start, ipv4_within}
+use Rattle.ep_ip.proofs.RefusalPlaceLemmas.{ipv4_start, ipv4_within}
 use Rattle.ep_packet.specs.Frame.{only_ipv4}
 use Rattle.ep_packet.specs.PacketHeaders.{headers_of}
 use Rattle.ep_packet.proofs.HeadersLemmas.{fills_ip, ip_refused}

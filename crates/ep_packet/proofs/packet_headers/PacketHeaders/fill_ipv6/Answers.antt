@@ -3,7 +3,7 @@ use Rattle.std.proofs.lemmas.Result.{IfOk-weaker, IfErr-weaker}
 use Rattle.ep_base.specs.Layer.{headers}
 use Rattle.ep_base.specs.declared.err.len_error.LenError.{LenError}
 use Rattle.ep_ip.specs.IpPackets.{ipv6_part}
-use Rattle.ep_ip.proofs.RefusalPlaces.{ipv6_start, ipv6_within}
+use Rattle.ep_ip.proofs.RefusalPlaceLemmas.{ipv6_start, ipv6_within}
 use Rattle.ep_packet.specs.Frame.{only_ipv6}
 use Rattle.ep_packet.specs.PacketHeaders.{headers_of}
 use Rattle.ep_packet.proofs.HeadersLemmas.{fills_ip, ip_refused}

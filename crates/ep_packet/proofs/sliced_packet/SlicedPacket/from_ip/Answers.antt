@@ -3,7 +3,7 @@ use Rattle.ep_link.specs.LinkExtensions.{link_extension_of}
 use Rattle.ep_packet.specs.declared.sliced_packet.SlicedPacket.{SlicedPacket}
 use Rattle.ep_packet.specs.declared.entry.Entry.TheVariants.{Ip as ip}
 use Rattle.ep_packet.specs.Layers.{layers_of}
-use Rattle.ep_packet.proofs.LayerLaws.{frame_law}
+use Rattle.ep_packet.proofs.LayerLawLemmas.{frame_law}
 use Rattle.ep_packet.proofs.sliced_packet.SlicedPacket.from_ip.Goals as goal
 
 pub returns-in-Err-clause-only : goal.returns-in-Err-clause-only

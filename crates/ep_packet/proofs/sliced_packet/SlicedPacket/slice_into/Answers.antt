@@ -1,6 +1,6 @@
 use Rattle.std.proofs.Common.{arith}
 use Rattle.ep_packet.specs.Layers.{layers_of}
-use Rattle.ep_packet.proofs.LayerLaws.{frame_law}
+use Rattle.ep_packet.proofs.LayerLawLemmas.{frame_law}
 use Rattle.ep_packet.proofs.sliced_packet.SlicedPacket.slice_into.Goals as goal
 
 pub returns-in-Ok-clause-only : goal.returns-in-Ok-clause-only

@@ -5,7 +5,7 @@ use Rattle.std.proofs.lemmas.List.{length-append}
 use Rattle.std.proofs.lemmas.List.Elements.{All-more}
 use Rattle.ep_transport.specs.declared.tcp_option_element.TcpOptionElement.TheVariants.{Noop}
 use Rattle.ep_transport.specs.TcpOptionBytes.{FitsOption, option_bytes, options_bytes}
-use Rattle.ep_transport.proofs.TcpOptionItems.{options_next}
+use Rattle.ep_transport.proofs.TcpOptionItemLemmas.{options_next}
 use Rattle.ep_transport.proofs.tcp_options.TcpOptions.try_from_elements.Goals as goal
 use Rattle.ep_transport.proofs.tcp_options.TcpOptions.try_from_elements.Goals.{then-len-le-MAX_LEN, else-len-le-MAX_LEN}
 

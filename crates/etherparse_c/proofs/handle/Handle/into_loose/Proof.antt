@@ -22,7 +22,7 @@ use Rattle.std.specs.Prelude.{Some, is_some, true}
 use Rattle.std.proofs.alloc.Global.TheLaws as heap_laws
 use Rattle.std.specs.contracts.impls.GlobalAllocator.TheImpl.{ghosts}
 use Rattle.etherparse_c.specs.contracts.pool.Pool.{the_row}
-use Rattle.etherparse_c.proofs.HeldSteps.{Handle, Heap, both, handle_out, loose_good, loose_in, there}
+use Rattle.etherparse_c.proofs.HeldStepLemmas.{Handle, Heap, both, handle_out, loose_good, loose_in, there}
 use Rattle.etherparse_c.specs.contracts.handle.Handle.into_loose.{ended, clauses}
 use Rattle.etherparse_c.specs.contracts.handle.Handle.into_loose.Key.{name as #self}
 use Rattle.etherparse_c.proofs.handle.Handle.into_loose.Statement.{statement}

@@ -22,7 +22,7 @@ use Rattle.std.specs.Prelude.{Some}
 use Rattle.std.proofs.alloc.Global.TheLaws as heap_laws
 use Rattle.std.specs.contracts.impls.GlobalAllocator.TheImpl.{ghosts}
 use Rattle.etherparse_c.specs.contracts.pool.Pool.{the_row}
-use Rattle.etherparse_c.proofs.HeldSteps.{Heap, Loose, both, handle_in, loose_good, loose_out}
+use Rattle.etherparse_c.proofs.HeldStepLemmas.{Heap, Loose, both, handle_in, loose_good, loose_out}
 use Rattle.etherparse_c.specs.contracts.handle.Handle.of.{ended, clauses}
 use Rattle.etherparse_c.specs.contracts.handle.Handle.of.Key.{name as #self}
 use Rattle.etherparse_c.proofs.handle.Handle.of.Statement.{statement}

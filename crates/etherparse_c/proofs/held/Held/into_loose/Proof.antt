@@ -22,7 +22,7 @@ use Rattle.std.specs.Prelude.{Some, is_some, true}
 use Rattle.std.proofs.alloc.Global.TheLaws as heap_laws
 use Rattle.std.specs.contracts.impls.GlobalAllocator.TheImpl.{ghosts}
 use Rattle.etherparse_c.specs.contracts.state.State.{the_row}
-use Rattle.etherparse_c.proofs.HeldSteps.{Held, Heap, both, held_out, there, loose_good, loose_in}
+use Rattle.etherparse_c.proofs.HeldStepLemmas.{Held, Heap, both, held_out, there, loose_good, loose_in}
 use Rattle.etherparse_c.specs.contracts.held.Held.into_loose.{ended, clauses}
 use Rattle.etherparse_c.specs.contracts.held.Held.into_loose.Key.{name as #self}
 use Rattle.etherparse_c.proofs.held.Held.into_loose.Statement.{statement}

@@ -24,7 +24,7 @@ use Rattle.std.specs.Prelude.{None}
 use Rattle.std.proofs.alloc.Global.TheLaws as heap_laws
 use Rattle.std.specs.contracts.impls.GlobalAllocator.TheImpl.{ghosts}
 use Rattle.etherparse_c.specs.contracts.state.State.{the_row}
-use Rattle.etherparse_c.proofs.HeldSteps.{Heap, both, heap_al, held_in, loose_good}
+use Rattle.etherparse_c.proofs.HeldStepLemmas.{Heap, both, heap_al, held_in, loose_good}
 use Rattle.etherparse_c.specs.contracts.held.Held.none.{ended, clauses}
 use Rattle.etherparse_c.specs.contracts.held.Held.none.Key.{name as #self}
 use Rattle.etherparse_c.proofs.held.Held.none.Statement.{statement}

@@ -22,7 +22,7 @@ use Rattle.std.specs.Prelude.{Some}
 use Rattle.std.proofs.alloc.Global.TheLaws as heap_laws
 use Rattle.std.specs.contracts.impls.GlobalAllocator.TheImpl.{ghosts}
 use Rattle.etherparse_c.specs.contracts.state.State.{the_row}
-use Rattle.etherparse_c.proofs.HeldSteps.{Heap, Loose, both, held_in, loose_good, loose_out}
+use Rattle.etherparse_c.proofs.HeldStepLemmas.{Heap, Loose, both, held_in, loose_good, loose_out}
 use Rattle.etherparse_c.specs.contracts.held.Held.of.{ended, clauses}
 use Rattle.etherparse_c.specs.contracts.held.Held.of.Key.{name as #self}
 use Rattle.etherparse_c.proofs.held.Held.of.Statement.{statement}

@@ -31,7 +31,7 @@ use Rattle.std.proofs.cell.Inside.{Good}
 use Rattle.std.proofs.BoxSteps.Form as box
 use Rattle.std.proofs.BoxSteps.Steps.{box_out, box_in}
 use Rattle.std.proofs.raw_atomic.Walks.{proved_at, leaves}
-use Rattle.etherparse_c.proofs.HeldSteps.{both, Loose, loose_good, loose_out}
+use Rattle.etherparse_c.proofs.HeldStepLemmas.{both, Loose, loose_good, loose_out}
 use Rattle.std.specs.contracts.boxed.Box.from_raw as callee
 use Rattle.std.proofs.boxed.Box.from_raw.Met.{met}
 use Rattle.etherparse_c.specs.contracts.loose.Loose.into_box.{ended, clauses}

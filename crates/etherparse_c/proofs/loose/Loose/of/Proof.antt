@@ -32,7 +32,7 @@ use Rattle.std.specs.Box.Ownership.{box_owns}
 use Rattle.std.proofs.BoxSteps.Form as box
 use Rattle.std.proofs.BoxSteps.Steps.{box_out, box_in}
 use Rattle.std.proofs.raw_atomic.Walks.{proved_at, leaves}
-use Rattle.etherparse_c.proofs.HeldSteps.{both, loose_good, loose_in}
+use Rattle.etherparse_c.proofs.HeldStepLemmas.{both, loose_good, loose_in}
 use Rattle.std.specs.contracts.boxed.Box.into_raw_with_allocator as callee
 use Rattle.std.proofs.boxed.Box.into_raw_with_allocator.Met.{met}
 use Rattle.etherparse_c.specs.contracts.loose.Loose.of.{ended, clauses}

@@ -1,6 +1,6 @@
 use Rattle.std.proofs.Common.{arith}
 use Rattle.std.proofs.lemmas.Grind.{common_steps}
-use Rattle.ep_link.proofs.MacsecReads.{encrypted_by}
+use Rattle.ep_link.proofs.MacsecReadLemmas.{encrypted_by}
 use Rattle.ep_link.proofs.link_ext.macsec_header_slice.MacsecHeaderSlice.ptype.Goals as goal
 
 pub returns-in_default : goal.returns-in_default

@@ -5,7 +5,7 @@ use Rattle.ep_base.proofs.TableLemmas.{one_value, refused_is_not}
 use Rattle.ep_base.specs.declared.err.macsec.HeaderSliceError.TheVariants as header_error
 use Rattle.ep_link.specs.Macsec.{IsMacsec, macsec_header_of, macsec_payload, macsec_payload_bytes}
 use Rattle.ep_link.specs.MacsecSlices.{macsec_payload_of}
-use Rattle.ep_link.proofs.MacsecReads.{IsWhole}
+use Rattle.ep_link.proofs.MacsecReadLemmas.{IsWhole}
 use Rattle.ep_link.proofs.MacsecLemmas.{EndsAt, cut_refused, macsec_is_read, payload_by_bytes, sliced_packet}
 use Rattle.ep_link.proofs.MacsecLemmas.{tag_refused}
 use Rattle.ep_link.proofs.link_ext.macsec_slice.MacsecSlice.from_slice.Goals as goal

@@ -6,7 +6,7 @@ use Rattle.std.proofs.lemmas.Bool.Decides.{nat_tests}
 use Rattle.ep_defrag.specs.declared.ip_frag_range.IpFragRange.{IpFragRange}
 use Rattle.ep_defrag.specs.Ranges.{has_byte, touches, merges, hull}
 use Rattle.ep_defrag.specs.Buffers.{sections_after}
-use Rattle.ep_defrag.proofs.Lists.{list_any-filter_both}
+use Rattle.ep_defrag.proofs.ListLemmas.{list_any-filter_both}
 
 -- the range's start is not behind its end
 abbrev pub IsOrdered : IpFragRange → Type 0

@@ -8,7 +8,7 @@ use Rattle.std.proofs.lemmas.Bool.Decides.{nat_tests}
 use Rattle.std.proofs.lemmas.List.Sums.{sum_by-cons}
 use Rattle.ep_defrag.specs.declared.ip_frag_range.IpFragRange.{IpFragRange}
 use Rattle.ep_defrag.specs.Ranges.{has_byte, touches, are_apart, AreApart}
-use Rattle.ep_defrag.proofs.Sections.{IsOrdered}
+use Rattle.ep_defrag.proofs.SectionLemmas.{IsOrdered}
 
 -- The ranges stand apart in order, and the first starts no earlier than a position.
 abbrev pub AreApartFrom : ℕ → List IpFragRange → Type 0

@@ -10,7 +10,7 @@ use Rattle.ep_base.specs.declared.err.ipv6_exts.HeaderSliceError.{HeaderSliceErr
 use Rattle.ep_base.specs.declared.err.ipv6_exts.HeaderSliceError.TheVariants as header_error
 use Rattle.ep_ext.specs.ExtensionParts.{ExtensionPart, part_len, part_next, auth_refusal}
 use Rattle.ep_ext.specs.Chains.{IpVersion, ipv4, ipv6, IsExtensionChain, RefusesExtensionChain, RefusesChainBehind, further_in, offset_of}
-use Rattle.ep_ext.proofs.HeaderLaws.{header_laws}
+use Rattle.ep_ext.proofs.HeaderLawLemmas.{header_laws}
 use Rattle.ep_ext.proofs.ChainLemmas.{chain_decided}
 use Rattle.ep_ext.proofs.PartLemmas.{part_lens}
 use Rattle.ep_ext.proofs.RefusalLemmas.{AtStart, part_at_start}

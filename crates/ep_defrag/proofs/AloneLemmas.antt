@@ -14,9 +14,9 @@ use Rattle.ep_defrag.specs.Cuts.{IsCut}
 use Rattle.ep_defrag.specs.Streams.{name_of, same_stream}
 use Rattle.ep_defrag.specs.Calls.{Call, gives_frame, drops_streams, returns_buffer, Kept, accepted_in, kept_of, kept_by, kept_with, kept_after, kept_after_all, concerns, calls_of, table_after, Answer, answer_unless, answer_with, answer_to, answers_after, answers_to, accepted_at, IfHandedOut}
 use Rattle.ep_defrag.specs.Isolation.{answers_of, fragments_of, GivesCut, HandsOut, HandsOutAtMost}
-use Rattle.ep_defrag.proofs.Streams.{same_stream_laws}
-use Rattle.ep_defrag.proofs.Cuts.{cut_fits_after, assembled-cuts}
-use Rattle.ep_defrag.proofs.Calls.{after_one_more}
+use Rattle.ep_defrag.proofs.StreamLemmas.{same_stream_laws}
+use Rattle.ep_defrag.proofs.CutLemmas.{cut_fits_after, assembled-cuts}
+use Rattle.ep_defrag.proofs.CallLemmas.{after_one_more}
 
 -- ---- what is handed out, where the fragments are cuts
 module _ (payload : List ℕ) where

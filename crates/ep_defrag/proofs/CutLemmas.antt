@@ -10,8 +10,8 @@ use Rattle.std.proofs.lemmas.List.FromFn.{fill_by_all}
 use Rattle.ep_defrag.specs.Fragments.{IpFragment, is_final, fragment_start, fragment_end, covers, is_covered, IsCovered, reach_of, end_of, byte_at, assembled, IsComplete}
 use Rattle.ep_defrag.specs.Refusals.{is_unaligned, conflicts_with, ends_too_early, FitsWithin}
 use Rattle.ep_defrag.specs.Cuts.{IsCut}
-use Rattle.ep_defrag.proofs.Lists.{list_all-range, each_of_range}
-use Rattle.ep_defrag.proofs.Data.{refusal_at-fits}
+use Rattle.ep_defrag.proofs.ListLemmas.{list_all-range, each_of_range}
+use Rattle.ep_defrag.proofs.DataLemmas.{refusal_at-fits}
 
 module _ (payload : List ℕ) where
   -- the end of cuts, where it is known, is that of the payload

@@ -11,7 +11,7 @@ use Rattle.ep_transport.specs.declared.tcp_option_element.TcpOptionElement.{TcpO
 use Rattle.ep_transport.specs.declared.tcp_option_element.TcpOptionElement.TheVariants.{Noop, MaximumSegmentSize, WindowScale, SelectiveAcknowledgementPermitted, SelectiveAcknowledgement, Timestamp}
 use Rattle.ep_transport.specs.declared.tcp_option_element.TcpOptionReadError.{TcpOptionReadError}
 use Rattle.ep_transport.specs.TcpOptionBytes.{Block, FitsBlocks, FitsOption, present, in_front, as_read, in_words, option_bytes, options_bytes, block_bytes, blocks_bytes, EndsOptions, IsOption, RefusesOption, AreItems}
-use Rattle.ep_transport.proofs.TcpOptionReads.{option_is_read}
+use Rattle.ep_transport.proofs.TcpOptionReadLemmas.{option_is_read}
 
 abbrev Item : Type 0
 Item = Result TcpOptionElement TcpOptionReadError

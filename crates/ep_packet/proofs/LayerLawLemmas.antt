@@ -14,7 +14,7 @@ use Rattle.ep_transport.proofs.TransportLemmas.{transport_bytes_are, transport_i
 use Rattle.ep_packet.specs.declared.entry.Entry.{Entry}
 use Rattle.ep_packet.specs.Frame.{IsFrame}
 use Rattle.ep_packet.specs.Refusals.{RefusesFrame}
-use Rattle.ep_packet.proofs.Deciders.{Deciders}
+use Rattle.ep_packet.proofs.DeciderLemmas.{Deciders}
 use Rattle.ep_packet.proofs.FrameLemmas.{frames_decided}
 
 -- what is known of each layer

@@ -12,9 +12,9 @@ use Rattle.ep_defrag.specs.declared.ip_defrag_pool.IpDefragPool.{IpDefragPool}
 use Rattle.ep_defrag.specs.Streams.{same_stream}
 use Rattle.ep_defrag.specs.Calls.{Kept, kept_by}
 use Rattle.ep_defrag.specs.Pools.{Stream, stream_at, limit_of, streams_of, stream_named, HoldsEntry, HoldsTable, ChangesStream, AnswersEach, LeavesAnswered, HoldsAnswered, IsAnsweredBy}
-use Rattle.ep_defrag.proofs.Lookups.{counted, find_none, count_filter, stays_if, find_filter}
-use Rattle.ep_defrag.proofs.Entries.{same_name}
-use Rattle.ep_defrag.proofs.Streams.{same_stream_laws}
+use Rattle.ep_defrag.proofs.LookupLemmas.{counted, find_none, count_filter, stays_if, find_filter}
+use Rattle.ep_defrag.proofs.EntryLemmas.{same_name}
+use Rattle.ep_defrag.proofs.StreamLemmas.{same_stream_laws}
 
 abbrev Table : Type 0 → Type 0 → Type 0
 Table T C = IpFragId C → Option (Kept T)

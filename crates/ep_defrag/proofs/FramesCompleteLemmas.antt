@@ -11,12 +11,12 @@ use Rattle.ep_defrag.specs.Buffers.{data_of}
 use Rattle.ep_defrag.specs.Streams.{same_stream}
 use Rattle.ep_defrag.specs.Calls.{Kept, accepted_in, payload_of, payload_handed_out, nothing_handed_out, answer_to_frame, table_with_frame}
 use Rattle.ep_defrag.specs.Pools.{Stream, HoldsEntry}
-use Rattle.ep_defrag.specs.Completing.{FillBoth, front_fragment, back_fragment, is_part, FragmentFrame, given_by, name_in, CarriesOf, HandsOutAll, FramesComplete}
-use Rattle.ep_defrag.proofs.Streams.{same_stream_laws}
-use Rattle.ep_defrag.proofs.OneFragment.{kept_more, answer_complete, answer_nothing}
-use Rattle.ep_defrag.proofs.Completing.{reach_short, two_complete, parts_short}
-use Rattle.ep_defrag.proofs.Held.{data_len}
-use Rattle.ep_defrag.proofs.Carrying.{carrying}
+use Rattle.ep_defrag.specs.Completing.{FillBoth, front_fragment, back_fragment, is_part, CarryingFrame, given_by, name_in, CarriesOf, HandsOutAll, FramesComplete}
+use Rattle.ep_defrag.proofs.StreamLemmas.{same_stream_laws}
+use Rattle.ep_defrag.proofs.OneFragmentLemmas.{kept_more, answer_complete, answer_nothing}
+use Rattle.ep_defrag.proofs.CompletingLemmas.{reach_short, two_complete, parts_short}
+use Rattle.ep_defrag.proofs.HeldLemmas.{data_len}
+use Rattle.ep_defrag.proofs.CarryingLemmas.{carrying}
 
 -- what a pool keeps of a stream fits in turn, within the limit of a buffer too
 pub entry_in_turn : {T C : Type 0} (limit : ℕ) (stream : Option (Stream T C)) (kept : Option (Kept T))
@@ -34,11 +34,11 @@ entry_data limit (Some stream) None held = absurd held
 entry_data limit (Some stream) (Some kept) held =
     omega (arith, data_len stream.buffer kept.accepted held.buffer, reach_short limit kept.accepted held.within)
 
-module _ {T C : Type 0} (limit : ℕ) (eq : C → C → Bool) (laws : IsEquivalence eq) (seen : FragmentFrame) (channel : C)
+module _ {T C : Type 0} (limit : ℕ) (eq : C → C → Bool) (laws : IsEquivalence eq) (seen : CarryingFrame) (channel : C)
   where
     -- the table has this of the stream
     module _ (table : IpFragId C → Option (Kept T)) (kept : Option (Kept T)) (has : table (name_in seen channel) ≡ kept)
-        (wanted : IpFragment) (frame : FragmentFrame) (is : CarriesOf seen wanted frame) where
+        (wanted : IpFragment) (frame : CarryingFrame) (is : CarriesOf seen wanted frame) where
       hands_out : FitsWithin limit (accepted_in kept) wanted → is_complete (accepted_in kept ++ wanted ∷ []) ≡ true
           → HandsOutAll limit table frame channel (accepted_in kept ++ wanted ∷ [])
       hands_out fits whole =

@@ -21,8 +21,8 @@ use Rattle.ep_defrag.specs.Streams.{packet_fragment}
 use Rattle.ep_defrag.specs.Cuts.{IsCut}
 use Rattle.ep_defrag.specs.Calls.{Call, gives_frame, drops_streams, returns_buffer, table_after, answers_after, answer_to, accepted_at}
 use Rattle.ep_defrag.specs.FrameCalls.{ReadCall, calls_pool, refuses_frame, IsReadAs, IsOnlyRead, HasBytes, AreReadAs, pool_calls, ReadAnswer, not_sliced, pool_answers, read_answer_to, frame_answers_after, frame_answers_to, pool_answers_in, IfPoolHandsOut, read_answer, table_with_read}
-use Rattle.ep_defrag.proofs.Calls.{table_after-push}
-use Rattle.ep_defrag.proofs.Alone.{handed_at}
+use Rattle.ep_defrag.proofs.CallLemmas.{table_after-push}
+use Rattle.ep_defrag.proofs.AloneLemmas.{handed_at}
 
 module _ {T C V : Type 0} (entry : Entry) (bytes : Bor (List ℕ)) (timestamp : T) (channel : C)
     (decided : IsDecided (IsFrame entry bytes.now) (RefusesFrame entry bytes.now)) where

@@ -28,9 +28,9 @@ use Rattle.ep_defrag.specs.Cuts.{IsCut}
 use Rattle.ep_defrag.specs.Streams.{PacketFragment, name_of, packet_fragment, same_stream, same_version, source_of}
 use Rattle.ep_defrag.specs.Calls.{Call, gives_frame, drops_streams, returns_buffer, Kept, accepted_in, kept_of, kept_unless, table_after, Payload, payload_of, payload_handed_out, nothing_handed_out, Answer, answer_unless, answer_to, answers_after}
 use Rattle.ep_defrag.specs.BuiltCuts.{BuiltCut, IsBuiltCut, IsUnder, KeepsAll, answers_to_frames, cut_answers, cut_call, cut_fragment, cut_frame, frames_to, gives_to, whole_of}
-use Rattle.ep_defrag.proofs.Cuts.{cut_fits_after, assembled-cuts}
-use Rattle.ep_defrag.proofs.Calls.{after_one_more}
-use Rattle.ep_defrag.proofs.Alone.{answer_alone, all_more, kept_cuts, drop_keeps}
+use Rattle.ep_defrag.proofs.CutLemmas.{cut_fits_after, assembled-cuts}
+use Rattle.ep_defrag.proofs.CallLemmas.{after_one_more}
+use Rattle.ep_defrag.proofs.AloneLemmas.{answer_alone, all_more, kept_cuts, drop_keeps}
 
 -- ---- what is handed out has the number and the source of the name
 

@@ -12,9 +12,9 @@ use Rattle.ep_defrag.specs.Refusals.{FitInTurnWithin}
 use Rattle.ep_defrag.specs.Buffers.{HoldsFragments, sections_of}
 use Rattle.ep_defrag.specs.Calls.{Kept}
 use Rattle.ep_defrag.specs.Pools.{Stream, HoldsEntry}
-use Rattle.ep_defrag.proofs.Apart.{AreApartFrom, from_apart, none_before, has_byte_at, touches_start}
-use Rattle.ep_defrag.proofs.Complete.{touched_to_reach}
-use Rattle.ep_defrag.proofs.Completing.{reach_short}
+use Rattle.ep_defrag.proofs.ApartLemmas.{AreApartFrom, from_apart, none_before, has_byte_at, touches_start}
+use Rattle.ep_defrag.proofs.CompleteLemmas.{touched_to_reach}
+use Rattle.ep_defrag.proofs.CompletingLemmas.{reach_short}
 
 -- where fragments touch a position, and have no byte before it, one starts there
 unit_behind : (fragments : List IpFragment) (before : ℕ) → is_touched fragments (suc before) ≡ true

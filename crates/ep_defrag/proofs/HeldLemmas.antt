@@ -12,10 +12,10 @@ use Rattle.ep_defrag.specs.Ranges.{has_byte, touches, merges}
 use Rattle.ep_defrag.specs.Fragments.{IpFragment, fragment_end, range_of, covers, reach_of, end_of, IsComplete}
 use Rattle.ep_defrag.specs.Refusals.{Fits, IsInPlace}
 use Rattle.ep_defrag.specs.Buffers.{HoldsFragments, data_of, sections_of, known_end_of, data_after, end_after, sections_after, is_whole}
-use Rattle.ep_defrag.proofs.Sections.{IsOrdered, merges-from_point, touches-hull, has_byte-hull, test-sections_after}
-use Rattle.ep_defrag.proofs.Apart.{from_apart, ordered_from, at_most_one}
-use Rattle.ep_defrag.proofs.Data.{FitAfter-push, FitsAt, fits_at, agrees_with, end_is_greatest, length-assembled, assembled-push, is_covered-push, is_touched-push, end_of-push, own_end}
-use Rattle.ep_defrag.proofs.Complete.{complete_by_sections}
+use Rattle.ep_defrag.proofs.SectionLemmas.{IsOrdered, merges-from_point, touches-hull, has_byte-hull, test-sections_after}
+use Rattle.ep_defrag.proofs.ApartLemmas.{from_apart, ordered_from, at_most_one}
+use Rattle.ep_defrag.proofs.DataLemmas.{FitAfter-push, FitsAt, fits_at, agrees_with, end_is_greatest, length-assembled, assembled-push, is_covered-push, is_touched-push, end_of-push, own_end}
+use Rattle.ep_defrag.proofs.CompleteLemmas.{complete_by_sections}
 
 -- a buffer that shows the same holds the same
 pub HoldsFragments-same : (a b : IpDefragBuf) (fragments : List IpFragment) → HoldsFragments a fragments

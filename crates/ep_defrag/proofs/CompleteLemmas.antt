@@ -9,9 +9,9 @@ use Rattle.ep_defrag.specs.declared.ip_frag_range.IpFragRange.{IpFragRange}
 use Rattle.ep_defrag.specs.Ranges.{has_byte, touches}
 use Rattle.ep_defrag.specs.Fragments.{IpFragment, fragment_start, fragment_end, range_of, is_covered, is_touched, reach_of, end_of, IsComplete}
 use Rattle.ep_defrag.specs.Buffers.{is_whole}
-use Rattle.ep_defrag.proofs.Lists.{list_all-range, each_of_range, count_by-positive}
-use Rattle.ep_defrag.proofs.Sections.{IsOrdered}
-use Rattle.ep_defrag.proofs.Data.{EndIsGreatest}
+use Rattle.ep_defrag.proofs.ListLemmas.{list_all-range, each_of_range, count_by-positive}
+use Rattle.ep_defrag.proofs.SectionLemmas.{IsOrdered}
+use Rattle.ep_defrag.proofs.DataLemmas.{EndIsGreatest}
 
 -- ---- what a list of fragments touches
 -- nothing behind its greatest end

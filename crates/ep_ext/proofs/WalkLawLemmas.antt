@@ -11,7 +11,7 @@ use Rattle.ep_ext.specs.Ipv6Chains.{no_ipv6_extensions, extensions_of, with_part
 use Rattle.ep_ext.specs.Walks.{marked}
 use Rattle.ep_ext.proofs.WalkLemmas.{IsMarked, marked_none, mark_more, fewer_after, found_kind, one_walk, one_walk_refusal, walks_not_refused}
 use Rattle.ep_ext.proofs.LinkLemmas.{linked_walk}
-use Rattle.ep_ext.proofs.WalkMarks.{no_marks, marks_left}
+use Rattle.ep_ext.proofs.WalkMarkLemmas.{no_marks, marks_left}
 
 option_cases : {A : Type 0} (answer : Option A) → (answer ≡ None) ⊎ ((some : A) × (answer ≡ Some some))
 option_cases None = inl refl

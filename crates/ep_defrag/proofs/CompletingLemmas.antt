@@ -8,8 +8,8 @@ use Rattle.std.proofs.lemmas.List.{append-nil}
 use Rattle.ep_defrag.specs.Fragments.{IpFragment, fragment_with, fragment_end, covers, is_covered, reach_of, end_of, is_complete, IsComplete}
 use Rattle.ep_defrag.specs.Refusals.{end_row, FitsWithin, FitAfterWithin, FitInTurnWithin, is_unaligned}
 use Rattle.ep_defrag.specs.Completing.{whole_end, meeting_at, FillBoth, front_fragment, back_fragment, is_part, CompleteInTurn}
-use Rattle.ep_defrag.proofs.Lists.{list_all-range}
-use Rattle.ep_defrag.proofs.Data.{reach_of-push, end_of-push, is_covered-push, own_end, FitsAt, fits_at, refusal_at-fits, extent_of, EndIsGreatest, end_is_greatest}
+use Rattle.ep_defrag.proofs.ListLemmas.{list_all-range}
+use Rattle.ep_defrag.proofs.DataLemmas.{reach_of-push, end_of-push, is_covered-push, own_end, FitsAt, fits_at, refusal_at-fits, extent_of, EndIsGreatest, end_is_greatest}
 
 -- ---- how far a list reaches
 reach_after : (limit : ℕ) (earlier later : List IpFragment) → reach_of earlier ≤ limit

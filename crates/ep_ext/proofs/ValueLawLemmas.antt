@@ -17,7 +17,7 @@ use Rattle.ep_ext.specs.Chains.{ipv6, ExtensionChain, takes, demand_of, is_taken
 use Rattle.ep_ext.specs.Ipv6Chains.{no_ipv6_extensions, extensions_of, with_part, with_parts, with_destination, has_kind, has_destination, ipv6_parts, routing_header, final_by}
 use Rattle.ep_ext.proofs.PartLemmas.{part_numbered, auth_len}
 use Rattle.ep_ext.proofs.ValueLemmas.{HasTaken, none_taken, taken_more, value_of, value_len}
-use Rattle.ep_ext.proofs.ChainBytes.{chain_len}
+use Rattle.ep_ext.proofs.ChainBytesLemmas.{chain_len}
 
 -- what is taken was not taken before
 takes_untaken : (taken : List ℕ) (number : ℕ) → demand_of ipv6 headers taken number ≡ takes

@@ -4,7 +4,7 @@ use Rattle.std.proofs.lemmas.Bool.{cases_lt}
 use Rattle.std.proofs.Math.Seq.{take-append-add, drop-append_seam}
 use Rattle.std.proofs.lemmas.List.{append-nil, take-append-drop, take-append-le, drop_all, take_all, take-replicate, length-take-le}
 use Rattle.ep_defrag.specs.Buffers.{extended, overwritten}
-use Rattle.ep_defrag.proofs.Data.{length-extended}
+use Rattle.ep_defrag.proofs.DataLemmas.{length-extended}
 
 -- data that reaches as far is not extended
 extended-within : (contents : List ℕ) (end : ℕ) → end ≤ length contents → extended contents end ≡ contents

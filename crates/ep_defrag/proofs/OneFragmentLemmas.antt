@@ -11,8 +11,8 @@ use Rattle.ep_defrag.specs.Buffers.{HoldsFragments, ip_number_of, data_of}
 use Rattle.ep_defrag.specs.Streams.{source_of}
 use Rattle.ep_defrag.specs.Calls.{Kept, accepted_in, kept_with, answer_with, Payload, payload_of, fragment_refused, payload_handed_out, nothing_handed_out}
 use Rattle.ep_defrag.specs.Pools.{Stream, HoldsEntry, BufferTakes, IsWhole}
-use Rattle.ep_defrag.proofs.Data.{FitAfter-push}
-use Rattle.ep_defrag.proofs.Runs.{no_memory}
+use Rattle.ep_defrag.proofs.DataLemmas.{FitAfter-push}
+use Rattle.ep_defrag.proofs.RunLemmas.{no_memory}
 
 -- what a test that is exact answers
 pub false_from : (r b : Bool) → ((r ≡ true) ↔ (b ≡ true)) → r ≡ false → b ≡ false

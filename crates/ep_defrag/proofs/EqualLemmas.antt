@@ -7,7 +7,7 @@ use Rattle.ep_defrag.specs.declared.ip_defrag_buf.IpDefragBuf.{IpDefragBuf}
 use Rattle.ep_defrag.specs.Ranges.{has_byte, touches}
 use Rattle.ep_defrag.specs.Fragments.{IpFragment, range_of, covers, is_covered, is_touched, FillAlike, TouchAlike}
 use Rattle.ep_defrag.specs.Buffers.{HoldsFragments, IsUnchanged, ip_number_of, sections_of}
-use Rattle.ep_defrag.proofs.Apart.{from_apart, same_from_positions}
+use Rattle.ep_defrag.proofs.ApartLemmas.{from_apart, same_from_positions}
 
 -- buffers that show the same hold lists that fill and touch alike
 pub alike_from_same : (a b : IpDefragBuf) (fragments others : List IpFragment) → HoldsFragments a fragments

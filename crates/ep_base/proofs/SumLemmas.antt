@@ -5,8 +5,8 @@ use Rattle.std.proofs.lemmas.List.Elements.{All-nil, All-cons, All-head, All-tai
 use Rattle.std.specs.Int.{w16, w32, w64, from_be_bytes, to_be_bytes}
 use Rattle.std.specs.List.{All}
 use Rattle.ep_base.specs.Checksum.{word_sum, residue, ones_sum, ones_add, checksum_of}
-use Rattle.ep_base.proofs.Residue.{residue_unique, residue_part, residue_last, residue_beside}
-use Rattle.ep_base.proofs.Residue.{residue_split, residue_le, residue_zero}
+use Rattle.ep_base.proofs.ResidueLemmas.{residue_unique, residue_part, residue_last, residue_beside}
+use Rattle.ep_base.proofs.ResidueLemmas.{residue_split, residue_le, residue_zero}
 
 -- the words of a concatenation, where the first part ends at a word's end
 pub word_sum-append : (a b : List ℕ) → length a % 2 ≡ 0 → word_sum (a ++ b) ≡ word_sum a + word_sum b

@@ -38,7 +38,7 @@ use Rattle.ep_packet.specs.Layers.{Layers, NetLayer, ipv4_layer, ipv6_layer, ip_
 use Rattle.ep_packet.specs.VlanTags.{vlan_ids_in}
 use Rattle.ep_transport.specs.TransportParts.{TransportLayer}
 use Rattle.ep_defrag.specs.Fragments.{IpFragment}
-use Rattle.ep_defrag.specs.Completing.{FragmentFrame, is_part, CarriesOf}
+use Rattle.ep_defrag.specs.Completing.{CarryingFrame, is_part, CarriesOf}
 
 -- ---- what the name of a stream says, of which a frame carries a fragment
 
@@ -232,7 +232,7 @@ record IsNamed (found : FrameFragment) : Type 0 where
   pub fit : FitIds found.vlan_ids
   pub id : FitsId found.id found.payload_number
 
-named : (seen : FragmentFrame) → IsNamed seen.found
+named : (seen : CarryingFrame) → IsNamed seen.found
 named seen =
     let layers = seen.layers in
     let within = frame_inner seen.entry seen.bytes layers seen.is in
@@ -347,7 +347,7 @@ inside_tags (id ∷ ids) (suc room) type payload net transport few fit fits no_t
 frame_of : (ids : List ℕ) (type : ℕ) (packet : List ℕ) (layer : NetLayer) (found : FrameFragment)
     → length ids ≤ 3 → FitIds ids → type < 2 ^ 16 → (¬ BeginsLinkExtension (type_of type)) → AreBytes packet
     → IsNetPart slices (net_kind (type_of type)) packet (Some layer) None → net_fragment ids layer ≡ Some found
-    → (frame : FragmentFrame) × (frame.found ≡ found)
+    → (frame : CarryingFrame) × (frame.found ≡ found)
 frame_of ids type packet layer found few fit fits no_tag bytes part carries =
     let whole = tags_bytes ids type ++ packet in
     let before = type_of (type_before ids type) in (
@@ -536,7 +536,7 @@ module _ (ids : List ℕ) (number offset : ℕ) (follow : Bool) (bytes : List �
       bytes4 : AllBytes (ipv4_bytes header4 ++ inner4.content)
       bytes4 = both (ipv4_bytes header4) inner4.content header4_bytes.fits (all inner4.content inner4.all_bytes)
 
-      frame4 : (frame : FragmentFrame) × (frame.found ≡ found_of (ipv4_id sender receiver identification))
+      frame4 : (frame : CarryingFrame) × (frame.found ≡ found_of (ipv4_id sender receiver identification))
       frame4 =
           frame_of ids ipv4_type (ipv4_bytes header4 ++ inner4.content) (ipv4_layer packet4)
           (found_of (ipv4_id sender receiver identification)) few fit (omega arith) (λ begins. no_extension4 begins)
@@ -649,7 +649,7 @@ module _ (ids : List ℕ) (number offset : ℕ) (follow : Bool) (bytes : List �
       bytes6 : AllBytes (ipv6_bytes header6 ++ content6)
       bytes6 = both (ipv6_bytes header6) content6 header6_bytes.fits content6_bytes
 
-      frame6 : (frame : FragmentFrame) × (frame.found ≡ found_of (ipv6_id sender receiver identification))
+      frame6 : (frame : CarryingFrame) × (frame.found ≡ found_of (ipv6_id sender receiver identification))
       frame6 =
           frame_of ids ipv6_type (ipv6_bytes header6 ++ content6) (ipv6_layer packet6)
           (found_of (ipv6_id sender receiver identification)) few fit (omega arith) (λ begins. no_extension6 begins)
@@ -657,7 +657,7 @@ module _ (ids : List ℕ) (number offset : ℕ) (follow : Bool) (bytes : List �
           (ipv6_layer packet6, (packet6, is6, refl), refl, inl refl)
           (rw part refl)
 
-    frame_by : (id : FragmentId) → FitsId id number → (frame : FragmentFrame) × (frame.found ≡ found_of id)
+    frame_by : (id : FragmentId) → FitsId id number → (frame : CarryingFrame) × (frame.found ≡ found_of id)
     frame_by (ipv4_id sender receiver identification) fits =
         frame4 sender receiver identification fits.0 fits.1 fits.2 fits.3 fits.4
     frame_by (ipv6_id sender receiver identification) fits =
@@ -668,9 +668,9 @@ number_of (ipv4_id sender receiver identification) number fits = fits.5
 number_of (ipv6_id sender receiver identification) number fits = fits.5
 
 -- of the stream of a frame there is one for each fragment that a frame has room for
-pub carrying : (seen : FragmentFrame) (wanted : IpFragment) → wanted.offset < 2 ^ 13
+pub carrying : (seen : CarryingFrame) (wanted : IpFragment) → wanted.offset < 2 ^ 13
     → length wanted.bytes ≤ 32768 → AreBytes wanted.bytes → is_part wanted ≡ true
-    → (frame : FragmentFrame) × CarriesOf seen wanted frame
+    → (frame : CarryingFrame) × CarriesOf seen wanted frame
 carrying seen wanted offset_fits short are_bytes part =
     let found = seen.found in
     let name = named seen in

@@ -12,7 +12,7 @@ use Rattle.ep_ext.specs.RawExtension.{raw_extension_len}
 use Rattle.ep_ext.specs.Chains.{is_first, is_taken, parts_bytes}
 use Rattle.ep_ext.specs.Ipv6Chains.{no_ipv6_extensions, extensions_of, with_part, with_parts, with_destination, ipv6_parts, routing_header, final_by, header_for, IsWalkBehind, is_left, missing_number, WalksAll}
 use Rattle.ep_ext.proofs.ValueLemmas.{HasTaken, none_taken, taken_more, value_len}
-use Rattle.ep_ext.proofs.ValueLaws.{total, longer}
+use Rattle.ep_ext.proofs.ValueLawLemmas.{total, longer}
 use Rattle.ep_ext.proofs.WalkLemmas.{found_kind, untaken, one_of}
 use Rattle.ep_ext.proofs.LinkLemmas.{no_row}
 

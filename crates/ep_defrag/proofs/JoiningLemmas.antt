@@ -11,9 +11,9 @@ use Rattle.std.proofs.lemmas.List.Sorted.{IsPermutation-middle}
 use Rattle.ep_defrag.specs.declared.ip_frag_range.IpFragRange.{IpFragRange}
 use Rattle.ep_defrag.specs.Ranges.{merges, hull, AreApart}
 use Rattle.ep_defrag.specs.Buffers.{sections_after, AreNeighbours}
-use Rattle.ep_defrag.proofs.Lists.{none_from_filter}
-use Rattle.ep_defrag.proofs.Sections.{IsOrdered}
-use Rattle.ep_defrag.proofs.Apart.{AreApartFrom, from_apart, to_apart, ordered_from, from_at, raised, least_behind, least_behind-le, apart_parts, apart_append}
+use Rattle.ep_defrag.proofs.ListLemmas.{none_from_filter}
+use Rattle.ep_defrag.proofs.SectionLemmas.{IsOrdered}
+use Rattle.ep_defrag.proofs.ApartLemmas.{AreApartFrom, from_apart, to_apart, ordered_from, from_at, raised, least_behind, least_behind-le, apart_parts, apart_append}
 
 -- ---- a fact of places, of a part
 module _ {X : Type 0} (P : X → Type 0) (xs : List X) where

@@ -17,7 +17,7 @@ use Rattle.ep_ip.specs.declared.ipv6_header.Ipv6Header.{Ipv6Header}
 use Rattle.ep_ip.specs.Ipv4.{ipv4_header_len, ipv4_packet_rows}
 use Rattle.ep_ip.specs.Ipv6.{ipv6_bytes, ipv6_packet_rows}
 use Rattle.ep_ip.specs.IpPackets.{RefusesIpv4, RefusesIpv6, ipv4_chain_refusal, ipv6_chain_refusal}
-use Rattle.ep_ip.proofs.ExtensionLaws.{refused_within}
+use Rattle.ep_ip.proofs.ExtensionLawLemmas.{refused_within}
 use Rattle.ep_ip.proofs.IpBytesLemmas.{encoded_len, ipv6_len}
 
 -- where the layer starts that a refusal of IPv4 names

@@ -14,8 +14,8 @@ use Rattle.ep_defrag.specs.declared.ip_defrag_pool.OpenStream.{OpenStream}
 use Rattle.ep_defrag.specs.declared.ip_defrag_pool.IpDefragPool.{IpDefragPool}
 use Rattle.ep_defrag.specs.Streams.{same_stream}
 use Rattle.ep_defrag.specs.Pools.{Stream, stream_at, streams_of, stream_named, NamesDiffer, ChangesStream}
-use Rattle.ep_defrag.proofs.Lookups.{counted, find_permuted}
-use Rattle.ep_defrag.proofs.Streams.{same_stream_laws}
+use Rattle.ep_defrag.proofs.LookupLemmas.{counted, find_permuted}
+use Rattle.ep_defrag.proofs.StreamLemmas.{same_stream_laws}
 
 module _ {C : Type 0} (eq : C → C → Bool) (laws : IsEquivalence eq) where
   -- a name tests an entry as the entry's name tests it
