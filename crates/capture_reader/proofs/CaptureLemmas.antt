@@ -1,18 +1,31 @@
 -- Whole captures: their items are read one behind the other, in one way.
-use Rattle.std.proofs.Common.{◌≡◌, ℕ, zero, suc, ◌+◌, ◌<◌, ◌⊎◌, Bool, true, false, List, [], ◌∷◌, ◌++◌}
-use Rattle.std.proofs.Common.{Option, Some, None, length, refl, sym, ap, subst, ◌∙◌, inl, inr}
+use Rattle.std.proofs.Common.{◌≡◌, ℕ, zero, suc, ◌+◌, ◌-◌, ◌<◌, ◌==◌, ◌⊎◌, Bool, true, false, not, nat_le, nat_lt}
+use Rattle.std.proofs.Common.{if◌then◌else◌, is_some, List, [], ◌∷◌, ◌++◌, Option, Some, None, length, slice_range}
+use Rattle.std.proofs.Common.{refl, sym, ap, subst, ◌∙◌, inl, inr}
 use Rattle.std.proofs.Common.{append_assoc, length-append, arith}
+use Rattle.std.proofs.lemmas.Bool.{and_from, and_parts, cases_Bool, eq-eqb, eqb-true, le-leb, true≢false}
 use Rattle.std.proofs.lemmas.List.{append-nil}
 use Rattle.std.proofs.lemmas.Option.{none-some}
 use Rattle.ep_base.specs.Bytes.{AreBytes}
 use Rattle.ep_base.specs.Tables.{IsDecided, first_row}
 use Rattle.ep_base.proofs.BytesLemmas.{AreBytes-back}
 use Rattle.ep_base.proofs.TableLemmas.{IsReadBy, one_value}
-use Rattle.capture_reader.specs.Captures.{Item, heading, packet, Stage, at_start, in_records, AreItems, Fits}
-use Rattle.capture_reader.specs.Captures.{IsCapture, RefusesCapture, item_bytes, item_rows, items_bytes}
-use Rattle.capture_reader.specs.Captures.{may_end, stage_after, stage_behind}
+use Rattle.capture_reader.specs.Blocks.{IsBlock, PlainBlock, block_in, block_of, block_rows, kind_in, kind_of}
+use Rattle.capture_reader.specs.Blocks.{no_section, order_in}
+use Rattle.capture_reader.specs.Captures.{Item, heading, packet, block, Stage, at_start, in_records, in_section}
+use Rattle.capture_reader.specs.Captures.{AreItems, BeginsSection, Fits, IsCapture, RefusesCapture, begins_section}
+use Rattle.capture_reader.specs.Captures.{item_bytes, item_rows, items_bytes, may_end, stage_after, stage_behind}
+use Rattle.capture_reader.specs.Classic.{heading_rows, style_in, style_of}
+use Rattle.capture_reader.specs.Numbers.{word32_at}
+use Rattle.capture_reader.specs.declared.block.BlockKind.{BlockKind}
+use Rattle.capture_reader.specs.declared.block.BlockKind.TheVariants.{SectionHeader}
+use Rattle.capture_reader.specs.declared.byte_order.ByteOrder.{ByteOrder}
+use Rattle.capture_reader.specs.declared.byte_order.ByteOrder.TheVariants.{Big}
+use Rattle.capture_reader.specs.declared.interface.Interface.{Interface}
 use Rattle.capture_reader.specs.declared.refusal.CaptureError.{CaptureError}
 use Rattle.capture_reader.specs.declared.refusal.Refusal.{Refusal}
+use Rattle.capture_reader.proofs.BlockLemmas.{block_is_read_by, block_read, block_some, number_of_block, section_block}
+use Rattle.capture_reader.proofs.BodyLemmas.{row_none}
 use Rattle.capture_reader.proofs.ClassicLemmas.{heading_is_read_by, heading_read, record_is_read_by, record_read}
 use Rattle.capture_reader.proofs.NumberLemmas.{length-word32}
 
@@ -23,29 +36,107 @@ pub record IsStep (stage : Stage) (bytes : List ℕ) (step : Item × List ℕ) :
   pub fits : Fits stage step.0
   pub parts : bytes ≡ item_bytes stage step.0 ++ step.1
 
+-- the rows in front of which nothing stands, where a section begins and where none does
+abbrev pub start_rows : Bool → List ℕ → List (Bool × Refusal)
+start_rows begins bytes = if begins then block_rows no_section bytes else heading_rows bytes
+
+-- what is read there
+abbrev start_read : Bool → List ℕ → Item × List ℕ
+start_read true bytes = (block (block_read no_section bytes).0, (block_read no_section bytes).1)
+start_read false bytes = (heading (heading_read bytes).0, (heading_read bytes).1)
+
 -- the item that is read, and what stands behind it
 abbrev pub step_read : Stage → List ℕ → Item × List ℕ
-step_read at_start bytes = (heading (heading_read bytes).0, (heading_read bytes).1)
+step_read at_start bytes = start_read (begins_section bytes) bytes
 step_read (in_records first) bytes = (packet (record_read first.order bytes).0, (record_read first.order bytes).1)
+step_read (in_section section) bytes = (block (block_read section bytes).0, (block_read section bytes).1)
+
+-- the block that is read where a section begins is its header
+begins_with : (interfaces : List Interface) (order : ByteOrder) (kind : BlockKind) (number : ℕ) (body : List ℕ)
+    → kind ≡ SectionHeader → BeginsSection (block_of interfaces order kind number body)
+begins_with interfaces order kind number body is =
+    subst (λ k. BeginsSection (block_of interfaces order k number body)) (sym is) tt
+
+pub begins_header : (bytes : List ℕ) → begins_section bytes ≡ true → BeginsSection (block_in no_section bytes)
+begins_header bytes begins =
+    let is : word32_at Big bytes 0 ≡ 0x0a0d0d0a =
+    eqb-true (word32_at Big bytes 0) 0x0a0d0d0a
+    (and_parts (nat_le 4 (length bytes)) (word32_at Big bytes 0 == 0x0a0d0d0a) begins).1 in
+    begins_with [] (order_in Big bytes) (kind_in Big bytes) (word32_at Big bytes 0)
+    (slice_range bytes 8 (word32_at (order_in Big bytes) bytes 4 - 4)) (ap kind_of is)
+
+-- a section's header begins so
+header_begins : (bytes : List ℕ) (one : PlainBlock) (rest : List ℕ) → BeginsSection one
+    → IsBlock no_section bytes (one, rest) → begins_section bytes ≡ true
+header_begins bytes one rest begins is =
+    let found = number_of_block no_section one bytes rest is in
+    let number : word32_at Big bytes 0 ≡ 0x0a0d0d0a = found.0 ∙ section_block one begins in
+    and_from (nat_le 4 (length bytes)) (word32_at Big bytes 0 == 0x0a0d0d0a) (le-leb 4 (length bytes) (omega (arith, found.1)))
+    (eq-eqb (word32_at Big bytes 0) 0x0a0d0d0a number)
+
+-- where a section begins, no heading stands
+no_heading : (bytes : List ℕ) → first_row (heading_rows bytes) ≡ None → begins_section bytes ≡ false
+no_heading bytes none =
+    elim (cases_Bool (begins_section bytes)) [
+      | inr not_so ↦ not_so
+      | inl begins ↦
+          let is : word32_at Big bytes 0 ≡ 0x0a0d0d0a =
+          eqb-true (word32_at Big bytes 0) 0x0a0d0d0a
+          (and_parts (nat_le 4 (length bytes)) (word32_at Big bytes 0 == 0x0a0d0d0a) begins).1 in
+          let few = row_none (nat_lt (length bytes) 4) _ _ none in
+          let known = row_none (not (is_some (style_in bytes))) _ _ few.1 in
+          let unknown : not (is_some (style_in bytes)) ≡ true = ap (λ (n : ℕ). not (is_some (style_of n))) is in
+          absurd (true≢false (sym unknown ∙ known.0))
+    ]
+
+start_reads : (begins : Bool) (bytes : List ℕ) → AreBytes bytes → begins_section bytes ≡ begins
+    → first_row (start_rows begins bytes) ≡ None → IsStep at_start bytes (start_read begins bytes)
+start_reads true bytes fits begins none =
+    let is = (block_is_read_by no_section).reads bytes fits none in
+    record { fits = (begins_header bytes begins, is.fits); parts = is.parts }
+start_reads false bytes fits begins none =
+    let is = heading_is_read_by.reads bytes fits none in record { fits = is.fits; parts = is.parts }
 
 step_reads : (stage : Stage) (bytes : List ℕ) → AreBytes bytes → first_row (item_rows stage bytes) ≡ None
     → IsStep stage bytes (step_read stage bytes)
-step_reads at_start bytes fits none =
-    let is = heading_is_read_by.reads bytes fits none in record { fits = is.fits; parts = is.parts }
+step_reads at_start bytes fits none = start_reads (begins_section bytes) bytes fits refl none
 step_reads (in_records first) bytes fits none =
     let is = (record_is_read_by first.order).reads bytes fits none in record { fits = is.fits; parts = is.parts }
+step_reads (in_section section) bytes fits none =
+    let is = (block_is_read_by section).reads bytes fits none in record { fits = is.fits; parts = is.parts }
 
 step_is_read : (stage : Stage) (bytes : List ℕ) (step : Item × List ℕ) → IsStep stage bytes step
     → (first_row (item_rows stage bytes) ≡ None) × (step ≡ step_read stage bytes)
 step_is_read at_start bytes (heading first, rest) is =
     let read = heading_is_read_by.is_read bytes (first, rest) (record { fits = is.fits; parts = is.parts }) in
-    (read.0, λ i. (heading (read.1 i).0, (read.1 i).1))
+    let begins = no_heading bytes read.0 in
+    let step : Item × List ℕ = (heading first, rest) in
+    let same : step ≡ start_read false bytes = λ i. (heading (read.1 i).0, (read.1 i).1) in (
+      ap (λ (b : Bool). first_row (start_rows b bytes)) begins ∙ read.0,
+      same ∙ ap (λ (b : Bool). start_read b bytes) (sym begins),
+    )
 step_is_read at_start bytes (packet one, rest) is = absurd is.fits
+step_is_read at_start bytes (block one, rest) is =
+    let is_block : IsBlock no_section bytes (one, rest) = record { fits = is.fits.1; parts = is.parts } in
+    let read = (block_is_read_by no_section).is_read bytes (one, rest) is_block in
+    let begins = header_begins bytes one rest is.fits.0 is_block in
+    let step : Item × List ℕ = (block one, rest) in
+    let same : step ≡ start_read true bytes = λ i. (block (read.1 i).0, (read.1 i).1) in (
+      ap (λ (b : Bool). first_row (start_rows b bytes)) begins ∙ read.0,
+      same ∙ ap (λ (b : Bool). start_read b bytes) (sym begins),
+    )
 step_is_read (in_records first) bytes (heading other, rest) is = absurd is.fits
 step_is_read (in_records first) bytes (packet one, rest) is =
     let read =
     (record_is_read_by first.order).is_read bytes (one, rest) (record { fits = is.fits; parts = is.parts }) in
     (read.0, λ i. (packet (read.1 i).0, (read.1 i).1))
+step_is_read (in_records first) bytes (block one, rest) is = absurd is.fits
+step_is_read (in_section section) bytes (heading other, rest) is = absurd is.fits
+step_is_read (in_section section) bytes (packet one, rest) is = absurd is.fits
+step_is_read (in_section section) bytes (block one, rest) is =
+    let read =
+    (block_is_read_by section).is_read bytes (one, rest) (record { fits = is.fits; parts = is.parts }) in
+    (read.0, λ i. (block (read.1 i).0, (read.1 i).1))
 
 -- an item is decided
 pub step_is_read_by : (stage : Stage) → IsReadBy (IsStep stage) (item_rows stage) (step_read stage)
@@ -56,7 +147,12 @@ pub item_some : (stage : Stage) (item : Item) → Fits stage item → 0 < length
 item_some at_start (heading first) fits = grind (arith, length-append, length-word32)
 item_some at_start (packet one) fits = absurd fits
 item_some (in_records first) (heading other) fits = absurd fits
+item_some at_start (block one) fits = block_some Big one
 item_some (in_records first) (packet one) fits = grind (arith, length-append, length-word32)
+item_some (in_records first) (block one) fits = absurd fits
+item_some (in_section section) (heading other) fits = absurd fits
+item_some (in_section section) (packet one) fits = absurd fits
+item_some (in_section section) (block one) fits = block_some section.order one
 
 -- ---- items in a row
 
@@ -94,6 +190,8 @@ ended_empty : (stage : Stage) (bytes : List ℕ) → may_end stage bytes ≡ tru
 ended_empty at_start bytes ended = absurd (cc)
 ended_empty (in_records first) [] ended = refl
 ended_empty (in_records first) (byte ∷ bytes) ended = absurd (cc)
+ended_empty (in_section section) [] ended = refl
+ended_empty (in_section section) (byte ∷ bytes) ended = absurd (cc)
 
 -- where an item stands, nothing stops
 stops_not : (stage : Stage) (bytes : List ℕ) (ending : Option Refusal) (step : Item × List ℕ)

@@ -1,4 +1,13 @@
 pub mod NumberLemmas
 pub mod ClassicLemmas
+pub mod OptionLemmas
+pub mod BodyLemmas
+pub mod BlockLemmas
+pub mod BlockRefusals
+pub mod FrameLemmas
+pub mod SaysLemmas
+pub mod InterfaceLemmas
 pub mod CaptureLemmas
+pub mod ClassicRefusals
+pub mod StepLemmas
 pub mod ReaderLemmas

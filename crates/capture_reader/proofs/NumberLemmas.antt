@@ -1,8 +1,9 @@
 -- Numbers written and read again, one behind the other.
-use Rattle.std.proofs.Common.{◌≡◌, ℕ, zero, suc, ◌+◌, ◌*◌, ◌^◌, ◌<◌, ◌≤◌, List, [], ◌∷◌, ◌++◌, length, drop}
-use Rattle.std.proofs.Common.{get_or, refl, sym, ap, ◌∙◌, add-zero, length-append, arith}
+use Rattle.std.proofs.Common.{◌≡◌, ℕ, zero, suc, ◌+◌, ◌-◌, ◌*◌, ◌^◌, ◌<◌, ◌≤◌, List, [], ◌∷◌, ◌++◌, length, take, drop}
+use Rattle.std.proofs.Common.{get_or, slice_range, refl, sym, ap, ◌∙◌, add-zero, length-append, length-drop}
+use Rattle.std.proofs.Common.{length-take-le, take-append-drop, arith}
 use Rattle.std.proofs.lemmas.Grind.{common_steps}
-use Rattle.std.proofs.lemmas.List.{get_or-drop, drop_at, drop-drop}
+use Rattle.std.proofs.lemmas.List.{get_or-drop, take_at, take-take, drop_at, drop-drop, drop-take}
 use Rattle.std.proofs.lemmas.Nat.{be_bytes_2, be_bytes_4, le_bytes_2, le_bytes_4}
 use Rattle.std.proofs.lemmas.Nat.{from_be_bytes-to_be_bytes_2, from_be_bytes-to_be_bytes_4}
 use Rattle.std.proofs.lemmas.Nat.{from_le_bytes-to_le_bytes_2, from_le_bytes-to_le_bytes_4}
@@ -62,7 +63,7 @@ drop-four bytes i within =
     drop-elements 4 i bytes within ∙ ap (λ (s : List ℕ). s ++ drop (i + 4) bytes) cells
 
 -- behind a front
-word32_at-drop : (order : ByteOrder) (bytes : List ℕ) (i : ℕ) → word32_at order (drop i bytes) 0 ≡ word32_at order bytes i
+pub word32_at-drop : (order : ByteOrder) (bytes : List ℕ) (i : ℕ) → word32_at order (drop i bytes) 0 ≡ word32_at order bytes i
 unfolding word32_at
 word32_at-drop Big bytes i = ap (from_be_bytes w32) (four_at-drop bytes i)
 word32_at-drop Little bytes i = ap (from_le_bytes w32) (four_at-drop bytes i)
@@ -128,6 +129,64 @@ word16_read order n i bytes rest fits parts = (
       ∙ word16_at-front order n rest fits,
   sym (drop-drop 2 i bytes) ∙ ap (drop 2) parts ∙ drop_at (word16 order n) rest 2 (length-word16 order n),
 )
+
+-- the number of four bytes that was written from i on is read, and what stands behind it is there
+pub word32_read : (order : ByteOrder) (n i : ℕ) (bytes rest : List ℕ) → n < 2 ^ 32
+    → drop i bytes ≡ word32 order n ++ rest → (word32_at order bytes i ≡ n) × (drop (i + 4) bytes ≡ rest)
+word32_read order n i bytes rest fits parts = (
+  sym (word32_at-drop order bytes i) ∙ ap (λ (s : List ℕ). word32_at order s 0) parts
+      ∙ word32_at-front order n rest fits,
+  sym (drop-drop 4 i bytes) ∙ ap (drop 4) parts ∙ drop_at (word32 order n) rest 4 (length-word32 order n),
+)
+
+-- what stands from i on is a number of four bytes, and what stands behind it
+pub word32_front : (order : ByteOrder) (bytes : List ℕ) (i : ℕ) → AreBytes bytes → i + 4 ≤ length bytes
+    → drop i bytes ≡ word32 order (word32_at order bytes i) ++ drop (i + 4) bytes
+word32_front order bytes i fits within =
+    drop-four bytes i within ∙ ap (λ (s : List ℕ). s ++ drop (i + 4) bytes) (sym (word32_of_read order bytes i fits))
+
+-- a number of two bytes fits them
+pub word16_at-fits : (order : ByteOrder) (bytes : List ℕ) (i : ℕ) → AreBytes bytes → word16_at order bytes i < 2 ^ 16
+unfolding word16_at
+word16_at-fits Big bytes i fits = omega (arith, fits i, fits (i + 1))
+word16_at-fits Little bytes i fits = omega (arith, fits i, fits (i + 1))
+
+-- ---- what stands between two indices
+
+-- so many bytes from i on, and what stands behind them
+pub range_front : (bytes : List ℕ) (i n : ℕ) → i + n ≤ length bytes
+    → (length (slice_range bytes i (i + n)) ≡ n)
+    × (drop i bytes ≡ slice_range bytes i (i + n) ++ drop (i + n) bytes)
+range_front bytes i n within =
+    let size : i + n - i ≡ n = omega arith in
+    let behind : drop (i + n - i) (drop i bytes) ≡ drop (i + n) bytes =
+    ap (λ (k : ℕ). drop k (drop i bytes)) size ∙ drop-drop n i bytes in (
+      length-take-le (i + n - i) (drop i bytes) (omega (arith, length-drop i bytes)) ∙ size,
+      sym (take-append-drop (i + n - i) (drop i bytes))
+          ∙ ap (λ (s : List ℕ). slice_range bytes i (i + n) ++ s) behind,
+    )
+
+-- what stands from i on is found there, and what stands behind it
+pub range_read : (bytes front rest : List ℕ) (i n : ℕ) → drop i bytes ≡ front ++ rest → n ≡ length front
+    → (slice_range bytes i (i + n) ≡ front) × (drop (i + n) bytes ≡ rest)
+range_read bytes front rest i n parts len = (
+  ap (take (i + n - i)) parts ∙ take_at front rest (i + n - i) (omega (arith, len)),
+  sym (drop-drop n i bytes) ∙ ap (drop n) parts ∙ drop_at front rest n (sym len),
+)
+
+-- a part of a part
+pub range_within : (bytes : List ℕ) (i j a b : ℕ) → a ≤ b → i + b ≤ j
+    → slice_range (slice_range bytes i j) a b ≡ slice_range bytes (i + a) (i + b)
+range_within bytes i j a b ordered within =
+    let m = j - i - a in
+    let whole : j - i ≡ a + m = omega arith in
+    let fits : b - a ≤ m = omega arith in
+    let size : b - a ≡ i + b - (i + a) = omega arith in
+    ap (λ (k : ℕ). take (b - a) (drop a (take k (drop i bytes)))) whole
+    ∙ ap (take (b - a)) (drop-take a m (drop i bytes))
+    ∙ take-take (b - a) m (drop a (drop i bytes)) fits
+    ∙ ap (take (b - a)) (drop-drop a i bytes)
+    ∙ ap (λ (k : ℕ). take k (drop (i + a) bytes)) size
 
 -- ---- several numbers of four bytes
 

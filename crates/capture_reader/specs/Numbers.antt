@@ -1,6 +1,6 @@
--- Numbers of two and four bytes, in the byte order of the machine that wrote them.
+-- Numbers of two, four and eight bytes, in the byte order of the machine that wrote them.
 use Rattle.std.specs.Prelude.{ℕ, ◌+◌, List, [], ◌∷◌, slice_index}
-use Rattle.std.specs.Int.{w16, w32, to_be_bytes, to_le_bytes, from_be_bytes, from_le_bytes}
+use Rattle.std.specs.Int.{w16, w32, w64, to_be_bytes, to_le_bytes, from_be_bytes, from_le_bytes}
 use Rattle.capture_reader.specs.declared.byte_order.ByteOrder.{ByteOrder}
 use Rattle.capture_reader.specs.declared.byte_order.ByteOrder.TheVariants.{Big, Little}
 
@@ -32,3 +32,14 @@ word16_at Little bytes i = from_le_bytes w16 (two_at bytes i)
 unfoldable pub word32_at : ByteOrder → List ℕ → ℕ → ℕ
 word32_at Big bytes i = from_be_bytes w32 (four_at bytes i)
 word32_at Little bytes i = from_le_bytes w32 (four_at bytes i)
+
+-- the first eight bytes
+abbrev pub eight_of : List ℕ → List ℕ
+eight_of bytes =
+    slice_index bytes 0 ∷ slice_index bytes 1 ∷ slice_index bytes 2 ∷ slice_index bytes 3 ∷ slice_index bytes 4
+    ∷ slice_index bytes 5 ∷ slice_index bytes 6 ∷ slice_index bytes 7 ∷ []
+
+-- the number whose bytes they are
+unfoldable pub word64_of : ByteOrder → List ℕ → ℕ
+word64_of Big bytes = from_be_bytes w64 (eight_of bytes)
+word64_of Little bytes = from_le_bytes w64 (eight_of bytes)

@@ -2,34 +2,41 @@
 use Rattle.std.specs.Prelude.{◌≡◌, ℕ, ◌+◌, ◌-◌, ◌<◌, true, false, List, [], ◌∷◌, ◌++◌, length, drop, slice_range}
 use Rattle.std.specs.Prelude.{Option, Some, None, Result, Ok, Err}
 use Rattle.ep_base.specs.Tables.{Refuses}
-use Rattle.capture_reader.specs.Captures.{Item, packet, Stage, at_start, in_records}
-use Rattle.capture_reader.specs.Captures.{AreItems, Fits, IsCapture, RefusesCapture}
-use Rattle.capture_reader.specs.Captures.{item_bytes, item_rows, items_bytes, may_end, stage_after, stage_behind}
+use Rattle.capture_reader.specs.Blocks.{most_block}
+use Rattle.capture_reader.specs.Captures.{Item, packet, Stage, at_start, in_records, in_section}
+use Rattle.capture_reader.specs.Captures.{AreItems, Fits, IsCapture, PlainShown, RefusesCapture, begins_section}
+use Rattle.capture_reader.specs.Captures.{item_bytes, item_rows, items_bytes, may_end, shown_in, stage_after}
+use Rattle.capture_reader.specs.Captures.{stage_behind}
+use Rattle.capture_reader.specs.Contents.{known_shown, section_of}
 use Rattle.capture_reader.specs.Classic.{PlainPacket, kept_packet, most_kept}
 use Rattle.capture_reader.specs.declared.byte_order.ByteOrder.{ByteOrder}
+use Rattle.capture_reader.specs.declared.byte_order.ByteOrder.TheVariants.{Big}
 use Rattle.capture_reader.specs.declared.heading.Heading.{Heading}
+use Rattle.capture_reader.specs.declared.interface.Interface.{Interface}
 use Rattle.capture_reader.specs.declared.reader.Advance.{Advance}
 use Rattle.capture_reader.specs.declared.reader.Advance.TheVariants.{Packet, Other, MayEnd, Cut}
 use Rattle.capture_reader.specs.declared.reader.CaptureReader.{CaptureReader}
 use Rattle.capture_reader.specs.declared.reader.State.{State}
-use Rattle.capture_reader.specs.declared.reader.State.TheVariants.{Start, Records}
+use Rattle.capture_reader.specs.declared.reader.State.TheVariants.{Start, Records, Blocks}
 use Rattle.capture_reader.specs.declared.refusal.CaptureError.{CaptureError}
 use Rattle.capture_reader.specs.declared.refusal.Refusal.{Refusal}
 use Rattle.capture_reader.specs.declared.refusal.Refusal.TheVariants as refusal
+use Rattle.capture_reader.specs.declared.shown.Shown.{Shown}
 
--- what was read before
-abbrev pub stage_of : State → Stage
-stage_of Start = at_start
-stage_of (Records first) = in_records first
+-- what was read before, of which these are the interfaces
+abbrev pub stage_of : State → List Interface → Stage
+stage_of Start interfaces = at_start
+stage_of (Records first) interfaces = in_records first
+stage_of (Blocks order) interfaces = in_section (section_of order interfaces)
 
 -- what a reader has read before
 abbrev pub reader_stage : CaptureReader → Stage
-reader_stage reader = stage_of reader.state
+reader_stage reader = stage_of reader.state reader.interfaces.items
 
 -- the heading that was read
 abbrev pub heading_in : Stage → Option Heading
-heading_in at_start = None
 heading_in (in_records first) = Some first
+heading_in stage = None
 
 -- the bytes that were taken, behind those that were read
 abbrev pub reader_rest : CaptureReader → List ℕ
@@ -43,9 +50,26 @@ reader_left reader = length reader.buffer.items - reader.end
 abbrev pub reader_offset : CaptureReader → ℕ
 reader_offset reader = reader.offset
 
--- the packet that was read last
+-- those of the bytes of the packet that was read last which were kept
+abbrev pub reader_bytes : CaptureReader → List ℕ
+reader_bytes reader = slice_range reader.buffer.items reader.start reader.last
+
+-- the packet of the record that was read last
 abbrev pub reader_packet : CaptureReader → PlainPacket
-reader_packet reader = kept_packet reader.record (slice_range reader.buffer.items reader.start reader.end)
+reader_packet reader = kept_packet reader.record (reader_bytes reader)
+
+-- what the packet that was read last shows
+abbrev pub reader_shown : CaptureReader → PlainShown
+reader_shown reader = known_shown reader.known (reader_bytes reader)
+
+-- what a value shows
+abbrev pub shown_of : Shown → PlainShown
+shown_of shown = record {
+  link = shown.link_type;
+  time = shown.time;
+  original_len = shown.original_len;
+  bytes = shown.bytes.now;
+}
 
 -- the reader took these bytes, and read these items at their front
 pub record Reads (reader : CaptureReader) (taken : List ℕ) (items : List Item) : Type 0 where
@@ -58,16 +82,27 @@ pub record Reads (reader : CaptureReader) (taken : List ℕ) (items : List Item)
 abbrev pub ReadsMore : CaptureReader → List ℕ → List Item → Item → Type 0
 ReadsMore reader taken items item = Reads reader taken (items ++ item ∷ [])
 
--- an item that is no packet
-abbrev pub IsOther : Item → Type 0
-IsOther (packet one) = ⊥
-IsOther item = Unit {0}
+-- where the item is a record, its packet is the one that the reader has
+abbrev pub HasRecord : CaptureReader → Item → Type 0
+HasRecord reader (packet one) = one ≡ reader_packet reader
+HasRecord reader item = Unit {0}
+
+-- behind this stage the reader shows this item, which is a packet
+pub record ShowsItem (reader : CaptureReader) (stage : Stage) (item : Item) : Type 0 where
+  pub shown : shown_in stage item ≡ Some (reader_shown reader)
+  pub has_record : HasRecord reader item
+
+-- behind this stage the item is no packet
+abbrev pub IsOther : Stage → Item → Type 0
+IsOther stage item = shown_in stage item ≡ None
 
 -- Behind these bytes and items the reader came upon this: a packet, which it shows, or another item; the end of a
 -- capture; bytes that end too early; or bytes that are refused whatever follows.
 abbrev pub AdvancesTo : CaptureReader → List ℕ → List Item → Result Advance CaptureError → Type 0
-AdvancesTo reader taken items (Ok Packet) = ReadsMore reader taken items (packet (reader_packet reader))
-AdvancesTo reader taken items (Ok Other) = (item : Item) × IsOther item × ReadsMore reader taken items item
+AdvancesTo reader taken items (Ok Packet) =
+    (item : Item) × ReadsMore reader taken items item × ShowsItem reader (stage_behind at_start items) item
+AdvancesTo reader taken items (Ok Other) =
+    (item : Item) × IsOther (stage_behind at_start items) item × ReadsMore reader taken items item
 AdvancesTo reader taken items (Ok MayEnd) = Reads reader taken items × IsCapture taken items
 AdvancesTo reader taken items (Ok (Cut error)) = Reads reader taken items × RefusesCapture taken (items, error)
 AdvancesTo reader taken items (Err error) =
@@ -85,16 +120,22 @@ Waits (Ok MayEnd) = Unit {0}
 Waits (Ok (Cut error)) = Unit {0}
 Waits answer = ⊥
 
--- the number of bytes of the longest record: where more are needed, fewer are there
-abbrev pub most_held : ℕ
-most_held = 16 + most_kept
+-- the number of bytes of the longest record or block: where more are needed, fewer are there
+abbrev pub most_held : Stage → ℕ
+most_held (in_records first) = 16 + most_kept
+most_held stage = most_block
 
 -- ---- one step
 
--- the reader reads records of this byte order
-abbrev pub IsInRecords : State → ByteOrder → Type 0
-IsInRecords Start order = ⊥
-IsInRecords (Records first) order = first.order ≡ order
+-- behind what was read, a block of a section of this byte order stands in front of these bytes, of which there are some
+abbrev pub BlocksStand : State → List Interface → ByteOrder → List ℕ → Type 0
+BlocksStand Start interfaces order bytes = (order ≡ Big) × (interfaces ≡ []) × (begins_section bytes ≡ true)
+BlocksStand (Records first) interfaces order bytes = ⊥
+BlocksStand (Blocks other) interfaces order bytes = (order ≡ other) × (0 < length bytes)
+
+-- what stands next is a block in a section of this byte order
+abbrev pub ReadsBlocks : CaptureReader → ByteOrder → Type 0
+ReadsBlocks reader order = BlocksStand reader.state reader.interfaces.items order (reader_rest reader)
 
 -- between two states of a reader, this item was read
 pub record StepsOver (reader next : CaptureReader) (item : Item) : Type 0 where
@@ -117,12 +158,13 @@ pub record IsUnmoved (reader next : CaptureReader) : Type 0 where
 
 -- what a step answers
 abbrev pub Answers : CaptureReader → CaptureReader → Result Advance CaptureError → Type 0
-Answers reader next (Ok Packet) = StepsOver reader next (packet (reader_packet next))
-Answers reader next (Ok Other) = (item : Item) × IsOther item × StepsOver reader next item
+Answers reader next (Ok Packet) =
+    (item : Item) × StepsOver reader next item × ShowsItem next (reader_stage reader) item
+Answers reader next (Ok Other) = (item : Item) × IsOther (reader_stage reader) item × StepsOver reader next item
 Answers reader next (Ok MayEnd) =
     IsUnmoved reader next × (may_end (reader_stage reader) (reader_rest reader) ≡ true)
 Answers reader next (Ok (Cut error)) =
-    IsUnmoved reader next × StopsAt reader [] error × (length (reader_rest reader) < most_held)
+    IsUnmoved reader next × StopsAt reader [] error × (length (reader_rest reader) < most_held (reader_stage reader))
 Answers reader next (Err error) = IsUnmoved reader next × ((more : List ℕ) → StopsAt reader more error)
 
 -- what is answered where bytes are refused: those that end too early may go on

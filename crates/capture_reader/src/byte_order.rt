@@ -1,7 +1,8 @@
 //! Numbers in the byte order of a capture.
 
 ghost use Rattle.std.specs.Prelude.{◌≡◌, ◌+◌, ◌≤◌, length};
-ghost use Rattle.capture_reader.specs.Numbers.{word16_at, word32_at};
+ghost use Rattle.std.specs.Int.{w64, cast_signed};
+ghost use Rattle.capture_reader.specs.Numbers.{word16_at, word32_at, word64_of};
 
 /// Which byte of a number stands first.
 #[derive(Clone, Copy, Debug, PartialEq, Eq)]
@@ -38,6 +39,21 @@ impl ByteOrder {
         match self {
             ByteOrder::Big => u32::from_be_bytes(word),
             ByteOrder::Little => u32::from_le_bytes(word),
+        }
+    }
+
+    /// The number with a sign whose eight bytes these are.
+    #[tactic(auto, unfolding(crate::specs::Numbers::word64_of))]
+    pub(crate) fn signed64(self, bytes: &[u8]) -> i64
+        requires { 8 ≤ length bytes.now }
+        ensures { result ≡ cast_signed w64 (word64_of self bytes.now) }
+    {
+        let word = [
+            bytes[0], bytes[1], bytes[2], bytes[3], bytes[4], bytes[5], bytes[6], bytes[7],
+        ];
+        match self {
+            ByteOrder::Big => i64::from_be_bytes(word),
+            ByteOrder::Little => i64::from_le_bytes(word),
         }
     }
 }

@@ -101,7 +101,7 @@ fn style_of(magic: u32) -> Option<(ByteOrder, Resolution)>
 }
 
 /// Whether packets of a link type are read: Ethernet, IP of either version, IPv4, IPv6 and Linux cooked captures.
-fn knows_link(link_type: u16) -> bool
+pub fn knows_link(link_type: u16) -> bool
     ensures { result ≡ knows_link link_type }
 {
     link_type == 1 || link_type == 101 || link_type == 113 || link_type == 228 || link_type == 229

@@ -1,10 +1,14 @@
 //! The records of a classic capture.
 
-ghost use Rattle.std.specs.Prelude.{◌+◌, ◌≤◌, IfErr, IfOk, drop, length, slice_range};
+ghost use Rattle.std.specs.Prelude.{◌≡◌, ◌+◌, ◌≤◌, ℕ, List, IfErr, IfOk, drop, length, slice_range};
+ghost use Rattle.capture_reader.specs.Captures.{record_shown};
 ghost use Rattle.capture_reader.specs.Classic.{IsRecord, RefusesRecord, kept_packet};
+ghost use Rattle.capture_reader.specs.Contents.{known_shown};
 
 use crate::byte_order::ByteOrder;
+use crate::heading::{Heading, Resolution};
 use crate::refusal::Refusal;
+use crate::shown::{Known, Time};
 
 /// A packet of a capture.
 #[derive(Clone, Copy, Debug, PartialEq, Eq)]
@@ -78,5 +82,26 @@ impl Record {
             original_len: order.word32(bytes, 12),
             kept: kept as usize,
         })
+    }
+
+    /// What is known of the packet behind a heading.
+    #[inline]
+    pub(crate) fn known(&self, heading: &Heading) -> Known
+        ensures { (bytes : List ℕ) → known_shown result bytes
+            ≡ record_shown heading.now (kept_packet self.now bytes) }
+    {
+        let per_second = match heading.resolution {
+            Resolution::Micros => 1_000_000,
+            Resolution::Nanos => 1_000_000_000,
+        };
+        Known {
+            link_type: heading.link_type(),
+            time: Some(Time {
+                ticks: self.seconds as u64 * per_second + self.fraction as u64,
+                per_second,
+                offset: 0,
+            }),
+            original_len: self.original_len,
+        }
     }
 }

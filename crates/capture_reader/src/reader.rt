@@ -1,12 +1,17 @@
 //! A capture that comes in pieces.
 
 ghost use Rattle.std.specs.Prelude.{◌≡◌, ◌≤◌, ◌<◌, ◌+◌, ◌-◌, ◌^◌, ◌++◌, [], ℕ, List, OnErr, OnOk};
-ghost use Rattle.std.specs.Prelude.{length, vec_len};
+ghost use Rattle.std.specs.Prelude.{◌*◌, false, true, length, vec_capacity, vec_len};
+ghost use Rattle.capture_reader.specs.Captures.{begins_section};
+ghost use Rattle.capture_reader.specs.States.{in_front};
 
+use crate::block::{Block, Content, SECTION};
 use crate::byte_order::ByteOrder;
 use crate::heading::Heading;
+use crate::interface::Interface;
 use crate::packet::{Packet, Record};
 use crate::refusal::{CaptureError, Refusal};
+use crate::shown::{Known, Shown};
 use std::alloc::{AllocError, Global};
 use std::mem;
 
@@ -17,6 +22,8 @@ pub enum State {
     Start,
     /// Its heading, behind which stand records.
     Records(Heading),
+    /// Blocks, the last of them in a section of this byte order.
+    Blocks(ByteOrder),
 }
 
 /// What a step of a reader came upon.
@@ -42,23 +49,32 @@ pub struct CaptureReader {
     spare: Vec<u8>,
     /// Where in the buffer the packet that was read last begins.
     start: usize,
-    /// Where in the buffer it ends, and the next begins.
+    /// Where in the buffer it ends.
+    last: usize,
+    /// Where in the buffer the next item begins.
     end: usize,
     /// How many bytes of the capture stand in front of that.
     offset: u64,
-    /// What stands in front of the packet that was read last.
+    /// What stands in front of the packet of the record that was read last.
     record: Record,
-    ghost ordered: { start ≤ end },
+    /// What is known of the packet that was read last.
+    known: Known,
+    /// The interfaces that the last section described, with room for those that may stand in the buffer.
+    interfaces: Vec<Interface>,
+    ghost ordered: { start ≤ last },
+    ghost before: { last ≤ end },
     ghost within: { end ≤ vec_len buffer },
     ghost bounded: { offset + (vec_len buffer - end) < 2 ^ 64 },
+    ghost fresh: { in_front state (vec_len interfaces) ≡ 0 },
+    ghost room: { 20 * vec_len interfaces + vec_len buffer ≤ 20 * vec_capacity interfaces + 19 + end },
 }
 
 impl CaptureReader {
     ghost use Rattle.capture_reader.specs.Captures.{Item};
     ghost use Rattle.capture_reader.specs.Classic.{packet_of};
-    ghost use Rattle.capture_reader.specs.Readers.{AdvancesTo, Answers, IsInRecords, Passes, Reads, Waits};
-    ghost use Rattle.capture_reader.specs.Readers.{heading_in, most_held, reader_left, reader_offset};
-    ghost use Rattle.capture_reader.specs.Readers.{reader_packet, reader_stage, refused_at};
+    ghost use Rattle.capture_reader.specs.Readers.{AdvancesTo, Answers, Passes, Reads, ReadsBlocks, Waits};
+    ghost use Rattle.capture_reader.specs.Readers.{heading_in, most_held, reader_left, reader_offset, reader_packet};
+    ghost use Rattle.capture_reader.specs.Readers.{reader_rest, reader_shown, reader_stage, refused_at, shown_of};
 
     /// A reader that took nothing yet.
     pub fn new(alloc: Global) -> CaptureReader
@@ -71,9 +87,12 @@ impl CaptureReader {
             buffer: Vec::new(alloc),
             spare: Vec::new(alloc),
             start: 0,
+            last: 0,
             end: 0,
             offset: 0,
             record: Record::NONE,
+            known: Known::NONE,
+            interfaces: Vec::new(alloc),
         }
     }
 
@@ -98,7 +117,9 @@ impl CaptureReader {
         self.spare
             .extend_from_slice(&self.buffer.as_slice()[self.end..])?;
         self.spare.extend_from_slice(piece)?;
+        self.interfaces.reserve(self.spare.len() / Interface::LEN)?;
         self.start = 0;
+        self.last = 0;
         self.end = 0;
         mem::swap(&mut self.buffer, &mut self.spare);
         Ok(())
@@ -112,22 +133,49 @@ impl CaptureReader {
         ensures total { reader_offset self.new + reader_left self.new ≡ reader_offset self.old + reader_left self.old }
         ensures grows { reader_offset self.old ≤ reader_offset self.new }
         ensures less { Passes result → reader_left self.new < reader_left self.old }
-        ensures memory { Waits result → reader_left self.new < most_held }
+        ensures memory { Waits result → reader_left self.new < most_held (reader_stage self.new) }
+    {
+        self.step()
+    }
+
+    /// Reads what stands next.
+    fn step(&mut self) -> Result<Advance, CaptureError>
+        ensures { Answers self.old self.new result }
     {
         match self.state {
-            State::Start => self.advance_heading(),
-            State::Records(heading) => self.advance_record(heading.order),
+            State::Start => {
+                if begins_section(self.rest()) {
+                    self.advance_section()
+                } else {
+                    self.advance_heading()
+                }
+            }
+            State::Records(heading) => self.advance_record(heading),
+            State::Blocks(order) => {
+                if self.end == self.buffer.len() {
+                    return Ok(Advance::MayEnd);
+                }
+                self.advance_block(order)
+            }
         }
+    }
+
+    /// What was taken and is not yet read.
+    #[inline]
+    fn rest(&self) -> &[u8]
+        ensures { result.now ≡ reader_rest self.now }
+    {
+        &self.buffer.as_slice()[self.end..]
     }
 
     /// Reads the heading.
     fn advance_heading(&mut self) -> Result<Advance, CaptureError>
-        requires { self.old.state ≡ State.Start }
+        requires start { self.old.state ≡ State.Start }
+        requires no_section { begins_section (reader_rest self.old) ≡ false }
         ensures { Answers self.old self.new result }
     {
-        match Heading::from_slice(&self.buffer.as_slice()[self.end..]) {
+        match Heading::from_slice(self.rest()) {
             Ok(heading) => {
-                self.start = self.end;
                 self.end += Heading::LEN;
                 self.offset += Heading::LEN as u64;
                 self.state = State::Records(heading);
@@ -138,20 +186,64 @@ impl CaptureReader {
     }
 
     /// Reads a record.
-    fn advance_record(&mut self, order: ByteOrder) -> Result<Advance, CaptureError>
-        requires { IsInRecords self.old.state order }
+    fn advance_record(&mut self, heading: Heading) -> Result<Advance, CaptureError>
+        requires { self.old.state ≡ State.Records heading }
         ensures { Answers self.old self.new result }
     {
         if self.end == self.buffer.len() {
             return Ok(Advance::MayEnd);
         }
-        match Record::from_slice(order, &self.buffer.as_slice()[self.end..]) {
+        match Record::from_slice(heading.order, self.rest()) {
             Ok(record) => {
                 self.start = self.end + Record::LEN;
-                self.end = self.start + record.kept;
+                self.last = self.start + record.kept;
+                self.end = self.last;
                 self.offset += (Record::LEN + record.kept) as u64;
                 self.record = record;
+                self.known = record.known(&heading);
                 Ok(Advance::Packet)
+            }
+            Err(refusal) => self.refuse(refusal),
+        }
+    }
+
+    /// Reads the header of the first section.
+    fn advance_section(&mut self) -> Result<Advance, CaptureError>
+        requires start { self.old.state ≡ State.Start }
+        requires begins { begins_section (reader_rest self.old) ≡ true }
+        ensures { Answers self.old self.new result }
+    {
+        self.advance_block(ByteOrder::Big)
+    }
+
+    /// Reads a block, in a section of a byte order.
+    fn advance_block(&mut self, order: ByteOrder) -> Result<Advance, CaptureError>
+        requires { ReadsBlocks self.old order }
+        ensures { Answers self.old self.new result }
+    {
+        match Block::from_slice(order, self.interfaces.as_slice(), self.rest()) {
+            Ok(block) => {
+                let start = self.end + Block::FRONT_LEN;
+                self.end += block.len;
+                self.offset += block.len as u64;
+                self.state = State::Blocks(block.order);
+                match block.content {
+                    Content::Section => {
+                        self.interfaces.clear();
+                        Ok(Advance::Other)
+                    }
+                    Content::Interface(interface) => {
+                        self.interfaces.push_reserved(interface);
+                        Ok(Advance::Other)
+                    }
+                    Content::Packet(packet) => {
+                        self.start = start + packet.start;
+                        self.last = self.start + packet.kept;
+                        self.known = packet.known;
+                        Ok(Advance::Packet)
+                    }
+                    Content::Other => Ok(Advance::Other),
+                }
             }
             Err(refusal) => self.refuse(refusal),
         }
@@ -171,17 +263,17 @@ impl CaptureReader {
         }
     }
 
-    /// The heading of the capture, once it was read.
+    /// The heading of a classic capture, once it was read.
     pub fn heading(&self) -> Option<Heading>
         ensures { result ≡ heading_in (reader_stage self.now) }
     {
         match self.state {
-            State::Start => None,
             State::Records(heading) => Some(heading),
+            State::Start | State::Blocks(_) => None,
         }
     }
 
-    /// The packet that was read last.
+    /// The packet of the record that was read last, where the capture is a classic one.
     #[inline]
     pub fn packet(&self) -> Packet<'_>
         ensures { packet_of result ≡ reader_packet self.now }
@@ -190,7 +282,27 @@ impl CaptureReader {
             seconds: self.record.seconds,
             fraction: self.record.fraction,
             original_len: self.record.original_len,
-            bytes: &self.buffer.as_slice()[self.start..self.end],
+            bytes: &self.buffer.as_slice()[self.start..self.last],
         }
     }
+
+    /// The packet that was read last, of a capture of either format.
+    #[inline]
+    pub fn shown(&self) -> Shown<'_>
+        ensures { shown_of result ≡ reader_shown self.now }
+    {
+        Shown {
+            link_type: self.known.link_type,
+            time: self.known.time,
+            original_len: self.known.original_len,
+            bytes: &self.buffer.as_slice()[self.start..self.last],
+        }
+    }
+}
+
+/// Whether bytes begin as a section does, in either byte order.
+fn begins_section(bytes: &[u8]) -> bool
+    ensures { result ≡ begins_section bytes.now }
+{
+    bytes.len() >= 4 && ByteOrder::Big.word32(bytes, 0) == SECTION
 }

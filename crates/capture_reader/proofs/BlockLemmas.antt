@@ -1,0 +1,526 @@
+-- Blocks are read in one way.
+use Rattle.std.proofs.Common.{◌≡◌, ℕ, ◌+◌, ◌-◌, ◌%◌, ◌^◌, ◌<◌, ◌≤◌, ◌==◌, ◌||◌, Bool, false, not, is_some, nat_lt}
+use Rattle.std.proofs.Common.{List, [], ◌∷◌, ◌++◌, Option, Some, None, length, drop, slice_range}
+use Rattle.std.proofs.Common.{refl, sym, ap, subst, ◌∙◌, append_assoc, length-append, arith}
+use Rattle.std.proofs.lemmas.Bool.{eq-eqb, eqb-true, le-ltb, ltb-false, not-false, not_from_true, or_from, or_parts}
+use Rattle.std.proofs.lemmas.Bool.{true≢false}
+use Rattle.std.proofs.lemmas.Bool.Decides.{nat_tests}
+use Rattle.ep_base.specs.Bytes.{AreBytes}
+use Rattle.ep_base.specs.Tables.{first_row}
+use Rattle.ep_base.proofs.BytesLemmas.{AreBytes-drop, AreBytes-take}
+use Rattle.ep_base.proofs.TableLemmas.{IsReadBy}
+use Rattle.capture_reader.specs.Numbers.{word16, word32, word32_at}
+use Rattle.capture_reader.specs.Blocks.{FitsContent, IsBlock, PlainBlock, Section}
+use Rattle.capture_reader.specs.Blocks.{header, interface, enhanced, simple, other, block_body, block_bytes, block_in}
+use Rattle.capture_reader.specs.Blocks.{block_len, block_number, block_of, block_order, block_rows, body_rows}
+use Rattle.capture_reader.specs.Blocks.{front_rows}
+use Rattle.capture_reader.specs.Blocks.{has_no_order, kind_in, kind_of, least_len, most_block, order_in, order_of}
+use Rattle.capture_reader.specs.Blocks.{order_or, order_said, whole_rows}
+use Rattle.capture_reader.specs.Captures.{BeginsSection, block_shown}
+use Rattle.capture_reader.specs.declared.block.BlockKind.{BlockKind}
+use Rattle.capture_reader.specs.declared.block.BlockKind.TheVariants.{SectionHeader, InterfaceDescription, SimplePacket}
+use Rattle.capture_reader.specs.declared.block.BlockKind.TheVariants.{EnhancedPacket, Other}
+use Rattle.capture_reader.specs.declared.byte_order.ByteOrder.{ByteOrder}
+use Rattle.capture_reader.specs.declared.byte_order.ByteOrder.TheVariants.{Big, Little}
+use Rattle.capture_reader.specs.declared.interface.Interface.{Interface}
+use Rattle.capture_reader.specs.declared.refusal.Refusal.{Refusal}
+use Rattle.capture_reader.specs.declared.refusal.Refusal.TheVariants as refusal
+use Rattle.capture_reader.proofs.NumberLemmas.{length-word32, range_front, range_read, word32_at-drop, word32_at-fits}
+use Rattle.capture_reader.proofs.NumberLemmas.{word32_at-more}
+use Rattle.capture_reader.proofs.NumberLemmas.{word32_front, word32_read}
+use Rattle.capture_reader.proofs.BodyLemmas.{enhanced_is_read, enhanced_reads, header_is_read, header_reads}
+use Rattle.capture_reader.proofs.BodyLemmas.{interface_is_read, interface_reads, row_none, row_pass, simple_is_read}
+use Rattle.capture_reader.proofs.BodyLemmas.{simple_reads}
+
+-- ---- the numbers of kinds and byte orders
+
+-- the number that begins a section is the same in both byte orders
+section_number : (order before : ByteOrder) → word32 before 0x0a0d0d0a ≡ word32 order 0x0a0d0d0a
+unfolding word32
+section_number Big Big = refl
+section_number Big Little = refl
+section_number Little Big = refl
+section_number Little Little = refl
+
+number_section : (n : ℕ) → kind_of n ≡ SectionHeader → n ≡ 0x0a0d0d0a
+number_section n is = grind (arith, nat_tests)
+
+number_interface : (n : ℕ) → kind_of n ≡ InterfaceDescription → n ≡ 1
+number_interface n is = grind (arith, nat_tests)
+
+number_simple : (n : ℕ) → kind_of n ≡ SimplePacket → n ≡ 3
+number_simple n is = grind (arith, nat_tests)
+
+number_enhanced : (n : ℕ) → kind_of n ≡ EnhancedPacket → n ≡ 6
+number_enhanced n is = grind (arith, nat_tests)
+
+-- what is read as a byte order
+magic_big : (magic : ℕ) → order_said magic ≡ Some Big → magic ≡ 0x1a2b3c4d
+magic_big magic is = grind (arith, nat_tests)
+
+magic_little : (magic : ℕ) → order_said magic ≡ Some Little → magic ≡ 0x4d3c2b1a
+magic_little magic is = grind (arith, nat_tests)
+
+-- is written so
+little_written : word32 Big 0x4d3c2b1a ≡ word32 Little 0x1a2b3c4d
+unfolding word32
+little_written = refl
+
+said_written : (before : ByteOrder) (magic : ℕ) (said : Option ByteOrder) → order_said magic ≡ said
+    → not (is_some said) ≡ false → word32 Big magic ≡ word32 (order_or before said) 0x1a2b3c4d
+said_written before magic None is known = absurd (true≢false known)
+said_written before magic (Some Big) is known = ap (word32 Big) (magic_big magic is)
+said_written before magic (Some Little) is known = ap (word32 Big) (magic_little magic is) ∙ little_written
+
+-- what was written so is read as the byte order
+magic_read : (order : ByteOrder) (rest : List ℕ)
+    → order_said (word32_at Big (word32 order 0x1a2b3c4d ++ rest) 0) ≡ Some order
+unfolding word32 word32_at
+magic_read Big rest = refl
+magic_read Little rest = refl
+
+-- ---- what stands around what a block holds
+
+-- the parts of a block, and what stands behind it
+block_parts : (before : ByteOrder) (block : PlainBlock) (rest : List ℕ)
+    → let order = block_order before block in
+    block_bytes before block ++ rest
+    ≡ word32 order (block_number block) ++ (word32 order (block_len order block) ++ (block_body order block
+    ++ (word32 order (block_len order block) ++ rest)))
+block_parts before block rest = simp append_assoc
+
+-- bytes of a length that is said twice are the parts of a block
+frame_front : (before order : ByteOrder) (bytes : List ℕ) (len : ℕ) → AreBytes bytes → 12 ≤ len → len ≤ length bytes
+    → word32_at order bytes 4 ≡ len → word32_at order bytes (len - 4) ≡ len
+    → (length (slice_range bytes 8 (len - 4)) ≡ len - 12)
+    × (drop 8 bytes ≡ slice_range bytes 8 (len - 4) ++ drop (len - 4) bytes)
+    × (bytes ≡ word32 before (word32_at before bytes 0) ++ (word32 order len ++ (slice_range bytes 8 (len - 4)
+    ++ (word32 order len ++ drop len bytes))))
+frame_front before order bytes len fits long within said trailing =
+    let size : 8 + (len - 12) ≡ len - 4 = omega arith in
+    let body = range_front bytes 8 (len - 12) (omega arith) in
+    let Body : ℕ → List ℕ = λ n. slice_range bytes 8 n in
+    let second : drop 4 bytes ≡ word32 order len ++ drop 8 bytes =
+    word32_front order bytes 4 fits (omega arith) ∙ ap (λ (n : ℕ). word32 order n ++ drop 8 bytes) said in
+    let third : drop 8 bytes ≡ slice_range bytes 8 (len - 4) ++ drop (len - 4) bytes =
+    body.1 ∙ ap (λ (n : ℕ). slice_range bytes 8 n ++ drop n bytes) size in
+    let last : drop (len - 4) bytes ≡ word32 order len ++ drop len bytes =
+    word32_front order bytes (len - 4) fits (omega arith)
+    ∙ ap (λ (n : ℕ). word32 order n ++ drop (len - 4 + 4) bytes) trailing
+    ∙ ap (λ (n : ℕ). word32 order len ++ drop n bytes) (omega arith) in (
+      sym (ap (λ (n : ℕ). length (Body n)) size) ∙ body.0,
+      third,
+      word32_front before bytes 0 fits (omega arith)
+          ∙ ap (λ (s : List ℕ). word32 before (word32_at before bytes 0) ++ s)
+          (second ∙ ap (λ (s : List ℕ). word32 order len ++ s)
+          (third ∙ ap (λ (s : List ℕ). slice_range bytes 8 (len - 4) ++ s) last)),
+    )
+
+-- what a block holds is right
+record Holds (section : Section) (order : ByteOrder) (number : ℕ) (body : List ℕ) (block : PlainBlock) : Type 0 where
+  fits : FitsContent section block
+  order_is : block_order section.order block ≡ order
+  number_is : word32 section.order number ≡ word32 order (block_number block)
+  body_is : body ≡ block_body order block
+
+-- so its bytes are the block's
+holds_block : (section : Section) (order : ByteOrder) (number len : ℕ) (bytes body rest : List ℕ) (block : PlainBlock)
+    → Holds section order number body block → len ≡ 12 + length body → len ≤ most_block → len % 4 ≡ 0
+    → bytes ≡ word32 section.order number ++ (word32 order len ++ (body ++ (word32 order len ++ rest)))
+    → IsBlock section bytes (block, rest)
+holds_block section order number len bytes body rest block holds size most whole parts =
+    let before = section.order in
+    let len_is : len ≡ block_len order block = size ∙ ap (λ (s : List ℕ). 12 + length s) holds.body_is in
+    let body_len : length body ≡ length (block_body order block) = ap length holds.body_is in
+    let Parts : ByteOrder → Type 0 = λ o. bytes ≡ word32 o (block_number block) ++ (word32 o (block_len o block)
+    ++ (block_body o block ++ (word32 o (block_len o block) ++ rest))) in
+    let Most : ByteOrder → Type 0 = λ o. block_len o block ≤ most_block in
+    let Whole : ByteOrder → Type 0 = λ o. length (block_body o block) % 4 ≡ 0 in
+    let all : Parts order =
+    parts ∙ ap (λ (s : List ℕ). s ++ (word32 order len ++ (body ++ (word32 order len ++ rest)))) holds.number_is
+    ∙ ap (λ (n : ℕ). word32 order (block_number block) ++ (word32 order n ++ (body ++ (word32 order n ++ rest)))) len_is
+    ∙ ap (λ (s : List ℕ). word32 order (block_number block) ++ (word32 order (block_len order block)
+    ++ (s ++ (word32 order (block_len order block) ++ rest)))) holds.body_is in
+    record {
+      fits = record {
+        content = holds.fits;
+        len = subst Most (sym holds.order_is) (omega (arith, len_is, most));
+        whole = subst Whole (sym holds.order_is) (omega (arith, whole, size, body_len));
+      };
+      parts = subst Parts (sym holds.order_is) all ∙ sym (block_parts before block rest);
+    }
+
+-- ---- what no row refuses
+
+-- the rows of a block, by what they are about
+abbrev pub rows_of : ByteOrder → List Interface → ByteOrder → BlockKind → (magic len : ℕ) → List ℕ
+    → List (Bool × Refusal)
+rows_of before interfaces order kind magic len bytes =
+    (nat_lt (length bytes) 12, refusal.Cut 12 (length bytes))
+    ∷ front_rows before kind magic len
+    ++ (nat_lt (length bytes) len, refusal.Cut len (length bytes))
+    ∷ whole_rows interfaces order kind len bytes
+
+-- what they do not refuse
+pub record Passes (before : ByteOrder) (interfaces : List Interface) (order : ByteOrder) (kind : BlockKind)
+    (magic len : ℕ) (bytes : List ℕ) : Type 0 where
+  pub long : 12 ≤ length bytes
+  pub known : has_no_order before kind magic ≡ false
+  pub least : least_len kind ≤ len
+  pub whole : len % 4 ≡ 0
+  pub most : len ≤ most_block
+  pub within : len ≤ length bytes
+  pub trailing : word32_at order bytes (len - 4) ≡ len
+  pub body : first_row (body_rows interfaces order kind len (slice_range bytes 8 (len - 4))) ≡ None
+
+passes : (before : ByteOrder) (interfaces : List Interface) (order : ByteOrder) (kind : BlockKind) (magic len : ℕ) (bytes : List ℕ)
+    → first_row (rows_of before interfaces order kind magic len bytes) ≡ None
+    → Passes before interfaces order kind magic len bytes
+passes before interfaces order kind magic len bytes none =
+    let a = row_none (nat_lt (length bytes) 12) _ _ none in
+    let b = row_none (has_no_order before kind magic) _ _ a.1 in
+    let c = row_none (nat_lt len (least_len kind) || not (len % 4 == 0)) _ _ b.1 in
+    let d = row_none (nat_lt most_block len) _ _ c.1 in
+    let e = row_none (nat_lt (length bytes) len) _ _ d.1 in
+    let f = row_none (not (word32_at order bytes (len - 4) == len)) _ _ e.1 in
+    let lens = or_parts (nat_lt len (least_len kind)) (not (len % 4 == 0)) c.0 in
+    record {
+      long = ltb-false (length bytes) 12 a.0;
+      known = b.0;
+      least = ltb-false len (least_len kind) lens.0;
+      whole = eqb-true (len % 4) 0 (not-false (len % 4 == 0) lens.1);
+      most = ltb-false most_block len d.0;
+      within = ltb-false (length bytes) len e.0;
+      trailing = eqb-true (word32_at order bytes (len - 4)) len
+          (not-false (word32_at order bytes (len - 4) == len) f.0);
+      body = f.1;
+    }
+
+pub none_of : (before : ByteOrder) (interfaces : List Interface) (order : ByteOrder) (kind : BlockKind) (magic len : ℕ) (bytes : List ℕ)
+    → Passes before interfaces order kind magic len bytes
+    → first_row (rows_of before interfaces order kind magic len bytes) ≡ None
+none_of before interfaces order kind magic len bytes passed =
+    row_pass (nat_lt (length bytes) 12) _ _ (le-ltb (length bytes) 12 passed.long)
+    ∙ row_pass (has_no_order before kind magic) _ _ passed.known
+    ∙ row_pass (nat_lt len (least_len kind) || not (len % 4 == 0)) _ _
+    (or_from (nat_lt len (least_len kind)) (not (len % 4 == 0)) (le-ltb len (least_len kind) passed.least)
+    (not_from_true (len % 4 == 0) (eq-eqb (len % 4) 0 passed.whole)))
+    ∙ row_pass (nat_lt most_block len) _ _ (le-ltb most_block len passed.most)
+    ∙ row_pass (nat_lt (length bytes) len) _ _ (le-ltb (length bytes) len passed.within)
+    ∙ row_pass (not (word32_at order bytes (len - 4) == len)) _ _
+    (not_from_true (word32_at order bytes (len - 4) == len) (eq-eqb (word32_at order bytes (len - 4)) len passed.trailing))
+    ∙ passed.body
+
+pub least_12 : (kind : BlockKind) → 12 ≤ least_len kind
+least_12 SectionHeader = omega arith
+least_12 InterfaceDescription = omega arith
+least_12 SimplePacket = omega arith
+least_12 EnhancedPacket = omega arith
+least_12 Other = omega arith
+
+-- a multiple of four, and twelve more
+whole_by_4 : (n : ℕ) → n % 4 ≡ 0 → (12 + n) % 4 ≡ 0
+whole_by_4 n whole = omega (arith, whole)
+
+-- the block that is read, and what stands behind it
+abbrev pub block_read : Section → List ℕ → PlainBlock × List ℕ
+block_read section bytes =
+    (block_in section bytes, drop (word32_at (order_in section.order bytes) bytes 4) bytes)
+
+-- what a block of a kind holds
+holds_with : (section : Section) (kind : BlockKind) (bytes : List ℕ) (len : ℕ) → AreBytes bytes
+    → kind_of (word32_at section.order bytes 0) ≡ kind
+    → let order = order_of section.order kind (word32_at Big bytes 8) in
+    let body = slice_range bytes 8 (len - 4) in
+    AreBytes body → length body ≡ len - 12 → drop 8 bytes ≡ body ++ drop (len - 4) bytes
+    → Passes section.order section.interfaces order kind (word32_at Big bytes 8) len bytes
+    → Holds section order (word32_at section.order bytes 0) body
+    (block_of section.interfaces order kind (word32_at section.order bytes 0) body)
+holds_with section SectionHeader bytes len fits is body_fits size split passed =
+    let before = section.order in
+    let magic = word32_at Big bytes 8 in
+    let order = order_or before (order_said magic) in
+    let body = slice_range bytes 8 (len - 4) in
+    let same : word32_at Big body 0 ≡ magic =
+    sym (word32_at-more Big body (drop (len - 4) bytes) 0 (omega (arith, size, passed.least)))
+    ∙ ap (λ (s : List ℕ). word32_at Big s 0) (sym split) ∙ word32_at-drop Big bytes 8 in
+    let written = ap (word32 Big) same ∙ said_written before magic (order_said magic) refl passed.known in
+    let read = header_reads order order len (slice_range bytes 8 (len - 4)) body_fits
+    (omega (arith, size, passed.least)) written passed.body in
+    record {
+      fits = read.0;
+      order_is = refl;
+      number_is = ap (word32 before) (number_section (word32_at before bytes 0) is) ∙ section_number order before;
+      body_is = read.1;
+    }
+holds_with section InterfaceDescription bytes len fits is body_fits size split passed =
+    let read = interface_reads section.order section.interfaces len (slice_range bytes 8 (len - 4)) body_fits
+    (omega (arith, size, passed.least)) passed.body in
+    record {
+      fits = read.0;
+      order_is = refl;
+      number_is = ap (word32 section.order) (number_interface (word32_at section.order bytes 0) is);
+      body_is = read.1;
+    }
+holds_with section SimplePacket bytes len fits is body_fits size split passed =
+    let read = simple_reads section len (slice_range bytes 8 (len - 4)) body_fits
+    (omega (arith, size, passed.least)) passed.body in
+    record {
+      fits = read.0;
+      order_is = refl;
+      number_is = ap (word32 section.order) (number_simple (word32_at section.order bytes 0) is);
+      body_is = read.1;
+    }
+holds_with section EnhancedPacket bytes len fits is body_fits size split passed =
+    let read = enhanced_reads section len (slice_range bytes 8 (len - 4)) body_fits
+    (omega (arith, size, passed.least)) passed.body in
+    record {
+      fits = read.0;
+      order_is = refl;
+      number_is = ap (word32 section.order) (number_enhanced (word32_at section.order bytes 0) is);
+      body_is = read.1;
+    }
+holds_with section Other bytes len fits is body_fits size split passed = record {
+  fits = record { number = word32_at-fits section.order bytes 0 fits; kind = is };
+  order_is = refl;
+  number_is = refl;
+  body_is = refl;
+}
+
+reads_with : (section : Section) (kind : BlockKind) (bytes : List ℕ) → AreBytes bytes
+    → kind_of (word32_at section.order bytes 0) ≡ kind
+    → let order = order_of section.order kind (word32_at Big bytes 8) in
+    let len = word32_at order bytes 4 in
+    Passes section.order section.interfaces order kind (word32_at Big bytes 8) len bytes
+    → IsBlock section bytes (
+      block_of section.interfaces order kind (word32_at section.order bytes 0) (slice_range bytes 8 (len - 4)),
+      drop len bytes,
+    )
+reads_with section kind bytes fits is passed =
+    let order = order_of section.order kind (word32_at Big bytes 8) in
+    let len = word32_at order bytes 4 in
+    let body = slice_range bytes 8 (len - 4) in
+    let long : 12 ≤ len = omega (arith, least_12 kind, passed.least) in
+    let front = frame_front section.order order bytes len fits long passed.within refl passed.trailing in
+    let body_fits = AreBytes-take (len - 4 - 8) (drop 8 bytes) (AreBytes-drop 8 bytes fits) in
+    holds_block section order (word32_at section.order bytes 0) len bytes body (drop len bytes)
+    (block_of section.interfaces order kind (word32_at section.order bytes 0) body)
+    (holds_with section kind bytes len fits is body_fits front.0 front.1 passed)
+    (omega (arith, front.0, long)) passed.most passed.whole front.2
+
+block_reads : (section : Section) (bytes : List ℕ) → AreBytes bytes → first_row (block_rows section bytes) ≡ None
+    → IsBlock section bytes (block_read section bytes)
+block_reads section bytes fits none =
+    let kind = kind_in section.order bytes in
+    let order = order_in section.order bytes in
+    reads_with section kind bytes fits refl
+    (passes section.order section.interfaces order kind (word32_at Big bytes 8) (word32_at order bytes 4) bytes none)
+
+-- ---- what is a block
+
+abbrev block_kind : PlainBlock → BlockKind
+block_kind (header plain) = SectionHeader
+block_kind (interface plain) = InterfaceDescription
+block_kind (enhanced plain) = EnhancedPacket
+block_kind (simple plain) = SimplePacket
+block_kind (other plain) = Other
+
+number_fits : (section : Section) (block : PlainBlock) → FitsContent section block → block_number block < 2 ^ 32
+number_fits section (header plain) fits = omega arith
+number_fits section (interface plain) fits = omega arith
+number_fits section (enhanced plain) fits = omega arith
+number_fits section (simple plain) fits = omega arith
+number_fits section (other plain) fits = fits.number
+
+kind_of_block : (section : Section) (block : PlainBlock) → FitsContent section block
+    → kind_of (block_number block) ≡ block_kind block
+kind_of_block section (header plain) fits = refl
+kind_of_block section (interface plain) fits = refl
+kind_of_block section (enhanced plain) fits = refl
+kind_of_block section (simple plain) fits = refl
+kind_of_block section (other plain) fits = fits.kind
+
+number_written : (before : ByteOrder) (block : PlainBlock)
+    → word32 (block_order before block) (block_number block) ≡ word32 before (block_number block)
+number_written before (header plain) = sym (section_number plain.order before)
+number_written before (interface plain) = refl
+number_written before (enhanced plain) = refl
+number_written before (simple plain) = refl
+number_written before (other plain) = refl
+
+-- the byte order of a block is read
+order_read : (section : Section) (block : PlainBlock) (bytes behind : List ℕ)
+    → drop 8 bytes ≡ block_body (block_order section.order block) block ++ behind
+    → (order_of section.order (block_kind block) (word32_at Big bytes 8) ≡ block_order section.order block)
+    × (has_no_order section.order (block_kind block) (word32_at Big bytes 8) ≡ false)
+order_read section (header plain) bytes behind parts =
+    let order = plain.order in
+    let rest = word16 order 1 ++ word16 order plain.minor ++ plain.behind ++ behind in
+    let all : drop 8 bytes ≡ word32 order 0x1a2b3c4d ++ rest = parts ∙ simp append_assoc in
+    let magic : word32_at Big bytes 8 ≡ word32_at Big (word32 order 0x1a2b3c4d ++ rest) 0 =
+    sym (word32_at-drop Big bytes 8) ∙ ap (λ (s : List ℕ). word32_at Big s 0) all in
+    let said : order_said (word32_at Big bytes 8) ≡ Some order = ap order_said magic ∙ magic_read order rest in (
+      ap (order_or section.order) said,
+      ap (λ (o : Option ByteOrder). not (is_some o)) said,
+    )
+order_read section (interface plain) bytes behind parts = (refl, refl)
+order_read section (enhanced plain) bytes behind parts = (refl, refl)
+order_read section (simple plain) bytes behind parts = (refl, refl)
+order_read section (other plain) bytes behind parts = (refl, refl)
+
+-- what a block holds is read
+record IsHeld (section : Section) (block : PlainBlock) (number len : ℕ) (body : List ℕ) : Type 0 where
+  none : first_row (body_rows section.interfaces (block_order section.order block) (block_kind block) len body) ≡ None
+  is : block_of section.interfaces (block_order section.order block) (block_kind block) number body ≡ block
+  least : least_len (block_kind block) ≤ 12 + length body
+
+held : (section : Section) (block : PlainBlock) (len : ℕ) (body : List ℕ) → FitsContent section block
+    → body ≡ block_body (block_order section.order block) block
+    → IsHeld section block (block_number block) len body
+held section (header plain) len body fits is =
+    let read = header_is_read plain.order len section.interfaces plain body fits is in
+    record { none = read.0; is = ap (λ p. header p) read.1; least = omega (arith, read.2) }
+held section (interface plain) len body fits is =
+    let read = interface_is_read section.order section.interfaces len plain body fits is in
+    record { none = read.0; is = ap (λ p. interface p) read.1; least = omega (arith, read.2) }
+held section (enhanced plain) len body fits is =
+    let read = enhanced_is_read section len plain body fits is in
+    record { none = read.0; is = ap (λ p. enhanced p) read.1; least = omega (arith, read.2) }
+held section (simple plain) len body fits is =
+    let read = simple_is_read section len plain body fits is in
+    record { none = read.0; is = ap (λ p. simple p) read.1; least = omega (arith, read.2) }
+held section (other plain) len body fits is = record {
+  none = refl;
+  is = ap (λ (s : List ℕ). other (record { kind = plain.kind; body = s })) is;
+  least = omega arith;
+}
+
+-- what stands in a block's bytes is found there
+record Framed (section : Section) (block : PlainBlock) (bytes rest : List ℕ) : Type 0 where
+  number : word32_at section.order bytes 0 ≡ block_number block
+  order : order_in section.order bytes ≡ block_order section.order block
+  kind : kind_in section.order bytes ≡ block_kind block
+  known : has_no_order section.order (block_kind block) (word32_at Big bytes 8) ≡ false
+  len : word32_at (block_order section.order block) bytes 4 ≡ block_len (block_order section.order block) block
+  body : slice_range bytes 8 (block_len (block_order section.order block) block - 4)
+      ≡ block_body (block_order section.order block) block
+  trailing : word32_at (block_order section.order block) bytes (block_len (block_order section.order block) block - 4)
+      ≡ block_len (block_order section.order block) block
+  behind : drop (block_len (block_order section.order block) block) bytes ≡ rest
+  long : length bytes ≡ block_len (block_order section.order block) block + length rest
+
+framed : (section : Section) (block : PlainBlock) (bytes rest : List ℕ) → IsBlock section bytes (block, rest)
+    → Framed section block bytes rest
+framed section block bytes rest is =
+    let before = section.order in
+    let order = block_order before block in
+    let number = block_number block in
+    let len = block_len order block in
+    let body = block_body order block in
+    let len_fits : len < 2 ^ 32 = omega (arith, is.fits.len) in
+    let parts = is.parts ∙ block_parts before block rest in
+    let tail = word32 order len ++ (body ++ (word32 order len ++ rest)) in
+    let first = word32_read before number 0 bytes tail (number_fits section block is.fits.content)
+    (parts ∙ ap (λ (s : List ℕ). s ++ tail) (number_written before block)) in
+    let second = word32_read order len 4 bytes (body ++ (word32 order len ++ rest)) len_fits first.1 in
+    let third = range_read bytes body (word32 order len ++ rest) 8 (length body) second.1 refl in
+    let place : len - 4 ≡ 8 + length body = omega arith in
+    let end : len ≡ 8 + length body + 4 = omega arith in
+    let last = word32_read order len (8 + length body) bytes rest len_fits third.1 in
+    let kind : kind_in before bytes ≡ block_kind block =
+    ap kind_of first.0 ∙ kind_of_block section block is.fits.content in
+    let said = order_read section block bytes (word32 order len ++ rest) second.1 in
+    let size : length bytes ≡ 4 + (4 + (length body + (4 + length rest))) =
+    ap length parts ∙ length-append (word32 order number) tail
+    ∙ ap (λ (n : ℕ). n + length tail) (length-word32 order number)
+    ∙ ap (λ (n : ℕ). 4 + n) (length-append (word32 order len) (body ++ (word32 order len ++ rest))
+    ∙ ap (λ (n : ℕ). n + length (body ++ (word32 order len ++ rest))) (length-word32 order len)
+    ∙ ap (λ (n : ℕ). 4 + n) (length-append body (word32 order len ++ rest)
+    ∙ ap (λ (n : ℕ). length body + n) (length-append (word32 order len) rest
+    ∙ ap (λ (n : ℕ). n + length rest) (length-word32 order len)))) in
+    record {
+      number = first.0;
+      order = ap (λ k. order_of before k (word32_at Big bytes 8)) kind ∙ said.0;
+      kind = kind;
+      known = said.1;
+      len = second.0;
+      body = ap (slice_range bytes 8) place ∙ third.0;
+      trailing = ap (word32_at order bytes) place ∙ last.0;
+      behind = ap (λ (n : ℕ). drop n bytes) end ∙ last.1;
+      long = omega (arith, size);
+    }
+
+block_is_read : (section : Section) (bytes : List ℕ) (value : PlainBlock × List ℕ) → IsBlock section bytes value
+    → (first_row (block_rows section bytes) ≡ None) × (value ≡ block_read section bytes)
+block_is_read section bytes (block, rest) is =
+    let interfaces = section.interfaces in
+    let order = block_order section.order block in
+    let kind = block_kind block in
+    let len = block_len order block in
+    let magic = word32_at Big bytes 8 in
+    let found = framed section block bytes rest is in
+    let content = held section block len (slice_range bytes 8 (len - 4)) is.fits.content found.body in
+    let body_len = ap length found.body in
+    let len_is : word32_at (order_in section.order bytes) bytes 4 ≡ len =
+    ap (λ o. word32_at o bytes 4) found.order ∙ found.len in
+    let passed : Passes section.order interfaces order kind magic len bytes = record {
+      long = omega (arith, found.long);
+      known = found.known;
+      least = omega (arith, content.least, body_len);
+      whole = whole_by_4 (length (block_body order block)) is.fits.whole;
+      most = is.fits.len;
+      within = omega (arith, found.long);
+      trailing = found.trailing;
+      body = content.none;
+    } in
+    let rows : block_rows section bytes ≡ rows_of section.order interfaces order kind magic len bytes =
+    λ i. rows_of section.order interfaces (found.order i) (found.kind i) magic (len_is i) bytes in
+    let same : block_of interfaces order kind (word32_at section.order bytes 0) (slice_range bytes 8 (len - 4)) ≡ block =
+    ap (λ (n : ℕ). block_of interfaces order kind n (slice_range bytes 8 (len - 4))) found.number ∙ content.is in
+    let read : block_in section bytes
+    ≡ block_of interfaces order kind (word32_at section.order bytes 0) (slice_range bytes 8 (len - 4)) =
+    λ i. block_of interfaces (found.order i) (found.kind i) (word32_at section.order bytes 0)
+    (slice_range bytes 8 (len_is i - 4)) in (
+      ap first_row rows
+          ∙ none_of section.order interfaces order kind magic len bytes passed,
+      λ i. (sym (read ∙ same) i, sym (ap (λ (n : ℕ). drop n bytes) len_is ∙ found.behind) i),
+    )
+
+-- the number that a block begins with
+pub number_of_block : (section : Section) (block : PlainBlock) (bytes rest : List ℕ) → IsBlock section bytes (block, rest)
+    → (word32_at section.order bytes 0 ≡ block_number block) × (12 ≤ length bytes)
+number_of_block section block bytes rest is =
+    let found = framed section block bytes rest is in (found.number, omega (arith, found.long))
+
+-- a block has a byte at least
+pub block_some : (before : ByteOrder) (block : PlainBlock) → 0 < length (block_bytes before block)
+block_some before block =
+    let order = block_order before block in
+    let tail = word32 order (block_len order block) ++ (block_body order block
+    ++ (word32 order (block_len order block) ++ [])) in
+    omega (
+      arith,
+      ap length (block_parts before block []),
+      length-append (block_bytes before block) [],
+      length-append (word32 order (block_number block)) tail,
+      length-word32 order (block_number block),
+    )
+
+-- the block that begins a section has its number, and shows no packet
+pub section_block : (one : PlainBlock) → BeginsSection one → block_number one ≡ 0x0a0d0d0a
+section_block (header plain) begins = refl
+section_block (interface plain) begins = absurd begins
+section_block (enhanced plain) begins = absurd begins
+section_block (simple plain) begins = absurd begins
+section_block (other plain) begins = absurd begins
+
+pub shows_none : (interfaces : List Interface) (one : PlainBlock) → BeginsSection one → block_shown interfaces one ≡ None
+shows_none interfaces (header plain) begins = refl
+shows_none interfaces (interface plain) begins = absurd begins
+shows_none interfaces (enhanced plain) begins = absurd begins
+shows_none interfaces (simple plain) begins = absurd begins
+shows_none interfaces (other plain) begins = absurd begins
+
+-- blocks are decided
+pub block_is_read_by : (section : Section) → IsReadBy (IsBlock section) (block_rows section) (block_read section)
+block_is_read_by section = record { reads = block_reads section; is_read = block_is_read section }

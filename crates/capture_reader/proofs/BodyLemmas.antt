@@ -1,0 +1,370 @@
+-- What blocks hold is read in one way.
+use Rattle.std.proofs.Common.{◌≡◌, ℕ, ◌+◌, ◌-◌, ◌^◌, ◌<◌, ◌≤◌, ◌==◌, Bool, true, false, not, nat_lt, if◌then◌else◌}
+use Rattle.std.proofs.Common.{List, [], ◌∷◌, ◌++◌, Option, Some, None, length, drop, slice_range}
+use Rattle.std.proofs.Common.{get_or, refl, sym, ap, ◌∙◌, append_assoc, length-append, length-drop, arith}
+use Rattle.std.proofs.lemmas.Bool.{eq-eqb, eqb-true, le-ltb, lt-ltb, ltb-false, ltb-true, not-false, not_from_true}
+use Rattle.std.proofs.lemmas.Option.{none-some}
+use Rattle.ep_base.specs.Bytes.{AreBytes}
+use Rattle.ep_base.specs.Tables.{first_row}
+use Rattle.ep_base.proofs.BytesLemmas.{AreBytes-drop}
+use Rattle.capture_reader.specs.Numbers.{word16, word16_at, word32, word32_at}
+use Rattle.capture_reader.specs.Classic.{most_kept}
+use Rattle.capture_reader.specs.Options.{ends_options, has_len, knows_resolution, options_bytes}
+use Rattle.capture_reader.specs.Options.{padding_of, resolution_said, value_of}
+use Rattle.capture_reader.specs.Blocks.{FitsEnhanced, FitsHeader, FitsInterface, FitsSimple}
+use Rattle.capture_reader.specs.Blocks.{PlainEnhanced, PlainHeader, PlainInterface, PlainSimple}
+use Rattle.capture_reader.specs.Blocks.{header, interface, enhanced, simple, Section, block_body}
+use Rattle.capture_reader.specs.Blocks.{body_rows, enhanced_of, header_of, interface_read, kept_rows}
+use Rattle.capture_reader.specs.Blocks.{options_rows, said_rows, simple_kept, simple_of}
+use Rattle.capture_reader.specs.declared.block.BlockKind.TheVariants.{SectionHeader, InterfaceDescription, SimplePacket}
+use Rattle.capture_reader.specs.declared.block.BlockKind.TheVariants.{EnhancedPacket}
+use Rattle.capture_reader.specs.declared.byte_order.ByteOrder.{ByteOrder}
+use Rattle.capture_reader.specs.declared.byte_order.ByteOrder.TheVariants.{Big}
+use Rattle.capture_reader.specs.declared.interface.Interface.{Interface}
+use Rattle.capture_reader.specs.declared.refusal.Refusal.{Refusal}
+use Rattle.capture_reader.specs.declared.refusal.Refusal.TheVariants as refusal
+use Rattle.capture_reader.proofs.NumberLemmas.{length-word16, length-word32, length-words_then, range_front}
+use Rattle.capture_reader.proofs.NumberLemmas.{range_read, word16_at-fits, word16_front, word16_read, word32_at-fits}
+use Rattle.capture_reader.proofs.NumberLemmas.{word32_front, word32_read, words_front, words_read, words_then}
+use Rattle.capture_reader.proofs.OptionLemmas.{ends_stuck, one_parse, parsed}
+
+-- ---- rows, one by one
+
+-- where no row refuses, the first does not, and no other does
+pub row_none : (condition : Bool) (error : Refusal) (others : Option Refusal)
+    → (if condition then Some error else others) ≡ None → (condition ≡ false) × (others ≡ None)
+row_none true error others none = absurd (none-some error (sym none))
+row_none false error others none = (refl, none)
+
+-- past a row whose condition does not hold
+pub row_pass : (condition : Bool) (error : Refusal) (others : Option Refusal) → condition ≡ false
+    → (if condition then Some error else others) ≡ others
+row_pass condition error others pass = ap (λ (c : Bool). if c then Some error else others) pass
+
+-- the first row that holds
+pub row_hit : (condition : Bool) (error : Refusal) (others : Option Refusal) → condition ≡ true
+    → (if condition then Some error else others) ≡ Some error
+row_hit condition error others hit = ap (λ (c : Bool). if c then Some error else others) hit
+
+-- ---- the bytes of a packet, and what fills them up
+
+-- what stands from i on: so many bytes, what fills them up, and what stands behind
+pub kept_front : (body : List ℕ) (i kept : ℕ) → i + kept + padding_of kept ≤ length body
+    → (length (slice_range body i (i + kept)) ≡ kept)
+    × (length (slice_range body (i + kept) (i + kept + padding_of kept)) ≡ padding_of kept)
+    × (drop i body ≡ slice_range body i (i + kept) ++ (slice_range body (i + kept) (i + kept + padding_of kept)
+    ++ drop (i + kept + padding_of kept) body))
+kept_front body i kept within =
+    let bytes = range_front body i kept (omega (arith, within)) in
+    let padding = range_front body (i + kept) (padding_of kept) within in (
+      bytes.0,
+      padding.0,
+      bytes.1 ∙ ap (λ (s : List ℕ). slice_range body i (i + kept) ++ s) padding.1,
+    )
+
+-- the same, found there
+record FindsKept (body : List ℕ) (i kept : ℕ) (bytes padding behind : List ℕ) : Type 0 where
+  bytes_is : slice_range body i (i + kept) ≡ bytes
+  padding_is : slice_range body (i + kept) (i + kept + padding_of kept) ≡ padding
+  behind_is : drop (i + kept + padding_of kept) body ≡ behind
+  within : i + kept + padding_of kept ≤ length body
+
+kept_read : (body bytes padding behind : List ℕ) (i kept : ℕ) → i ≤ length body
+    → drop i body ≡ bytes ++ (padding ++ behind) → kept ≡ length bytes → length padding ≡ padding_of (length bytes)
+    → FindsKept body i kept bytes padding behind
+kept_read body bytes padding behind i kept long parts len filled =
+    let same : padding_of kept ≡ length padding = ap padding_of len ∙ sym filled in
+    let first = range_read body bytes (padding ++ behind) i kept parts len in
+    let second = range_read body padding behind (i + kept) (padding_of kept) first.1 same in
+    let size : length body - i ≡ length bytes + (length padding + length behind) =
+    sym (length-drop i body) ∙ ap length parts ∙ length-append bytes (padding ++ behind)
+    ∙ ap (λ (n : ℕ). length bytes + n) (length-append padding behind) in
+    record {
+      bytes_is = first.0;
+      padding_is = second.0;
+      behind_is = second.1;
+      within = omega (arith, long, size, len, same);
+    }
+
+-- the rows of a packet
+pub kept_facts : (len before kept there : ℕ) → first_row (kept_rows len before kept there) ≡ None
+    → (kept ≤ most_kept) × (before + kept + padding_of kept ≤ there)
+kept_facts len before kept there none =
+    let long = row_none (nat_lt most_kept kept) (refusal.PacketTooLong kept) _ none in
+    let past = row_none (nat_lt there (before + kept + padding_of kept)) (refusal.BlockLength len) _ long.1 in
+    (ltb-false most_kept kept long.0, ltb-false there (before + kept + padding_of kept) past.0)
+
+pub kept_none : (len before kept there : ℕ) → kept ≤ most_kept → before + kept + padding_of kept ≤ there
+    → first_row (kept_rows len before kept there) ≡ None
+kept_none len before kept there few within =
+    row_pass (nat_lt most_kept kept) (refusal.PacketTooLong kept) _ (le-ltb most_kept kept few)
+    ∙ row_pass (nat_lt there (before + kept + padding_of kept)) (refusal.BlockLength len) _
+    (le-ltb there (before + kept + padding_of kept) within)
+
+-- ---- the header of a section
+
+header_parts : (order : ByteOrder) (plain : PlainHeader)
+    → block_body order (header plain)
+    ≡ word32 plain.order 0x1a2b3c4d ++ (word16 plain.order 1 ++ (word16 plain.order plain.minor ++ plain.behind))
+header_parts order plain = simp append_assoc
+
+pub header_reads : (before order : ByteOrder) (len : ℕ) (body : List ℕ) → AreBytes body → 16 ≤ length body
+    → word32 Big (word32_at Big body 0) ≡ word32 order 0x1a2b3c4d
+    → first_row (body_rows [] order SectionHeader len body) ≡ None
+    → FitsHeader (header_of order body) × (body ≡ block_body before (header (header_of order body)))
+header_reads before order len body fits long magic none =
+    let plain = header_of order body in
+    let row = row_none (not (word16_at order body 4 == 1))
+    (refusal.UnsupportedVersion (word16_at order body 4) (word16_at order body 6)) _ none in
+    let major : word16_at order body 4 ≡ 1 = eqb-true (word16_at order body 4) 1 (not-false (word16_at order body 4 == 1) row.0) in
+    let second : drop 4 body ≡ word16 order 1 ++ drop 6 body =
+    word16_front order body 4 fits (omega arith) ∙ ap (λ (n : ℕ). word16 order n ++ drop 6 body) major in
+    let third : drop 6 body ≡ word16 order plain.minor ++ drop 8 body = word16_front order body 6 fits (omega arith) in (
+      record { minor = word16_at-fits order body 6 fits; behind = omega (arith, length-drop 8 body) },
+      word32_front Big body 0 fits (omega arith)
+          ∙ ap (λ (s : List ℕ). s ++ drop 4 body) magic
+          ∙ ap (λ (s : List ℕ). word32 order 0x1a2b3c4d ++ s)
+          (second ∙ ap (λ (s : List ℕ). word16 order 1 ++ s) third)
+          ∙ sym (header_parts before plain),
+    )
+
+pub header_is_read : (before : ByteOrder) (len : ℕ) (interfaces : List Interface) (plain : PlainHeader) (body : List ℕ)
+    → FitsHeader plain → body ≡ block_body before (header plain)
+    → (first_row (body_rows interfaces plain.order SectionHeader len body) ≡ None)
+    × (header_of plain.order body ≡ plain) × (16 ≤ length body)
+header_is_read before len interfaces plain body fits is =
+    let order = plain.order in
+    let parts = is ∙ header_parts before plain in
+    let magic = word32_read order 0x1a2b3c4d 0 body _ (omega arith) parts in
+    let major = word16_read order 1 4 body _ (omega arith) magic.1 in
+    let minor = word16_read order plain.minor 6 body plain.behind fits.minor major.1 in (
+      row_pass (not (word16_at order body 4 == 1))
+          (refusal.UnsupportedVersion (word16_at order body 4) (word16_at order body 6)) _
+          (not_from_true (word16_at order body 4 == 1) (eq-eqb (word16_at order body 4) 1 major.0)),
+      λ i. record { order = order; minor = minor.0 i; behind = minor.1 i },
+      omega (arith, ap length minor.1, length-drop 8 body, fits.behind),
+    )
+
+-- ---- the description of an interface
+
+interface_parts : (order : ByteOrder) (plain : PlainInterface)
+    → block_body order (interface plain)
+    ≡ word16 order plain.link_type ++ (word16 order plain.reserved ++ (word32 order plain.snap_len
+    ++ (options_bytes order plain.options ++ plain.ending)))
+interface_parts order plain = simp append_assoc
+
+pub interface_reads : (order : ByteOrder) (interfaces : List Interface) (len : ℕ) (body : List ℕ) → AreBytes body
+    → 8 ≤ length body → first_row (body_rows interfaces order InterfaceDescription len body) ≡ None
+    → FitsInterface order (interface_read order body)
+    × (body ≡ block_body order (interface (interface_read order body)))
+interface_reads order interfaces len body fits long none =
+    let plain = interface_read order body in
+    let options = parsed order (drop 8 body) (AreBytes-drop 8 body fits) in
+    let said = value_of 9 plain.options in
+    let ends = row_none (not (ends_options order plain.ending)) _ _ none in
+    let first_len = row_none (not (has_len 1 said)) _ _ ends.1 in
+    let second_len = row_none (not (has_len 8 (value_of 14 plain.options))) _ _ first_len.1 in
+    let known = row_none (not (knows_resolution (resolution_said said))) _ _ second_len.1 in
+    let second : drop 2 body ≡ word16 order plain.reserved ++ drop 4 body = word16_front order body 2 fits (omega arith) in
+    let third : drop 4 body ≡ word32 order plain.snap_len ++ drop 8 body = word32_front order body 4 fits (omega arith) in (
+      record {
+        link_type = word16_at-fits order body 0 fits;
+        reserved = word16_at-fits order body 2 fits;
+        snap_len = word32_at-fits order body 4 fits;
+        options = options.are;
+        ending = not-false (ends_options order plain.ending) ends.0;
+        resolution_len = not-false (has_len 1 said) first_len.0;
+        resolution = not-false (knows_resolution (resolution_said said)) known.0;
+        offset_len = not-false (has_len 8 (value_of 14 plain.options)) second_len.0;
+      },
+      word16_front order body 0 fits (omega arith)
+          ∙ ap (λ (s : List ℕ). word16 order plain.link_type ++ s)
+          (second ∙ ap (λ (s : List ℕ). word16 order plain.reserved ++ s)
+          (third ∙ ap (λ (s : List ℕ). word32 order plain.snap_len ++ s) options.parts))
+          ∙ sym (interface_parts order plain),
+    )
+
+pub interface_is_read : (order : ByteOrder) (interfaces : List Interface) (len : ℕ) (plain : PlainInterface)
+    (body : List ℕ) → FitsInterface order plain → body ≡ block_body order (interface plain)
+    → (first_row (body_rows interfaces order InterfaceDescription len body) ≡ None)
+    × (interface_read order body ≡ plain) × (8 ≤ length body)
+interface_is_read order interfaces len plain body fits is =
+    let parts = is ∙ interface_parts order plain in
+    let link = word16_read order plain.link_type 0 body _ fits.link_type parts in
+    let reserved = word16_read order plain.reserved 2 body _ fits.reserved link.1 in
+    let snap = word32_read order plain.snap_len 4 body _ fits.snap_len reserved.1 in
+    let options = one_parse order (drop 8 body) plain.options plain.ending (record {
+      are = fits.options;
+      parts = snap.1;
+      stuck = ends_stuck order plain.ending fits.ending;
+    }) in
+    let rows = said_rows (ends_options order plain.ending) (value_of 9 plain.options) (value_of 14 plain.options) in
+    let said = value_of 9 plain.options in
+    let none : first_row rows ≡ None =
+    row_pass (not (ends_options order plain.ending)) _ _ (not_from_true (ends_options order plain.ending) fits.ending)
+    ∙ row_pass (not (has_len 1 said)) _ _ (not_from_true (has_len 1 said) fits.resolution_len)
+    ∙ row_pass (not (has_len 8 (value_of 14 plain.options))) _ _
+    (not_from_true (has_len 8 (value_of 14 plain.options)) fits.offset_len)
+    ∙ row_pass (not (knows_resolution (resolution_said said))) _ _
+    (not_from_true (knows_resolution (resolution_said said)) fits.resolution) in
+    let same_rows : options_rows order (drop 8 body) ≡ rows =
+    λ i. said_rows (ends_options order (options.1 i)) (value_of 9 (options.0 i)) (value_of 14 (options.0 i)) in
+    let size : length body
+    ≡ length (word16 order plain.link_type) + (length (word16 order plain.reserved) + (length (word32 order plain.snap_len)
+    + length (options_bytes order plain.options ++ plain.ending))) =
+    ap length parts ∙ length-append (word16 order plain.link_type) _
+    ∙ ap (λ (n : ℕ). length (word16 order plain.link_type) + n) (length-append (word16 order plain.reserved) _
+    ∙ ap (λ (n : ℕ). length (word16 order plain.reserved) + n) (length-append (word32 order plain.snap_len) _)) in (
+      ap first_row same_rows ∙ none,
+      λ i. record {
+        link_type = link.0 i;
+        reserved = reserved.0 i;
+        snap_len = snap.0 i;
+        options = options.0 i;
+        ending = options.1 i;
+      },
+      omega (
+        arith,
+        size,
+        length-word16 order plain.link_type,
+        length-word16 order plain.reserved,
+        length-word32 order plain.snap_len,
+      ),
+    )
+
+-- ---- packets
+
+abbrev enhanced_words : PlainEnhanced → List ℕ
+enhanced_words plain =
+    plain.number ∷ plain.high ∷ plain.low ∷ length plain.bytes ∷ plain.original_len ∷ []
+
+enhanced_parts : (order : ByteOrder) (plain : PlainEnhanced)
+    → block_body order (enhanced plain)
+    ≡ words_then order (enhanced_words plain) (plain.bytes ++ (plain.padding ++ plain.options))
+enhanced_parts order plain = simp append_assoc
+
+pub enhanced_reads : (section : Section) (len : ℕ) (body : List ℕ) → AreBytes body → 20 ≤ length body
+    → first_row (body_rows section.interfaces section.order EnhancedPacket len body) ≡ None
+    → FitsEnhanced section (enhanced_of section.order body)
+    × (body ≡ block_body section.order (enhanced (enhanced_of section.order body)))
+enhanced_reads section len body fits long none =
+    let order = section.order in
+    let plain = enhanced_of order body in
+    let kept = word32_at order body 12 in
+    let number = word32_at order body 0 in
+    let described = row_none (not (nat_lt number (length section.interfaces))) _ _ none in
+    let facts = kept_facts len 20 kept (length body) described.1 in
+    let front = kept_front body 20 kept facts.1 in
+    let Words : ℕ → List ℕ → List ℕ = λ n s.
+    words_then order (plain.number ∷ plain.high ∷ plain.low ∷ n ∷ plain.original_len ∷ []) s in (
+      record {
+        numbered = word32_at-fits order body 0 fits;
+        described = ltb-true number (length section.interfaces)
+            (not-false (nat_lt number (length section.interfaces)) described.0);
+        high = word32_at-fits order body 4 fits;
+        low = word32_at-fits order body 8 fits;
+        original_len = word32_at-fits order body 16 fits;
+        kept = omega (arith, front.0, facts.0);
+        padding = front.1 ∙ ap padding_of (sym front.0);
+      },
+      words_front order 5 0 body fits long ∙ ap (Words kept) front.2
+          ∙ ap (λ (n : ℕ). Words n (plain.bytes ++ (plain.padding ++ plain.options))) (sym front.0)
+          ∙ sym (enhanced_parts order plain),
+    )
+
+pub enhanced_is_read : (section : Section) (len : ℕ) (plain : PlainEnhanced) (body : List ℕ)
+    → FitsEnhanced section plain → body ≡ block_body section.order (enhanced plain)
+    → (first_row (body_rows section.interfaces section.order EnhancedPacket len body) ≡ None)
+    × (enhanced_of section.order body ≡ plain) × (20 ≤ length body)
+enhanced_is_read section len plain body fits is =
+    let order = section.order in
+    let behind = plain.bytes ++ (plain.padding ++ plain.options) in
+    let few : length plain.bytes < 2 ^ 32 = omega (arith, fits.kept) in
+    let parts = is ∙ enhanced_parts order plain in
+    let read = words_read order (enhanced_words plain) 0 body behind
+    (fits.numbered, (fits.high, (fits.low, (few, (fits.original_len, tt))))) parts in
+    let number : word32_at order body 0 ≡ plain.number = ap (λ (s : List ℕ). get_or s 0 0) read.0 in
+    let high : word32_at order body 4 ≡ plain.high = ap (λ (s : List ℕ). get_or s 1 0) read.0 in
+    let low : word32_at order body 8 ≡ plain.low = ap (λ (s : List ℕ). get_or s 2 0) read.0 in
+    let kept : word32_at order body 12 ≡ length plain.bytes = ap (λ (s : List ℕ). get_or s 3 0) read.0 in
+    let original : word32_at order body 16 ≡ plain.original_len = ap (λ (s : List ℕ). get_or s 4 0) read.0 in
+    let long : 20 ≤ length body =
+    omega (arith, ap length parts, length-words_then order (enhanced_words plain) behind) in
+    let found = kept_read body plain.bytes plain.padding plain.options 20 (word32_at order body 12) long read.1 kept
+    fits.padding in
+    let described : nat_lt (word32_at order body 0) (length section.interfaces) ≡ true =
+    lt-ltb (word32_at order body 0) (length section.interfaces) (omega (arith, number, fits.described)) in (
+      row_pass (not (nat_lt (word32_at order body 0) (length section.interfaces))) _ _
+          (not_from_true (nat_lt (word32_at order body 0) (length section.interfaces)) described)
+          ∙ kept_none len 20 (word32_at order body 12) (length body) (omega (arith, kept, fits.kept)) found.within,
+      λ i. record {
+        number = number i;
+        high = high i;
+        low = low i;
+        original_len = original i;
+        bytes = found.bytes_is i;
+        padding = found.padding_is i;
+        options = found.behind_is i;
+      },
+      long,
+    )
+
+simple_parts : (order : ByteOrder) (plain : PlainSimple)
+    → block_body order (simple plain)
+    ≡ word32 order plain.original_len ++ (plain.bytes ++ (plain.padding ++ plain.behind))
+simple_parts order plain = simp append_assoc
+
+pub simple_reads : (section : Section) (len : ℕ) (body : List ℕ) → AreBytes body → 4 ≤ length body
+    → first_row (body_rows section.interfaces section.order SimplePacket len body) ≡ None
+    → FitsSimple section (simple_of section.interfaces section.order body)
+    × (body ≡ block_body section.order (simple (simple_of section.interfaces section.order body)))
+simple_reads section len body fits long none =
+    let order = section.order in
+    let plain = simple_of section.interfaces order body in
+    let kept = simple_kept section.interfaces (word32_at order body 0) in
+    let described = row_none (not (nat_lt 0 (length section.interfaces))) _ _ none in
+    let facts = kept_facts len 4 kept (length body) described.1 in
+    let front = kept_front body 4 kept facts.1 in (
+      record {
+        described = ltb-true 0 (length section.interfaces) (not-false (nat_lt 0 (length section.interfaces)) described.0);
+        original_len = word32_at-fits order body 0 fits;
+        bytes = front.0;
+        kept = omega (arith, front.0, facts.0);
+        padding = front.1 ∙ ap padding_of (sym front.0);
+      },
+      word32_front order body 0 fits long ∙ ap (λ (s : List ℕ). word32 order plain.original_len ++ s) front.2
+          ∙ sym (simple_parts order plain),
+    )
+
+pub simple_is_read : (section : Section) (len : ℕ) (plain : PlainSimple) (body : List ℕ) → FitsSimple section plain
+    → body ≡ block_body section.order (simple plain)
+    → (first_row (body_rows section.interfaces section.order SimplePacket len body) ≡ None)
+    × (simple_of section.interfaces section.order body ≡ plain) × (4 ≤ length body)
+simple_is_read section len plain body fits is =
+    let order = section.order in
+    let interfaces = section.interfaces in
+    let parts = is ∙ simple_parts order plain in
+    let read = word32_read order plain.original_len 0 body _ fits.original_len parts in
+    let kept : simple_kept interfaces (word32_at order body 0) ≡ length plain.bytes =
+    ap (simple_kept interfaces) read.0 ∙ sym fits.bytes in
+    let long : 4 ≤ length body =
+    omega (
+      arith,
+      ap length parts,
+      length-append (word32 order plain.original_len) (plain.bytes ++ (plain.padding ++ plain.behind)),
+      length-word32 order plain.original_len,
+    ) in
+    let found = kept_read body plain.bytes plain.padding plain.behind 4 (simple_kept interfaces (word32_at order body 0))
+    long read.1 kept fits.padding in
+    let described : nat_lt 0 (length interfaces) ≡ true = lt-ltb 0 (length interfaces) fits.described in (
+      row_pass (not (nat_lt 0 (length interfaces))) _ _ (not_from_true (nat_lt 0 (length interfaces)) described)
+          ∙ kept_none len 4 (simple_kept interfaces (word32_at order body 0)) (length body)
+          (omega (arith, kept, fits.kept)) found.within,
+      λ i. record {
+        original_len = read.0 i;
+        bytes = found.bytes_is i;
+        padding = found.padding_is i;
+        behind = found.behind_is i;
+      },
+      long,
+    )

@@ -1,0 +1,40 @@
+-- The description of an interface, as it was read.
+use Rattle.std.proofs.Common.{◌≡◌, ℕ, ℤ, Bool, List, Option, drop, sym, ap, ◌∙◌}
+use Rattle.capture_reader.specs.Numbers.{word16_at, word32_at}
+use Rattle.capture_reader.specs.Blocks.{interface_of, interface_read, options_rows, said_rows}
+use Rattle.capture_reader.specs.Options.{ends_options, offset_said, options_end, options_of, per_second_of}
+use Rattle.capture_reader.specs.Options.{resolution_said, value_of}
+use Rattle.capture_reader.specs.declared.byte_order.ByteOrder.{ByteOrder}
+use Rattle.capture_reader.specs.declared.interface.Interface.{Interface}
+
+-- what options say, of which a block's body has these
+pub record Said (order : ByteOrder) (body options : List ℕ) (ended : Bool) (resolution offset : Option (List ℕ)) : Type 0 where
+  pub options_are : options ≡ drop 8 body
+  pub resolution_is : resolution ≡ value_of 9 (options_of order options)
+  pub offset_is : offset ≡ value_of 14 (options_of order options)
+  pub ended_is : ended ≡ ends_options order (options_end order options)
+
+-- the rows are about what they say
+pub said_are : (order : ByteOrder) (body options : List ℕ) (ended : Bool) (resolution offset : Option (List ℕ))
+    → Said order body options ended resolution offset
+    → options_rows order (drop 8 body) ≡ said_rows ended resolution offset
+said_are order body options ended resolution offset said =
+    let rows : options_rows order options ≡ said_rows ended resolution offset =
+    λ i. said_rows (sym said.ended_is i) (sym said.resolution_is i) (sym said.offset_is i) in
+    ap (options_rows order) (sym said.options_are) ∙ rows
+
+-- what is known of the interface
+pub said_interface : (order : ByteOrder) (body options : List ℕ) (ended : Bool) (resolution offset : Option (List ℕ))
+    (about : Interface) → Said order body options ended resolution offset
+    → about.link_type ≡ word16_at order body 0 → about.snap_len ≡ word32_at order body 4
+    → about.per_second ≡ per_second_of (resolution_said resolution) → about.offset ≡ offset_said order offset
+    → about ≡ interface_of order (interface_read order body)
+said_interface order body options ended resolution offset about said link snap per added =
+    let Units : List ℕ → ℕ = λ s. per_second_of (resolution_said (value_of 9 (options_of order s))) in
+    let Added : List ℕ → ℤ = λ s. offset_said order (value_of 14 (options_of order s)) in
+    let Second : Option (List ℕ) → ℕ = λ value. per_second_of (resolution_said value) in
+    let units : about.per_second ≡ Units (drop 8 body) =
+    per ∙ ap Second said.resolution_is ∙ ap Units said.options_are in
+    let more : about.offset ≡ Added (drop 8 body) =
+    added ∙ ap (offset_said order) said.offset_is ∙ ap Added said.options_are in
+    λ i. record { link_type = link i; snap_len = snap i; per_second = units i; offset = more i }

@@ -1,0 +1,377 @@
+-- The newer capture format (pcapng, draft-ietf-opsawg-pcapng): sections of blocks, each of which has its length in
+-- front of what it holds, and behind it.
+use Rattle.std.specs.Prelude.{◌≡◌, ℕ, ◌+◌, ◌-◌, ◌%◌, ◌^◌, ◌<◌, ◌≤◌, ◌==◌, ◌&&◌, ◌||◌, Bool, true, not, is_some}
+use Rattle.std.specs.Prelude.{nat_lt}
+use Rattle.std.specs.Prelude.{if◌then◌else◌, List, [], ◌∷◌, ◌++◌, Option, Some, None, length, drop, slice_index_or}
+use Rattle.std.specs.Prelude.{slice_range}
+use Rattle.std.specs.Prelude.{pos}
+use Rattle.ep_base.specs.Tables.{Refuses}
+use Rattle.capture_reader.specs.Numbers.{word16, word32, word16_at, word32_at}
+use Rattle.capture_reader.specs.Classic.{most_kept}
+use Rattle.capture_reader.specs.Options.{AreOptions, PlainOption, ends_options, has_len, options_end}
+use Rattle.capture_reader.specs.Options.{knows_resolution, offset_said, options_bytes, options_of, padding_of}
+use Rattle.capture_reader.specs.Options.{per_second_of, resolution_said, value_len, value_of}
+use Rattle.capture_reader.specs.declared.block.BlockKind.{BlockKind}
+use Rattle.capture_reader.specs.declared.block.BlockKind.TheVariants.{SectionHeader, InterfaceDescription, SimplePacket}
+use Rattle.capture_reader.specs.declared.block.BlockKind.TheVariants.{EnhancedPacket, Other}
+use Rattle.capture_reader.specs.declared.byte_order.ByteOrder.{ByteOrder}
+use Rattle.capture_reader.specs.declared.byte_order.ByteOrder.TheVariants.{Big, Little}
+use Rattle.capture_reader.specs.declared.interface.Interface.{Interface}
+use Rattle.capture_reader.specs.declared.refusal.Refusal.{Refusal}
+use Rattle.capture_reader.specs.declared.refusal.Refusal.TheVariants as refusal
+
+-- ---- what blocks hold
+
+-- the header of a section (4.1): its byte order, minor version, length and options, of which nothing is read
+pub record PlainHeader : Type 0 where
+  pub order : ByteOrder
+  pub minor : ℕ
+  pub behind : List ℕ
+
+-- the description of an interface (4.2); what stands behind its options is nothing, or the end of options and any bytes
+pub record PlainInterface : Type 0 where
+  pub link_type : ℕ
+  pub reserved : ℕ
+  pub snap_len : ℕ
+  pub options : List PlainOption
+  pub ending : List ℕ
+
+-- An enhanced packet (4.3): the number of its interface, the upper and the lower half of its time, how long it was,
+-- those of its bytes that were kept, what fills them up, and options, of which nothing is read.
+pub record PlainEnhanced : Type 0 where
+  pub number : ℕ
+  pub high : ℕ
+  pub low : ℕ
+  pub original_len : ℕ
+  pub bytes : List ℕ
+  pub padding : List ℕ
+  pub options : List ℕ
+
+-- A simple packet (4.4), which has no time, and is of a section's first interface. Nothing is read of what stands
+-- behind what fills its bytes up.
+pub record PlainSimple : Type 0 where
+  pub original_len : ℕ
+  pub bytes : List ℕ
+  pub padding : List ℕ
+  pub behind : List ℕ
+
+-- a block of another kind, of which nothing is read
+pub record PlainOther : Type 0 where
+  pub kind : ℕ
+  pub body : List ℕ
+
+pub data PlainBlock : Type 0 where
+  header : PlainHeader → PlainBlock
+  interface : PlainInterface → PlainBlock
+  enhanced : PlainEnhanced → PlainBlock
+  simple : PlainSimple → PlainBlock
+  other : PlainOther → PlainBlock
+
+-- what was read of a section: its byte order, and its interfaces
+pub record Section : Type 0 where
+  pub order : ByteOrder
+  pub interfaces : List Interface
+
+-- in front of all sections
+abbrev pub no_section : Section
+no_section = record { order = Big; interfaces = [] }
+
+-- what is known of an interface
+abbrev pub interface_of : ByteOrder → PlainInterface → Interface
+interface_of order plain = record {
+  link_type = plain.link_type;
+  snap_len = plain.snap_len;
+  per_second = per_second_of (resolution_said (value_of 9 plain.options));
+  offset = offset_said order (value_of 14 plain.options);
+}
+
+-- what is known of none
+abbrev pub no_interface : Interface
+no_interface = record { link_type = 0; snap_len = 0; per_second = 0; offset = pos 0 }
+
+-- the interface of a number
+abbrev pub interface_at : List Interface → ℕ → Interface
+interface_at interfaces number = slice_index_or interfaces number no_interface
+
+-- a section, behind a block
+abbrev pub section_after : Section → PlainBlock → Section
+section_after section (header plain) = record { order = plain.order; interfaces = [] }
+section_after section (interface plain) =
+    record section { interfaces = section.interfaces ++ interface_of section.order plain ∷ [] }
+section_after section block = section
+
+-- ---- their bytes
+
+-- the number that stands for a kind
+abbrev pub number_of : BlockKind → ℕ
+number_of SectionHeader = 0x0a0d0d0a
+number_of InterfaceDescription = 1
+number_of SimplePacket = 3
+number_of EnhancedPacket = 6
+number_of Other = 0
+
+-- the kind for which a number stands
+abbrev pub kind_of : ℕ → BlockKind
+kind_of number =
+    if number == 0x0a0d0d0a then SectionHeader else
+    (if number == 1 then InterfaceDescription else
+    (if number == 3 then SimplePacket else
+    (if number == 6 then EnhancedPacket else Other)))
+
+-- the number of a block
+abbrev pub block_number : PlainBlock → ℕ
+block_number (header plain) = number_of SectionHeader
+block_number (interface plain) = number_of InterfaceDescription
+block_number (enhanced plain) = number_of EnhancedPacket
+block_number (simple plain) = number_of SimplePacket
+block_number (other plain) = plain.kind
+
+-- a section says its own byte order, and by it the blocks behind are written
+abbrev pub block_order : ByteOrder → PlainBlock → ByteOrder
+block_order order (header plain) = plain.order
+block_order order block = order
+
+-- what a block holds
+abbrev pub block_body : ByteOrder → PlainBlock → List ℕ
+block_body order (header plain) =
+    word32 plain.order 0x1a2b3c4d ++ word16 plain.order 1 ++ word16 plain.order plain.minor ++ plain.behind
+block_body order (interface plain) =
+    word16 order plain.link_type ++ word16 order plain.reserved ++ word32 order plain.snap_len
+    ++ options_bytes order plain.options ++ plain.ending
+block_body order (enhanced plain) =
+    word32 order plain.number ++ word32 order plain.high ++ word32 order plain.low
+    ++ word32 order (length plain.bytes) ++ word32 order plain.original_len
+    ++ plain.bytes ++ plain.padding ++ plain.options
+block_body order (simple plain) = word32 order plain.original_len ++ plain.bytes ++ plain.padding ++ plain.behind
+block_body order (other plain) = plain.body
+
+-- how many bytes a block has: those that it holds, and 12 around them
+abbrev pub block_len : ByteOrder → PlainBlock → ℕ
+block_len order block = 12 + length (block_body order block)
+
+-- the bytes of a block in a section of a byte order
+abbrev pub block_bytes : ByteOrder → PlainBlock → List ℕ
+block_bytes before block =
+    let order = block_order before block in
+    word32 order (block_number block) ++ word32 order (block_len order block) ++ block_body order block
+    ++ word32 order (block_len order block)
+
+-- ---- which of them may stand in a section
+
+-- the greatest number of bytes of a block, 320 KiB
+abbrev pub most_block : ℕ
+most_block = 327680
+
+-- how many bytes are kept where so many were to be at most: all, where that is 0
+abbrev pub kept_of : (most original : ℕ) → ℕ
+kept_of most original = if not (most == 0) && nat_lt most original then most else original
+
+-- how many of a simple packet, which is of the first interface
+abbrev pub simple_kept : List Interface → ℕ → ℕ
+simple_kept interfaces original = kept_of (interface_at interfaces 0).snap_len original
+
+pub record FitsHeader (plain : PlainHeader) : Type 0 where
+  pub minor : plain.minor < 2 ^ 16
+  pub behind : 8 ≤ length plain.behind
+
+pub record FitsInterface (order : ByteOrder) (plain : PlainInterface) : Type 0 where
+  pub link_type : plain.link_type < 2 ^ 16
+  pub reserved : plain.reserved < 2 ^ 16
+  pub snap_len : plain.snap_len < 2 ^ 32
+  pub options : AreOptions plain.options
+  pub ending : ends_options order plain.ending ≡ true
+  pub resolution_len : has_len 1 (value_of 9 plain.options) ≡ true
+  pub resolution : knows_resolution (resolution_said (value_of 9 plain.options)) ≡ true
+  pub offset_len : has_len 8 (value_of 14 plain.options) ≡ true
+
+pub record FitsEnhanced (section : Section) (plain : PlainEnhanced) : Type 0 where
+  pub numbered : plain.number < 2 ^ 32
+  pub described : plain.number < length section.interfaces
+  pub high : plain.high < 2 ^ 32
+  pub low : plain.low < 2 ^ 32
+  pub original_len : plain.original_len < 2 ^ 32
+  pub kept : length plain.bytes ≤ most_kept
+  pub padding : length plain.padding ≡ padding_of (length plain.bytes)
+
+pub record FitsSimple (section : Section) (plain : PlainSimple) : Type 0 where
+  pub described : 0 < length section.interfaces
+  pub original_len : plain.original_len < 2 ^ 32
+  pub bytes : length plain.bytes ≡ simple_kept section.interfaces plain.original_len
+  pub kept : length plain.bytes ≤ most_kept
+  pub padding : length plain.padding ≡ padding_of (length plain.bytes)
+
+pub record FitsOther (plain : PlainOther) : Type 0 where
+  pub number : plain.kind < 2 ^ 32
+  pub kind : kind_of plain.kind ≡ Other
+
+abbrev pub FitsContent : Section → PlainBlock → Type 0
+FitsContent section (header plain) = FitsHeader plain
+FitsContent section (interface plain) = FitsInterface section.order plain
+FitsContent section (enhanced plain) = FitsEnhanced section plain
+FitsContent section (simple plain) = FitsSimple section plain
+FitsContent section (other plain) = FitsOther plain
+
+-- what it holds may stand there, and is no longer than may be, and a multiple of four bytes
+pub record FitsBlock (section : Section) (block : PlainBlock) : Type 0 where
+  pub content : FitsContent section block
+  pub len : block_len (block_order section.order block) block ≤ most_block
+  pub whole : length (block_body (block_order section.order block) block) % 4 ≡ 0
+
+-- the bytes are a block, and what stands behind it
+pub record IsBlock (section : Section) (bytes : List ℕ) (read : PlainBlock × List ℕ) : Type 0 where
+  pub fits : FitsBlock section read.0
+  pub parts : bytes ≡ block_bytes section.order read.0 ++ read.1
+
+-- ---- why bytes begin with no block
+
+-- the kind that is said in front
+abbrev pub kind_in : ByteOrder → List ℕ → BlockKind
+kind_in before bytes = kind_of (word32_at before bytes 0)
+
+-- the byte order that the number of a section says
+abbrev pub order_said : ℕ → Option ByteOrder
+order_said magic = if magic == 0x1a2b3c4d then Some Big else (if magic == 0x4d3c2b1a then Some Little else None)
+
+-- the byte order of a block, where it is known: a section says its own, and by it the blocks behind are written
+abbrev pub known_order : ByteOrder → BlockKind → ℕ → Option ByteOrder
+known_order before SectionHeader magic = order_said magic
+known_order before kind magic = Some before
+
+-- a section begins there whose byte order is not known
+abbrev pub has_no_order : ByteOrder → BlockKind → ℕ → Bool
+has_no_order before kind magic = not (is_some (known_order before kind magic))
+
+-- what is known, or else this
+abbrev pub order_or : ByteOrder → Option ByteOrder → ByteOrder
+order_or order None = order
+order_or order (Some known) = known
+
+-- the byte order of a block
+abbrev pub order_of : ByteOrder → BlockKind → ℕ → ByteOrder
+order_of before kind magic = order_or before (known_order before kind magic)
+
+abbrev pub order_in : ByteOrder → List ℕ → ByteOrder
+order_in before bytes = order_of before (kind_in before bytes) (word32_at Big bytes 8)
+
+-- how many bytes a block of a kind has at least
+abbrev pub least_len : BlockKind → ℕ
+least_len SectionHeader = 28
+least_len InterfaceDescription = 20
+least_len SimplePacket = 16
+least_len EnhancedPacket = 32
+least_len Other = 12
+
+-- the rows of what stands in front of all blocks, whose first 12 bytes are there
+abbrev pub front_rows : ByteOrder → BlockKind → (magic len : ℕ) → List (Bool × Refusal)
+front_rows before kind magic len =
+    (has_no_order before kind magic, refusal.UnknownByteOrder magic)
+    ∷ (nat_lt len (least_len kind) || not (len % 4 == 0), refusal.BlockLength len)
+    ∷ (nat_lt most_block len, refusal.BlockTooLong len)
+    ∷ []
+
+-- the rows of a packet of which so many bytes are kept, behind so many others
+abbrev pub kept_rows : (len before kept there : ℕ) → List (Bool × Refusal)
+kept_rows len before kept there =
+    (nat_lt most_kept kept, refusal.PacketTooLong kept)
+    ∷ (nat_lt there (before + kept + padding_of kept), refusal.BlockLength len)
+    ∷ []
+
+-- those of an interface, of whose options it is known whether they are within their block, and the values of 9 and 14
+abbrev pub said_rows : Bool → (resolution offset : Option (List ℕ)) → List (Bool × Refusal)
+said_rows ends resolution offset =
+    (not ends, refusal.OptionBeyondBlock)
+    ∷ (not (has_len 1 resolution), refusal.OptionLength 9 (value_len resolution))
+    ∷ (not (has_len 8 offset), refusal.OptionLength 14 (value_len offset))
+    ∷ (not (knows_resolution (resolution_said resolution)), refusal.UnsupportedResolution (resolution_said resolution))
+    ∷ []
+
+abbrev pub options_rows : ByteOrder → List ℕ → List (Bool × Refusal)
+options_rows order bytes =
+    let options = options_of order bytes in
+    said_rows (ends_options order (options_end order bytes)) (value_of 9 options) (value_of 14 options)
+
+-- the rows of what a block of a kind and a length holds
+abbrev pub body_rows : List Interface → ByteOrder → BlockKind → ℕ → List ℕ → List (Bool × Refusal)
+body_rows interfaces order SectionHeader len body =
+    (not (word16_at order body 4 == 1), refusal.UnsupportedVersion (word16_at order body 4) (word16_at order body 6))
+    ∷ []
+body_rows interfaces order InterfaceDescription len body = options_rows order (drop 8 body)
+body_rows interfaces order EnhancedPacket len body = (
+  not (nat_lt (word32_at order body 0) (length interfaces)),
+  refusal.UndescribedInterface (word32_at order body 0),
+)
+    ∷ kept_rows len 20 (word32_at order body 12) (length body)
+body_rows interfaces order SimplePacket len body =
+    (not (nat_lt 0 (length interfaces)), refusal.UndescribedInterface 0)
+    ∷ kept_rows len 4 (simple_kept interfaces (word32_at order body 0)) (length body)
+body_rows interfaces order Other len body = []
+
+-- the rows of a block that is there whole
+abbrev pub whole_rows : List Interface → ByteOrder → BlockKind → ℕ → List ℕ → List (Bool × Refusal)
+whole_rows interfaces order kind len bytes =
+    (not (word32_at order bytes (len - 4) == len), refusal.TrailingLength len (word32_at order bytes (len - 4)))
+    ∷ body_rows interfaces order kind len (slice_range bytes 8 (len - 4))
+
+abbrev pub block_rows : Section → List ℕ → List (Bool × Refusal)
+block_rows section bytes =
+    let order = order_in section.order bytes in
+    let kind = kind_in section.order bytes in
+    let len = word32_at order bytes 4 in
+    (nat_lt (length bytes) 12, refusal.Cut 12 (length bytes))
+    ∷ front_rows section.order kind (word32_at Big bytes 8) len
+    ++ (nat_lt (length bytes) len, refusal.Cut len (length bytes))
+    ∷ whole_rows section.interfaces order kind len bytes
+
+abbrev pub RefusesBlock : Section → List ℕ → Refusal → Type 0
+RefusesBlock section bytes = Refuses (block_rows section bytes)
+
+-- ---- the block that stands at the front of bytes, where no row refuses them
+
+abbrev pub header_of : ByteOrder → List ℕ → PlainHeader
+header_of order body = record { order = order; minor = word16_at order body 6; behind = drop 8 body }
+
+abbrev pub interface_read : ByteOrder → List ℕ → PlainInterface
+interface_read order body = record {
+  link_type = word16_at order body 0;
+  reserved = word16_at order body 2;
+  snap_len = word32_at order body 4;
+  options = options_of order (drop 8 body);
+  ending = options_end order (drop 8 body);
+}
+
+abbrev pub enhanced_of : ByteOrder → List ℕ → PlainEnhanced
+enhanced_of order body =
+    let kept = word32_at order body 12 in
+    record {
+      number = word32_at order body 0;
+      high = word32_at order body 4;
+      low = word32_at order body 8;
+      original_len = word32_at order body 16;
+      bytes = slice_range body 20 (20 + kept);
+      padding = slice_range body (20 + kept) (20 + kept + padding_of kept);
+      options = drop (20 + kept + padding_of kept) body;
+    }
+
+abbrev pub simple_of : List Interface → ByteOrder → List ℕ → PlainSimple
+simple_of interfaces order body =
+    let kept = simple_kept interfaces (word32_at order body 0) in
+    record {
+      original_len = word32_at order body 0;
+      bytes = slice_range body 4 (4 + kept);
+      padding = slice_range body (4 + kept) (4 + kept + padding_of kept);
+      behind = drop (4 + kept + padding_of kept) body;
+    }
+
+-- of a kind and its number, which holds this
+abbrev pub block_of : List Interface → ByteOrder → BlockKind → ℕ → List ℕ → PlainBlock
+block_of interfaces order SectionHeader number body = header (header_of order body)
+block_of interfaces order InterfaceDescription number body = interface (interface_read order body)
+block_of interfaces order EnhancedPacket number body = enhanced (enhanced_of order body)
+block_of interfaces order SimplePacket number body = simple (simple_of interfaces order body)
+block_of interfaces order Other number body = other (record { kind = number; body = body })
+
+abbrev pub block_in : Section → List ℕ → PlainBlock
+block_in section bytes =
+    let order = order_in section.order bytes in
+    block_of section.interfaces order (kind_in section.order bytes) (word32_at section.order bytes 0)
+    (slice_range bytes 8 (word32_at order bytes 4 - 4))

@@ -1,0 +1,72 @@
+-- What values say of blocks.
+use Rattle.std.specs.Prelude.{◌≡◌, ℕ, ◌+◌, ◌-◌, ◌≤◌, ◌%◌, false, List, [], ◌∷◌, ◌++◌, Option, Some, None}
+use Rattle.std.specs.Prelude.{length, slice_range}
+use Rattle.ep_base.specs.Tables.{first_row}
+use Rattle.capture_reader.specs.Blocks.{Section, block_of, body_rows, has_no_order, kind_in, least_len, most_block}
+use Rattle.capture_reader.specs.Blocks.{order_in, section_after}
+use Rattle.capture_reader.specs.Captures.{PlainShown, block_shown}
+use Rattle.capture_reader.specs.Numbers.{word32_at}
+use Rattle.capture_reader.specs.declared.block.BlockKind.{BlockKind}
+use Rattle.capture_reader.specs.declared.block.BlockKind.TheVariants.{SectionHeader}
+use Rattle.capture_reader.specs.declared.block.Content.{Content}
+use Rattle.capture_reader.specs.declared.block.Content.TheVariants as content
+use Rattle.capture_reader.specs.declared.block.Frame.{Frame}
+use Rattle.capture_reader.specs.declared.byte_order.ByteOrder.{ByteOrder}
+use Rattle.capture_reader.specs.declared.byte_order.ByteOrder.TheVariants.{Big}
+use Rattle.capture_reader.specs.declared.interface.Interface.{Interface}
+use Rattle.capture_reader.specs.declared.shown.Known.{Known}
+
+-- a section of this byte order, which described these interfaces
+abbrev pub section_of : ByteOrder → List Interface → Section
+section_of order interfaces = record { order = order; interfaces = interfaces }
+
+-- the packet of which this is known, and which has these bytes
+abbrev pub known_shown : Known → List ℕ → PlainShown
+known_shown known bytes =
+    record { link = known.link_type; time = known.time; original_len = known.original_len; bytes = bytes }
+
+-- the interfaces behind a block that says so, in a section that described these before it
+abbrev pub content_interfaces : List Interface → Content → List Interface
+content_interfaces interfaces content.Section = []
+content_interfaces interfaces (content.Interface about) = interfaces ++ about ∷ []
+content_interfaces interfaces said = interfaces
+
+-- what the block shows which says so and holds these bytes
+abbrev pub content_shown : List ℕ → Content → Option PlainShown
+content_shown body (content.Packet one) =
+    Some (known_shown one.known (slice_range body one.start (one.start + one.kept)))
+content_shown body said = None
+
+-- a block of this kind and byte order stands in a section of that one
+abbrev pub StandsIn : BlockKind → ByteOrder → ByteOrder → Type 0
+StandsIn SectionHeader order before = Unit {0}
+StandsIn kind order before = order ≡ before
+
+-- an interface is described by 20 bytes at least, and a packet is within its block
+abbrev pub FitsLen : Content → ℕ → Type 0
+FitsLen (content.Interface about) len = 20 ≤ len
+FitsLen (content.Packet one) len = one.start + one.kept + 12 ≤ len
+FitsLen said len = Unit {0}
+
+-- a block of a kind which holds these bytes is not refused, and says so
+pub record Says (interfaces : List Interface) (order : ByteOrder) (kind : BlockKind) (len : ℕ) (body : List ℕ)
+    (content : Content) : Type 0 where
+  pub none : first_row (body_rows interfaces order kind len body) ≡ None
+  pub after : (before : ByteOrder) (number : ℕ) → StandsIn kind order before
+      → section_after (section_of before interfaces) (block_of interfaces order kind number body)
+      ≡ section_of order (content_interfaces interfaces content)
+  pub shown : (number : ℕ)
+      → block_shown interfaces (block_of interfaces order kind number body) ≡ content_shown body content
+  pub fits : FitsLen content (12 + length body)
+
+-- what stands around the block at the front of the bytes is right
+pub record IsFramed (order : ByteOrder) (bytes : List ℕ) (frame : Frame) : Type 0 where
+  pub order_is : frame.order ≡ order_in order bytes
+  pub kind : frame.kind ≡ kind_in order bytes
+  pub len : frame.len ≡ word32_at frame.order bytes 4
+  pub known : has_no_order order frame.kind (word32_at Big bytes 8) ≡ false
+  pub least : least_len frame.kind ≤ frame.len
+  pub whole : frame.len % 4 ≡ 0
+  pub most : frame.len ≤ most_block
+  pub within : frame.len ≤ length bytes
+  pub trailing : word32_at frame.order bytes (frame.len - 4) ≡ frame.len
