@@ -3,11 +3,11 @@ pub mod ClassicLemmas
 pub mod OptionLemmas
 pub mod BodyLemmas
 pub mod BlockLemmas
-pub mod BlockRefusals
+pub mod BlockRefusalLemmas
 pub mod FrameLemmas
 pub mod SaysLemmas
 pub mod InterfaceLemmas
 pub mod CaptureLemmas
-pub mod ClassicRefusals
+pub mod ClassicRefusalLemmas
 pub mod StepLemmas
 pub mod ReaderLemmas

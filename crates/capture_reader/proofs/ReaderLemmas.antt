@@ -32,11 +32,11 @@ use Rattle.capture_reader.specs.declared.reader.State.TheVariants.{Start, Record
 use Rattle.capture_reader.specs.declared.refusal.CaptureError.{CaptureError}
 use Rattle.capture_reader.specs.declared.refusal.Refusal.{Refusal}
 use Rattle.capture_reader.specs.declared.refusal.Refusal.TheVariants as refusal
-use Rattle.capture_reader.proofs.BlockRefusals.{IsFinal, block_few, block_more}
+use Rattle.capture_reader.proofs.BlockRefusalLemmas.{IsFinal, block_few, block_more}
 use Rattle.capture_reader.proofs.CaptureLemmas.{item_some, start_rows}
 use Rattle.capture_reader.proofs.NumberLemmas.{word32_at-more}
-use Rattle.capture_reader.proofs.ClassicRefusals.{final_5, heading_few, heading_more, last_rows, record_few}
-use Rattle.capture_reader.proofs.ClassicRefusals.{record_more}
+use Rattle.capture_reader.proofs.ClassicRefusalLemmas.{final_5, heading_few, heading_more, last_rows, record_few}
+use Rattle.capture_reader.proofs.ClassicRefusalLemmas.{record_more}
 
 -- ---- an item more
 

@@ -14,7 +14,7 @@ use Rattle.capture_reader.specs.declared.byte_order.ByteOrder.TheVariants.{Big}
 use Rattle.capture_reader.specs.declared.heading.Resolution.{Resolution}
 use Rattle.capture_reader.specs.declared.refusal.Refusal.{Refusal}
 use Rattle.capture_reader.specs.declared.refusal.Refusal.TheVariants as refusal
-use Rattle.capture_reader.proofs.BlockRefusals.{IsFinal, not_final}
+use Rattle.capture_reader.proofs.BlockRefusalLemmas.{IsFinal, not_final}
 use Rattle.capture_reader.proofs.NumberLemmas.{word16_at-more, word32_at-more}
 
 -- the rows of a record, by what their conditions are
