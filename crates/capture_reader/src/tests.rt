@@ -244,7 +244,7 @@ fn with_options(
     options: &[u8],
     wanted: &str,
 ) -> Result<(), AllocError> {
-    let len = [20 + options.len() as u8 % 200, 0, 0, 0];
+    let len = [20 + (options.len() % 200) as u8, 0, 0, 0];
     let mut bytes = Vec::new(alloc);
     bytes.extend_from_slice(&LITTLE_BLOCKS[..32])?;
     bytes.extend_from_slice(&len)?;
