@@ -1,12 +1,13 @@
 -- What was read and written of a capture, and where it stops.
-use Rattle.std.proofs.Common.{◌≡◌, ◌≤◌, ℕ, List, [], ◌++◌, Option, sym, ap, subst, ◌∙◌, append_assoc}
-use Rattle.std.proofs.KnownBytes.{Appends-trans, Consumes-kept, Consumes-trans}
+use Rattle.std.proofs.Common.{◌≡◌, ◌≤◌, ℕ, List, [], ◌++◌, Option, refl, sym, ap, subst, ◌∙◌, append_assoc}
+use Rattle.std.proofs.KnownBytes.{Appends-nil, Appends-trans, Consumes-kept, Consumes-nil, Consumes-trans}
 use Rattle.std.proofs.lemmas.List.{append-nil}
 use Rattle.std.specs.Prelude.{Result, Ok, Err, OnErr}
 use Rattle.std.specs.Io.KnownBytes.{Appends, Consumes, Keeps}
 use Rattle.capture_reader.specs.Captures.{Item, at_start, items_bytes}
 use Rattle.capture_reader.specs.Readers.{reader_rest}
-use Rattle.packet_dump.specs.Dumps.{AreShown, AreTexts, BeginsDump, IsDump, none_read}
+use Rattle.packet_dump.specs.Dumps.{AreAllTexts, AreShown, BeginsDump, IsDump}
+use Rattle.packet_dump.specs.PoolCalls.{PoolHistory, new_pool}
 use Rattle.packet_dump.specs.Sessions.{Drains, Moves, Stands, ending_of}
 use Rattle.packet_dump.specs.WatchedWords.{AppendsFront}
 use Rattle.packet_dump.specs.declared.session.Session.{Session}
@@ -15,10 +16,10 @@ use Rattle.packet_dump.specs.declared.session.Standing.TheVariants.{MayEnd, Enou
 use Rattle.packet_dump.specs.declared.view.View.{View}
 
 -- no more packets were read than are wanted
-are_shown : (view : View) (session : Session) (read : List ℕ) (items : List Item) (text : List ℕ)
-    → Stands view session read items → AreTexts view none_read items text → AreShown view items text
-are_shown view session read items text stands texts =
-    (subst (λ n. n ≤ view.most) stands.number stands.within, texts)
+are_shown : (view : View) (session : Session) (read : List ℕ) (items : List Item) (text : List ℕ) (history : PoolHistory)
+    → Stands view session read items history → AreAllTexts view items text history → AreShown view items text
+are_shown view session read items text history stands texts =
+    (subst (λ n. n ≤ view.most) stands.number stands.within, history, texts)
 
 -- where the capture stands so, this is its dump
 dump_of : (view : View) (standing : Standing) (session : Session) (read : List ℕ) (items : List Item) (text : List ℕ)
@@ -27,32 +28,36 @@ dump_of : (view : View) (standing : Standing) (session : Session) (read : List �
 dump_of view MayEnd session read items text drains = (
   items ++ drains.0.more,
   drains.1,
-  are_shown view session read (items ++ drains.0.more) (text ++ session.output.items) drains.0.stands drains.0.texts,
+  are_shown view session read (items ++ drains.0.more) (text ++ session.output.items) drains.0.after drains.0.stands
+      drains.0.texts,
 )
 dump_of view Enough session read items text drains = (
   items ++ drains.0.more,
   drains.1.0,
   drains.1.1,
-  are_shown view session read (items ++ drains.0.more) (text ++ session.output.items) drains.0.stands drains.0.texts,
+  are_shown view session read (items ++ drains.0.more) (text ++ session.output.items) drains.0.after drains.0.stands
+      drains.0.texts,
 )
 dump_of view (Cut error) session read items text drains = (
   items ++ drains.0.more,
   drains.1,
   drains.0.stands.number,
-  are_shown view session read (items ++ drains.0.more) (text ++ session.output.items) drains.0.stands drains.0.texts,
+  are_shown view session read (items ++ drains.0.more) (text ++ session.output.items) drains.0.after drains.0.stands
+      drains.0.texts,
 )
 dump_of view (Refused error) session read items text drains = (
   items ++ drains.0.more,
   drains.1,
   drains.0.stands.number,
-  are_shown view session read (items ++ drains.0.more) (text ++ session.output.items) drains.0.stands drains.0.texts,
+  are_shown view session read (items ++ drains.0.more) (text ++ session.output.items) drains.0.after drains.0.stands
+      drains.0.texts,
 )
 
 -- what was put together begins the dump, whatever comes behind
 begins : (view : View) (session : Session) (read piece : List ℕ) (items : List Item) (front rest text : List ℕ)
-    → Stands view session read items → AreTexts view none_read items text → text ≡ front ++ rest
-    → BeginsDump view (read ++ piece) front
-begins view session read piece items front rest text stands texts parts = (
+    (history : PoolHistory) → Stands view session read items history → AreAllTexts view items text history
+    → text ≡ front ++ rest → BeginsDump view (read ++ piece) front
+begins view session read piece items front rest text history stands texts parts = (
   items,
   rest,
   (
@@ -61,40 +66,53 @@ begins view session read piece items front rest text stands texts parts = (
     ap (λ (s : List ℕ). s ++ piece) stands.reads.parts
         ∙ append_assoc (items_bytes at_start items) (reader_rest session.capture) piece,
   ),
-  are_shown view session read items (front ++ rest) stands (subst (AreTexts view none_read items) parts texts),
+  are_shown view session read items (front ++ rest) history stands
+      (subst (λ (t : List ℕ). AreAllTexts view items t history) parts texts),
 )
 
 -- what a session read and its writer wrote
 abbrev pub Told : View → Session → List ℕ → List ℕ → Type 0
 Told view session read written =
-    (items : List Item) × Stands view session read items × AreTexts view none_read items written
+    (items : List Item) × (history : PoolHistory) × Stands view session read items history
+    × AreAllTexts view items written history
+
+-- what draining a session does
+abbrev pub Draining : Session → Session → Standing → Type 0
+Draining old new standing = (view : View) (read : List ℕ) (items : List Item) (text : List ℕ) (history : PoolHistory)
+    → Stands view old read items history → AreAllTexts view items text history
+    → Drains view new standing read items text
 
 -- what stands at the exit of a `?`
 pub at_exit : {T E P : Type 0} (r : Result T E) → P → OnErr r P
 at_exit (Ok x) p = tt
 at_exit (Err e) p = p
 
+-- nothing was read or written
+pub Moves-new : (view : View) (session : Session) (had held : Option (List ℕ))
+    → Stands view session [] [] (new_pool view.limit) → Moves (Told view session) had had held held
+Moves-new view session had held stands =
+    ([], [], Consumes-nil had, Appends-nil held, ([], new_pool view.limit, stands, (refl, refl)))
+
 -- nothing more was read or written
 pub Moves-begun : (view : View) (session : Session) (had has held holds : Option (List ℕ)) → Moves (Told view session) had has held holds
     → Moves (BeginsDump view) had has held holds
-Moves-begun view session had has held holds (read, written, consumed, appended, (items, stands, texts)) = (
+Moves-begun view session had has held holds (read, written, consumed, appended, (items, history, stands, texts)) = (
   read,
   written,
   consumed,
   appended,
   subst (λ (s : List ℕ). BeginsDump view s written) (append-nil read)
-      (begins view session read [] items written [] written stands texts (sym (append-nil written))),
+      (begins view session read [] items written [] written history stands texts (sym (append-nil written))),
 )
 
 -- the lines that were put together were written in part
 pub Moves-front : (view : View) (old new : Session) (standing : Standing) (had has held holds then_holds : Option (List ℕ))
     → Moves (Told view old) had has held holds
-    → ((view : View) (read : List ℕ) (items : List Item) (text : List ℕ) → Stands view old read items
-    → AreTexts view none_read items text → Drains view new standing read items text)
+    → Draining old new standing
     → AppendsFront holds then_holds new.output.items → Moves (BeginsDump view) had has held then_holds
-Moves-front view old new standing had has held holds then_holds (read, written, consumed, appended, (items, stands, texts))
+Moves-front view old new standing had has held holds then_holds (read, written, consumed, appended, (items, history, stands, texts))
     drain (front, rest, more, parts) =
-    let drained = (drain view read items written stands texts).0 in
+    let drained = (drain view read items written history stands texts).0 in
     let regrouped : written ++ new.output.items ≡ (written ++ front) ++ rest =
     ap (λ (t : List ℕ). written ++ t) parts ∙ sym (append_assoc written front rest) in (
       read,
@@ -103,38 +121,36 @@ Moves-front view old new standing had has held holds then_holds (read, written, 
       Appends-trans held holds then_holds written front appended more,
       subst (λ (s : List ℕ). BeginsDump view s (written ++ front)) (append-nil read)
           (begins view new read [] (items ++ drained.more) (written ++ front) rest (written ++ new.output.items)
-          drained.stands drained.texts regrouped),
+          drained.after drained.stands drained.texts regrouped),
     )
 
 -- they were written whole
 pub Moves-drained : (view : View) (old new : Session) (standing : Standing) (had has held holds then_holds : Option (List ℕ))
     → Moves (Told view old) had has held holds
-    → ((view : View) (read : List ℕ) (items : List Item) (text : List ℕ) → Stands view old read items
-    → AreTexts view none_read items text → Drains view new standing read items text)
+    → Draining old new standing
     → Appends holds then_holds new.output.items → Moves (Told view new) had has held then_holds
-Moves-drained view old new standing had has held holds then_holds (read, written, consumed, appended, (items, stands, texts))
+Moves-drained view old new standing had has held holds then_holds (read, written, consumed, appended, (items, history, stands, texts))
     drain more =
-    let drained = (drain view read items written stands texts).0 in (
+    let drained = (drain view read items written history stands texts).0 in (
       read,
       written ++ new.output.items,
       consumed,
       Appends-trans held holds then_holds written new.output.items appended more,
-      (items ++ drained.more, drained.stands, drained.texts),
+      (items ++ drained.more, drained.after, drained.stands, drained.texts),
     )
 
 -- and the capture stands so
 pub Moves-ended : (view : View) (old new : Session) (standing : Standing) (had has held holds then_holds : Option (List ℕ))
     → Moves (Told view old) had has held holds
-    → ((view : View) (read : List ℕ) (items : List Item) (text : List ℕ) → Stands view old read items
-    → AreTexts view none_read items text → Drains view new standing read items text)
+    → Draining old new standing
     → Appends holds then_holds new.output.items → Moves (IsDump view (ending_of standing new.number)) had has held then_holds
-Moves-ended view old new standing had has held holds then_holds (read, written, consumed, appended, (items, stands, texts))
+Moves-ended view old new standing had has held holds then_holds (read, written, consumed, appended, (items, history, stands, texts))
     drain more = (
       read,
       written ++ new.output.items,
       consumed,
       Appends-trans held holds then_holds written new.output.items appended more,
-      dump_of view standing new read items written (drain view read items written stands texts),
+      dump_of view standing new read items written (drain view read items written history stands texts),
     )
 
 -- no more was read
@@ -146,25 +162,25 @@ Moves-kept view session had has then_has held holds (read, written, consumed, ap
 -- a piece was read, and not taken
 pub Moves-piece : (view : View) (session : Session) (piece : List ℕ) (had has then_has held holds : Option (List ℕ))
     → Moves (Told view session) had has held holds → Consumes has then_has piece → Moves (BeginsDump view) had then_has held holds
-Moves-piece view session piece had has then_has held holds (read, written, consumed, appended, (items, stands, texts)) more = (
+Moves-piece view session piece had has then_has held holds (read, written, consumed, appended, (items, history, stands, texts)) more = (
   read ++ piece,
   written,
   Consumes-trans had has then_has read piece consumed more,
   appended,
-  begins view session read piece items written [] written stands texts (sym (append-nil written)),
+  begins view session read piece items written [] written history stands texts (sym (append-nil written)),
 )
 
 -- a piece was read, and taken
 pub Moves-taken : (view : View) (old new : Session) (piece : List ℕ) (had has then_has held holds : Option (List ℕ))
     → Moves (Told view old) had has held holds → Consumes has then_has piece
-    → ((view : View) (read : List ℕ) (items : List Item) → Stands view old read items
-    → Stands view new (read ++ piece) items)
+    → ((view : View) (read : List ℕ) (items : List Item) (history : PoolHistory) → Stands view old read items history
+    → Stands view new (read ++ piece) items history)
     → Moves (Told view new) had then_has held holds
-Moves-taken view old new piece had has then_has held holds (read, written, consumed, appended, (items, stands, texts)) more
+Moves-taken view old new piece had has then_has held holds (read, written, consumed, appended, (items, history, stands, texts)) more
     take = (
       read ++ piece,
       written,
       Consumes-trans had has then_has read piece consumed more,
       appended,
-      (items, take view read items stands, texts),
+      (items, history, take view read items history stands, texts),
     )

@@ -2,3 +2,4 @@ pub mod DecimalLemmas
 pub mod SessionLemmas
 pub mod DumpLemmas
 pub mod LineLemmas
+pub mod PoolLemmas

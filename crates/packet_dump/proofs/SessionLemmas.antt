@@ -1,22 +1,21 @@
 -- The lines of the items of a capture, one behind the other.
-use Rattle.std.proofs.Common.{◌≡◌, ◌≢◌, ℕ, ◌+◌, ◌<◌, ◌≤◌, unwrap_or, arith, List, [], ◌∷◌, ◌++◌, Option, Some, None, refl, sym, ap, subst, ◌∙◌, append_assoc}
+use Rattle.std.proofs.Common.{◌≡◌, ◌≢◌, ℕ, ◌+◌, ◌<◌, ◌≤◌, arith, List, [], ◌∷◌, ◌++◌, Option, Some, None, refl, sym, ap, subst, ◌∙◌, append_assoc}
 use Rattle.std.proofs.lemmas.List.{append-nil}
-use Rattle.capture_reader.specs.Captures.{Item, heading, packet, Stage, at_start, in_records, AreItems, Fits}
+use Rattle.capture_reader.specs.Captures.{Item, PlainShown, Stage, at_start, RefusesCapture, shown_in}
 use Rattle.capture_reader.specs.Captures.{stage_after, stage_behind}
-use Rattle.capture_reader.specs.Classic.{PlainPacket}
-use Rattle.capture_reader.specs.Readers.{IsOther, Reads, ReadsMore, reader_left, reader_offset}
-use Rattle.capture_reader.specs.Readers.{reader_packet, reader_rest, reader_stage}
-use Rattle.capture_reader.specs.declared.heading.Heading.{Heading}
+use Rattle.capture_reader.specs.Readers.{IsOther, Reads, ReadsMore, ShowsItem, reader_left, reader_offset}
+use Rattle.capture_reader.specs.Readers.{reader_rest, reader_shown}
 use Rattle.capture_reader.specs.declared.reader.CaptureReader.{CaptureReader}
-use Rattle.packet_dump.specs.Dumps.{AreTexts, IsItemText, IsLine, IsPacketText, Progress, after_packet, first_time}
-use Rattle.packet_dump.specs.Dumps.{none_read, progress_after, progress_behind, time_of}
-use Rattle.packet_dump.specs.Sessions.{Counts, Drained, Drains, PushesLine, Stands, StandsSo}
+use Rattle.capture_reader.specs.declared.refusal.CaptureError.{CaptureError}
+use Rattle.packet_dump.specs.Dumps.{AreAllTexts, AreTexts, IsItemText, IsLine, IsShownText, Progress, none_read}
+use Rattle.packet_dump.specs.Dumps.{progress_after, progress_behind, progress_with}
+use Rattle.packet_dump.specs.PoolCalls.{PoolHistory, new_pool}
+use Rattle.packet_dump.specs.Sessions.{Counts, Drained, Drains, HoldsPooling, PushesLine, Stands, StandsSo}
+use Rattle.packet_dump.specs.Shown.{first_after, instant_in, latest_after}
+use Rattle.packet_dump.specs.declared.session.Session.{Session}
 use Rattle.packet_dump.specs.declared.session.Standing.{Standing}
 use Rattle.packet_dump.specs.declared.session.Standing.TheVariants.{Enough}
 use Rattle.packet_dump.specs.declared.view.View.{View}
-use Rattle.capture_reader.specs.Captures.{RefusesCapture}
-use Rattle.capture_reader.specs.declared.refusal.CaptureError.{CaptureError}
-use Rattle.packet_dump.specs.declared.session.Session.{Session}
 
 -- ---- an item more
 
@@ -25,116 +24,79 @@ progress_behind-append : (items : List Item) (before : Progress) (item : Item)
 progress_behind-append [] before item = refl
 progress_behind-append (first ∷ items) before item = progress_behind-append items (progress_after before first) item
 
-pub AreTexts-append : (view : View) (items : List Item) (before : Progress) (item : Item) (text one : List ℕ)
-    → AreTexts view before items text → IsItemText view (progress_behind before items) item one
-    → AreTexts view before (items ++ item ∷ []) (text ++ one)
-AreTexts-append view [] before item text one none is =
-    (one, [], is, ap (λ (t : List ℕ). t ++ one) none ∙ sym (append-nil one), refl)
-AreTexts-append view (first ∷ items) before item text one (front, rest, of_first, parts, others) is = (
-  front,
-  rest ++ one,
-  of_first,
-  ap (λ (t : List ℕ). t ++ one) parts ∙ append_assoc front rest one,
-  AreTexts-append view items (progress_after before first) item rest one others is,
+pub AreTexts-append : (view : View) (items : List Item) (before : Progress) (pool : PoolHistory) (item : Item)
+    (text one : List ℕ) (after next : PoolHistory) → AreTexts view before pool items text after
+    → IsItemText view (progress_behind before items) after item one next
+    → AreTexts view before pool (items ++ item ∷ []) (text ++ one) next
+AreTexts-append view [] before pool item text one after next (none, same) is = (
+  one,
+  [],
+  next,
+  subst (λ p. IsItemText view before p item one next) same is,
+  ap (λ (t : List ℕ). t ++ one) none ∙ sym (append-nil one),
+  (refl, refl),
 )
+AreTexts-append view (first ∷ items) before pool item text one after next
+    (front, rest, middle, of_first, parts, others) is = (
+      front,
+      rest ++ one,
+      middle,
+      of_first,
+      ap (λ (t : List ℕ). t ++ one) parts ∙ append_assoc front rest one,
+      AreTexts-append view items (progress_after before first) middle item rest one after next others is,
+    )
 
--- ---- what stands in front of a packet
+-- ---- what stands in front of an item
 
-after_packet-stage : (stage : Stage) (number : ℕ) (first : Option ℕ) (one : PlainPacket)
-    → (after_packet stage number first one).stage ≡ stage_after stage (packet one)
-after_packet-stage at_start number first one = refl
-after_packet-stage (in_records head) number first one = refl
+progress_with-stage : (before : Progress) (item : Item) (shown : Option PlainShown)
+    → (progress_with before item shown).stage ≡ stage_after before.stage item
+progress_with-stage before item None = refl
+progress_with-stage before item (Some shown) = refl
 
 progress_stage : (items : List Item) (before : Progress)
     → (progress_behind before items).stage ≡ stage_behind before.stage items
 progress_stage [] before = refl
-progress_stage (heading head ∷ items) before = progress_stage items (progress_after before (heading head))
-progress_stage (packet one ∷ items) before =
-    progress_stage items (progress_after before (packet one))
-    ∙ ap (λ s. stage_behind s items) (after_packet-stage before.stage before.number before.first one)
+progress_stage (item ∷ items) before =
+    progress_stage items (progress_after before item)
+    ∙ ap (λ s. stage_behind s items) (progress_with-stage before item (shown_in before.stage item))
 
--- a packet fits behind a heading alone
-fits_packet : (stage : Stage) (one : PlainPacket) → Fits stage (packet one) → (head : Heading) × (stage ≡ in_records head)
-fits_packet at_start one fits = absurd fits
-fits_packet (in_records head) one fits = (head, refl)
-
-last_fits : (items : List Item) (stage : Stage) (item : Item) → AreItems stage (items ++ item ∷ [])
-    → Fits (stage_behind stage items) item
-last_fits [] stage item are = are.0
-last_fits (first ∷ items) stage item are = last_fits items (stage_after stage first) item are.1
-
-stage_behind-append : (items : List Item) (stage : Stage) (item : Item)
-    → stage_behind stage (items ++ item ∷ []) ≡ stage_after (stage_behind stage items) item
-stage_behind-append [] stage item = refl
-stage_behind-append (first ∷ items) stage item = stage_behind-append items (stage_after stage first) item
-
--- a reader that has read a packet has read a heading in front of it
-pub packet_head : (reader : CaptureReader) (read : List ℕ) (items : List Item) (one : PlainPacket)
-    → ReadsMore reader read items (packet one)
-    → (head : Heading) × (reader_stage reader ≡ in_records head) × (stage_behind at_start items ≡ in_records head)
-packet_head reader read items one reads =
-    let found = fits_packet (stage_behind at_start items) one (last_fits items at_start (packet one) reads.fits) in (
-      found.0,
-      reads.stage ∙ stage_behind-append items at_start (packet one) ∙ ap (λ s. stage_after s (packet one)) found.1,
-      found.1,
-    )
-
--- ---- the text of an item more
-
--- what is known behind a packet
-pub behind_packet : (items : List Item) (one : PlainPacket) (head : Heading)
-    → stage_behind at_start items ≡ in_records head
-    → let before = progress_behind none_read items in
-    ((progress_behind none_read (items ++ packet one ∷ [])).number ≡ before.number + 1)
-    × ((progress_behind none_read (items ++ packet one ∷ [])).first ≡ Some (first_time before.first (time_of head one)))
-behind_packet items one head is =
+-- what is known behind an item that shows this
+behind_item : (items : List Item) (item : Item) (shown : Option PlainShown)
+    → shown_in (stage_behind at_start items) item ≡ shown
+    → progress_behind none_read (items ++ item ∷ []) ≡ progress_with (progress_behind none_read items) item shown
+behind_item items item shown shows =
     let before = progress_behind none_read items in
-    let stage : before.stage ≡ in_records head = progress_stage items none_read ∙ is in
-    let more = progress_behind-append items none_read (packet one)
-    ∙ ap (λ s. after_packet s before.number before.first one) stage in
-    (ap (λ p. p.number) more, ap (λ p. p.first) more)
+    progress_behind-append items none_read item
+    ∙ ap (λ (s : Option PlainShown). progress_with before item s)
+    (ap (λ (s : Stage). shown_in s item) (progress_stage items none_read) ∙ shows)
 
--- the text of a packet more
-pub texts_packet : (view : View) (items : List Item) (one : PlainPacket) (head : Heading) (text line : List ℕ)
-    → stage_behind at_start items ≡ in_records head → AreTexts view none_read items text
-    → IsLine view head ((progress_behind none_read items).number + 1)
-    (first_time (progress_behind none_read items).first (time_of head one)) one line
-    → AreTexts view none_read (items ++ packet one ∷ []) (text ++ line)
-texts_packet view items one head text line is texts of_one =
+-- the text of an item more that shows this
+texts_item : (view : View) (items : List Item) (item : Item) (shown : Option PlainShown) (text one : List ℕ)
+    (pool after : PoolHistory) → shown_in (stage_behind at_start items) item ≡ shown → AreAllTexts view items text pool
+    → IsShownText view (progress_behind none_read items) pool shown one after
+    → AreAllTexts view (items ++ item ∷ []) (text ++ one) after
+texts_item view items item shown text one pool after shows texts is =
     let before = progress_behind none_read items in
-    let stage : before.stage ≡ in_records head = progress_stage items none_read ∙ is in
-    AreTexts-append view items none_read (packet one) text line texts
-    (subst (λ s. IsPacketText view s before.number before.first one line) (sym stage) of_one)
-
--- what is known behind a heading, and its text
-pub behind_other : (view : View) (items : List Item) (item : Item) (text : List ℕ) → IsOther item
-    → AreTexts view none_read items text
-    → ((progress_behind none_read (items ++ item ∷ [])).number ≡ (progress_behind none_read items).number)
-    × ((progress_behind none_read (items ++ item ∷ [])).first ≡ (progress_behind none_read items).first)
-    × AreTexts view none_read (items ++ item ∷ []) text
-behind_other view items (packet one) text other texts = absurd other
-behind_other view items (heading head) text other texts =
-    let more = progress_behind-append items none_read (heading head) in (
-      ap (λ p. p.number) more,
-      ap (λ p. p.first) more,
-      subst (AreTexts view none_read (items ++ heading head ∷ [])) (append-nil text)
-          (AreTexts-append view items none_read (heading head) text [] texts refl),
-    )
+    AreTexts-append view items none_read (new_pool view.limit) item text one pool after texts
+    (subst (λ (s : Option PlainShown). IsShownText view before pool s one after)
+    (sym (ap (λ (s : Stage). shown_in s item) (progress_stage items none_read) ∙ shows)) is)
 
 -- ---- sessions
 
 -- a piece was taken
 pub takes : (old new : Session) (piece : List ℕ) → new.view ≡ old.view → new.number ≡ old.number
-    → new.first ≡ old.first
+    → new.first ≡ old.first → new.latest ≡ old.latest → new.pooling ≡ old.pooling
     → ((taken : List ℕ) (items : List Item) → Reads old.capture taken items → Reads new.capture (taken ++ piece) items)
-    → (view : View) (read : List ℕ) (items : List Item) → Stands view old read items
-    → Stands view new (read ++ piece) items
-takes old new piece same number first take view read items stands = record {
+    → (view : View) (read : List ℕ) (items : List Item) (history : PoolHistory) → Stands view old read items history
+    → Stands view new (read ++ piece) items history
+takes old new piece same number first latest pooling take view read items history stands = record {
   view_is = same ∙ stands.view_is;
   reads = take read items stands.reads;
   within = subst (λ n. n ≤ view.most) (sym number) stands.within;
   number = number ∙ stands.number;
   first = first ∙ stands.first;
+  latest = latest ∙ stands.latest;
+  pooled = subst (HoldsPooling history) (sym pooling) stands.pooled;
 }
 
 -- a number that is not yet the greatest may grow by one
@@ -142,99 +104,148 @@ one_more : (number most wanted next : ℕ) → number ≢ most → number ≤ wa
     → next ≤ wanted
 one_more number most wanted next fewer within same more = omega (arith, fewer, within, same, more)
 
--- a packet was read, and its line put together
-pub drains_packet : (view : View) (old new : Session) (moved : CaptureReader) (read : List ℕ) (items : List Item)
-    (text : List ℕ) → (drained : Drained view old read items text)
-    → ReadsMore moved read (items ++ drained.more) (packet (reader_packet moved))
-    → ((head : Heading) → reader_stage moved ≡ in_records head
-    → PushesLine (record old { capture = moved }) new head (reader_packet moved))
-    → new.capture ≡ moved → old.number ≢ old.view.most → Drained view new read items text
-drains_packet view old new moved read items text drained reads push capture fewer =
+-- an item that shows this was read, and its text put together
+drains_shown : (view : View) (old new : Session) (read : List ℕ) (items : List Item) (text : List ℕ)
+    → (drained : Drained view old read items text) → (item : Item) (shown : PlainShown)
+    → shown_in (stage_behind at_start (items ++ drained.more)) item ≡ Some shown
+    → ReadsMore new.capture read (items ++ drained.more) item → PushesLine old new drained.after shown
+    → old.number ≢ old.view.most → Drained view new read items text
+drains_shown view old new read items text drained item shown shows reads line fewer =
     let before = items ++ drained.more in
-    let one = reader_packet moved in
-    let head = packet_head moved read before one reads in
-    let line = push head.0 head.1 in
-    let behind = behind_packet before one head.0 head.2 in
+    let known = progress_behind none_read before in
     let stands = drained.stands in
-    let number : old.number + 1 ≡ (progress_behind none_read before).number + 1 = ap (λ (n : ℕ). n + 1) stands.number in
-    let first : first_time old.first (time_of head.0 one)
-    ≡ first_time (progress_behind none_read before).first (time_of head.0 one) =
-    ap (λ f. first_time f (time_of head.0 one)) stands.first in
-    let all : before ++ packet one ∷ [] ≡ items ++ (drained.more ++ packet one ∷ []) =
-    append_assoc items drained.more (packet one ∷ []) in
-    let is : IsLine view head.0 ((progress_behind none_read before).number + 1)
-    (first_time (progress_behind none_read before).first (time_of head.0 one)) one line.line =
+    let pool = drained.after in
+    let this = instant_in shown in
+    let behind = behind_item before item (Some shown) shows in
+    let number : old.number + 1 ≡ known.number + 1 = ap (λ (n : ℕ). n + 1) stands.number in
+    let first : first_after old.first this ≡ first_after known.first this =
+    ap (λ (f : Option ℕ). first_after f this) stands.first in
+    let latest : latest_after old.latest this ≡ latest_after known.latest this =
+    ap (λ (l : ℕ). latest_after l this) stands.latest in
+    let all : before ++ item ∷ [] ≡ items ++ (drained.more ++ item ∷ []) =
+    append_assoc items drained.more (item ∷ []) in
+    let is : IsLine view (known.number + 1) (first_after known.first this) (latest_after known.latest this) pool shown
+    line.line line.after =
     subst
-    (λ n. IsLine view head.0 n (first_time (progress_behind none_read before).first (time_of head.0 one)) one line.line)
-    number (subst (λ t. IsLine view head.0 (old.number + 1) t one line.line) first
-    (subst (λ v. IsLine v head.0 (old.number + 1) (first_time old.first (time_of head.0 one)) one line.line)
-    stands.view_is line.is)) in
-    let texts = texts_packet view before one head.0 (text ++ old.output.items) line.line head.2 drained.texts is in
+    (λ (l : ℕ). IsLine view (known.number + 1) (first_after known.first this) l pool shown line.line line.after) latest
+    (subst
+    (λ (f : Option ℕ). IsLine view (known.number + 1) f (latest_after old.latest this) pool shown line.line line.after)
+    first
+    (subst
+    (λ (n : ℕ). IsLine view n (first_after old.first this) (latest_after old.latest this) pool shown line.line
+    line.after) number
+    (subst
+    (λ v. IsLine v (old.number + 1) (first_after old.first this) (latest_after old.latest this) pool shown line.line
+    line.after) stands.view_is line.is))) in
+    let texts =
+    texts_item view before item (Some shown) (text ++ old.output.items) line.line pool line.after shows drained.texts is in
     let output : (text ++ old.output.items) ++ line.line ≡ text ++ new.output.items =
     append_assoc text old.output.items line.line ∙ ap (λ (t : List ℕ). text ++ t) (sym line.output) in
     record {
-      more = drained.more ++ packet one ∷ [];
-      stands = subst (Stands view new read) all (record {
+      more = drained.more ++ item ∷ [];
+      after = line.after;
+      stands = subst (λ s. Stands view new read s line.after) all (record {
         view_is = line.view ∙ stands.view_is;
-        reads = subst (λ r. Reads r read (before ++ packet one ∷ [])) (sym capture) reads;
+        reads = reads;
         within = one_more old.number old.view.most view.most new.number fewer stands.within
             (ap (λ v. v.most) stands.view_is) line.number;
-        number = line.number ∙ number ∙ sym behind.0;
-        first = line.first ∙ ap (λ (t : ℕ). Some t) first ∙ sym behind.1;
+        number = line.number ∙ number ∙ sym (ap (λ p. p.number) behind);
+        first = line.first ∙ first ∙ sym (ap (λ p. p.first) behind);
+        latest = line.latest ∙ latest ∙ sym (ap (λ p. p.latest) behind);
+        pooled = line.pooled;
       });
-      texts = subst (λ s. AreTexts view none_read s (text ++ new.output.items)) all
-          (subst (AreTexts view none_read (before ++ packet one ∷ [])) output texts);
+      texts = subst (λ s. AreAllTexts view s (text ++ new.output.items) line.after) all
+          (subst (λ (t : List ℕ). AreAllTexts view (before ++ item ∷ []) t line.after) output texts);
     }
+
+-- a packet was read, and its text put together
+pub drains_packet : (view : View) (old new : Session) (moved : CaptureReader) (read : List ℕ) (items : List Item)
+    (text : List ℕ) → (drained : Drained view old read items text)
+    → (found : (item : Item) × ReadsMore moved read (items ++ drained.more) item
+    × ShowsItem moved (stage_behind at_start (items ++ drained.more)) item)
+    → ((before : PoolHistory) → HoldsPooling before old.pooling
+    → PushesLine (record old { capture = moved }) new before (reader_shown moved))
+    → new.capture ≡ moved → old.number ≢ old.view.most → Drained view new read items text
+drains_packet view old new moved read items text drained found push capture fewer =
+    let before = items ++ drained.more in
+    let line = push drained.after drained.stands.pooled in
+    drains_shown view old new read items text drained found.0 (reader_shown moved) found.2.shown
+    (subst (λ r. ReadsMore r read before found.0) (sym capture) found.1)
+    (record {
+      view = line.view;
+      line = line.line;
+      after = line.after;
+      is = line.is;
+      pooled = line.pooled;
+      output = line.output;
+      number = line.number;
+      first = line.first;
+      latest = line.latest;
+    }) fewer
 
 -- something else was read, and the session knows what it knew
 pub drains_other : (view : View) (old new : Session) (read : List ℕ) (items : List Item) (text : List ℕ)
-    → (drained : Drained view old read items text) → (item : Item) → IsOther item
+    → (drained : Drained view old read items text) → (item : Item)
+    → IsOther (stage_behind at_start (items ++ drained.more)) item
     → ReadsMore new.capture read (items ++ drained.more) item → new.view ≡ old.view → new.number ≡ old.number
-    → new.first ≡ old.first → new.output.items ≡ old.output.items → Drained view new read items text
-drains_other view old new read items text drained item other reads same number first output =
+    → new.first ≡ old.first → new.latest ≡ old.latest → new.pooling ≡ old.pooling
+    → new.output.items ≡ old.output.items → Drained view new read items text
+drains_other view old new read items text drained item shows reads same number first latest pooling output =
     let before = items ++ drained.more in
-    let behind = behind_other view before item (text ++ old.output.items) other drained.texts in
     let stands = drained.stands in
+    let behind = behind_item before item None shows in
     let all : before ++ item ∷ [] ≡ items ++ (drained.more ++ item ∷ []) =
     append_assoc items drained.more (item ∷ []) in
+    let texts =
+    texts_item view before item None (text ++ old.output.items) [] drained.after drained.after shows drained.texts
+    (refl, refl) in
     record {
       more = drained.more ++ item ∷ [];
-      stands = subst (Stands view new read) all (record {
+      after = drained.after;
+      stands = subst (λ s. Stands view new read s drained.after) all (record {
         view_is = same ∙ stands.view_is;
         reads = reads;
         within = subst (λ n. n ≤ view.most) (sym number) stands.within;
-        number = number ∙ stands.number ∙ sym behind.0;
-        first = first ∙ stands.first ∙ sym behind.1;
+        number = number ∙ stands.number ∙ sym (ap (λ p. p.number) behind);
+        first = first ∙ stands.first ∙ sym (ap (λ p. p.first) behind);
+        latest = latest ∙ stands.latest ∙ sym (ap (λ p. p.latest) behind);
+        pooled = subst (HoldsPooling drained.after) (sym pooling) stands.pooled;
       });
-      texts = subst (λ s. AreTexts view none_read s (text ++ new.output.items)) all
-          (subst (λ (t : List ℕ). AreTexts view none_read (before ++ item ∷ []) (text ++ t)) (sym output) behind.2);
+      texts = subst (λ s. AreAllTexts view s (text ++ new.output.items) drained.after) all
+          (subst (λ (t : List ℕ). AreAllTexts view (before ++ item ∷ []) (text ++ t) drained.after) (sym output)
+          (subst (λ (t : List ℕ). AreAllTexts view (before ++ item ∷ []) t drained.after)
+          (append-nil (text ++ old.output.items)) texts));
     }
 
 -- nothing more was read, and the capture stands so
 pub drains_end : (view : View) (old new : Session) (standing : Standing) (read : List ℕ) (items : List Item)
     (text : List ℕ) → (drained : Drained view old read items text) → Reads new.capture read (items ++ drained.more)
-    → new.view ≡ old.view → new.number ≡ old.number → new.first ≡ old.first → new.output.items ≡ old.output.items
+    → new.view ≡ old.view → new.number ≡ old.number → new.first ≡ old.first → new.latest ≡ old.latest
+    → new.pooling ≡ old.pooling → new.output.items ≡ old.output.items
     → StandsSo view standing read (items ++ drained.more) → Drains view new standing read items text
-drains_end view old new standing read items text drained reads same number first output so = (
+drains_end view old new standing read items text drained reads same number first latest pooling output so = (
   record {
     more = drained.more;
+    after = drained.after;
     stands = record {
       view_is = same ∙ drained.stands.view_is;
       reads = reads;
       within = subst (λ n. n ≤ view.most) (sym number) drained.stands.within;
       number = number ∙ drained.stands.number;
       first = first ∙ drained.stands.first;
+      latest = latest ∙ drained.stands.latest;
+      pooled = subst (HoldsPooling drained.after) (sym pooling) drained.stands.pooled;
     };
-    texts = subst (λ (t : List ℕ). AreTexts view none_read (items ++ drained.more) (text ++ t)) (sym output)
+    texts = subst (λ (t : List ℕ). AreAllTexts view (items ++ drained.more) (text ++ t) drained.after) (sym output)
         drained.texts;
   },
   so,
 )
 
 -- as many packets were read as are wanted
-pub enough_read : (view : View) (session : Session) (read : List ℕ) (items : List Item) → Stands view session read items
-    → session.number ≡ session.view.most → StandsSo view Enough read items
-enough_read view session read items stands all = (
+pub enough_read : (view : View) (session : Session) (read : List ℕ) (items : List Item) (history : PoolHistory)
+    → Stands view session read items history → session.number ≡ session.view.most → StandsSo view Enough read items
+enough_read view session read items history stands all = (
   (reader_rest session.capture, stands.reads.fits, stands.reads.parts),
   sym stands.number ∙ all ∙ ap (λ v. v.most) stands.view_is,
 )
@@ -255,46 +266,56 @@ counts_packet old new moved number capture total less counts =
     let offset : reader_offset new.capture ≡ reader_offset moved = ap reader_offset capture in
     omega (arith, number, offset, total, less, counts)
 
--- the line of a packet was put together
-pub pushes : (old new : Session) (said head : Heading) (shown one : PlainPacket) (first : ℕ) → new.view ≡ old.view
-    → said ≡ head → shown ≡ one → first ≡ first_time old.first (time_of said shown) → new.number ≡ old.number + 1
-    → new.first ≡ Some first
-    → (line : List ℕ) × IsLine old.view said (old.number + 1) first shown line
-    × (new.output.items ≡ old.output.items ++ line)
-    → PushesLine old new head one
-pushes old new said head shown one first same same_head same_one is_first number new_first pushed =
-    let time : first ≡ first_time old.first (time_of head one) =
-    is_first ∙ (λ i. first_time old.first (time_of (same_head i) (same_one i))) in
+-- the text of a packet was put together
+pub pushes : (old new : Session) (shown one : PlainShown) (this : Option ℕ) (first : Option ℕ) (latest : ℕ)
+    (before : PoolHistory) → new.view ≡ old.view → shown ≡ one → this ≡ instant_in shown → first ≡ first_after old.first this
+    → latest ≡ latest_after old.latest this → new.number ≡ old.number + 1 → new.first ≡ first → new.latest ≡ latest
+    → (line : List ℕ) × (after : PoolHistory)
+    × IsLine old.view (old.number + 1) first latest before shown line after
+    × HoldsPooling after new.pooling × (new.output.items ≡ old.output.items ++ line)
+    → PushesLine old new before one
+pushes old new shown one this first latest before same same_one is_this is_first is_latest number new_first new_latest
+    (line, after, is, pooled, output) =
+    let when : this ≡ instant_in one = is_this ∙ ap instant_in same_one in
+    let firsts : first ≡ first_after old.first (instant_in one) =
+    is_first ∙ ap (λ (t : Option ℕ). first_after old.first t) when in
+    let latests : latest ≡ latest_after old.latest (instant_in one) =
+    is_latest ∙ ap (λ (t : Option ℕ). latest_after old.latest t) when in
     record {
       view = same;
-      line = pushed.0;
-      is = subst (λ t. IsLine old.view head (old.number + 1) t one pushed.0) time
-          (subst (λ p. IsLine old.view head (old.number + 1) first p pushed.0) same_one
-          (subst (λ h. IsLine old.view h (old.number + 1) first shown pushed.0) same_head pushed.1));
-      output = pushed.2;
+      line = line;
+      after = after;
+      is = subst (λ (l : ℕ). IsLine old.view (old.number + 1) (first_after old.first (instant_in one)) l before one line after)
+          latests
+          (subst (λ (f : Option ℕ). IsLine old.view (old.number + 1) f latest before one line after) firsts
+          (subst (λ p. IsLine old.view (old.number + 1) first latest before p line after) same_one is));
+      pooled = pooled;
+      output = output;
       number = number;
-      first = new_first ∙ ap (λ (t : ℕ). Some t) time;
+      first = new_first ∙ firsts;
+      latest = new_latest ∙ latests;
     }
-
-pub first_is : (first : Option ℕ) (this : ℕ) → unwrap_or first this ≡ first_time first this
-first_is None this = refl
-first_is (Some first) this = refl
 
 -- nothing was read yet
 pub drains_start : (view : View) (old new : Session) → new.capture ≡ old.capture → new.view ≡ old.view
-    → new.number ≡ old.number → new.first ≡ old.first → new.output.items ≡ [] → (read : List ℕ) (items : List Item)
-    (text : List ℕ) → Stands view old read items → AreTexts view none_read items text → Drained view new read items text
-drains_start view old new capture same number first output read items text stands texts =
+    → new.number ≡ old.number → new.first ≡ old.first → new.latest ≡ old.latest → new.pooling ≡ old.pooling
+    → new.output.items ≡ [] → (read : List ℕ) (items : List Item) (text : List ℕ) (history : PoolHistory)
+    → Stands view old read items history → AreAllTexts view items text history → Drained view new read items text
+drains_start view old new capture same number first latest pooling output read items text history stands texts =
     let none = sym (append-nil items) in
     record {
       more = [];
-      stands = subst (Stands view new read) none (record {
+      after = history;
+      stands = subst (λ s. Stands view new read s history) none (record {
         view_is = same ∙ stands.view_is;
         reads = subst (λ r. Reads r read items) (sym capture) stands.reads;
         within = subst (λ n. n ≤ view.most) (sym number) stands.within;
         number = number ∙ stands.number;
         first = first ∙ stands.first;
+        latest = latest ∙ stands.latest;
+        pooled = subst (HoldsPooling history) (sym pooling) stands.pooled;
       });
-      texts = subst (λ s. AreTexts view none_read s (text ++ new.output.items)) none
-          (subst (AreTexts view none_read items) (sym (ap (λ (t : List ℕ). text ++ t) output ∙ append-nil text)) texts);
+      texts = subst (λ s. AreAllTexts view s (text ++ new.output.items) history) none
+          (subst (λ (t : List ℕ). AreAllTexts view items t history)
+          (sym (ap (λ (t : List ℕ). text ++ t) output ∙ append-nil text)) texts);
     }

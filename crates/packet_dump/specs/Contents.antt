@@ -1,6 +1,9 @@
 -- What a packet holds, and which packets are shown.
-use Rattle.std.specs.Prelude.{◌≡◌, ℕ, ◌+◌, ◌/◌, ◌%◌, ◌==◌, if◌then◌else◌, Bool, true, false, List, [], ◌∷◌, ◌++◌, Option, Some, None, codes}
+use Rattle.std.specs.Prelude.{◌≡◌, ℕ, ◌+◌, ◌/◌, ◌%◌, ◌==◌, if◌then◌else◌, Bool, true, false, IsTrue, IsFalse, List, [], ◌∷◌, ◌++◌, Option, Some, None, codes}
+use Rattle.std.specs.Fmt.{decimal}
+use Rattle.capture_reader.specs.Classic.{knows_link}
 use Rattle.ep_packet.specs.declared.entry.Entry.{Entry}
+use Rattle.ep_packet.specs.declared.entry.Entry.TheVariants.{Ethernet, LinuxSll, Ip}
 use Rattle.ep_packet.specs.declared.err.slice_error.SliceError.{SliceError}
 use Rattle.ep_packet.specs.Frame.{IsFrame}
 use Rattle.ep_packet.specs.FrameBytes.{last_payload}
@@ -16,20 +19,27 @@ use Rattle.packet_dump.specs.Refusals.{refusal_text}
 use Rattle.packet_dump.specs.declared.view.Kind.{Kind}
 use Rattle.packet_dump.specs.declared.view.Kind.TheVariants.{Udp, Tcp, Icmp, Arp, Refused}
 
--- the layers of a frame, or why bytes are none
+-- the layers of a frame, or why bytes are none, or the link type of bytes that are not read
 pub data Content : Type 0 where
   frame : Layers → Content
   refusal : SliceError → Content
+  other_link : ℕ → Content
 
--- the bytes hold this
-abbrev pub Holds : Entry → List ℕ → Content → Type 0
-Holds entry bytes (frame layers) = IsFrame entry bytes layers
-Holds entry bytes (refusal error) = RefusesFrame entry bytes error
+-- what packets of a link type begin with: Ethernet, Linux cooked captures, or IP for all others that are read
+abbrev pub entry_of : ℕ → Entry
+entry_of link = if link == 1 then Ethernet else (if link == 113 then LinuxSll else Ip)
+
+-- bytes of this link type hold this
+abbrev pub Holds : ℕ → List ℕ → Content → Type 0
+Holds link bytes (frame layers) = IsTrue (knows_link link) × IsFrame (entry_of link) bytes layers
+Holds link bytes (refusal error) = IsTrue (knows_link link) × RefusesFrame (entry_of link) bytes error
+Holds link bytes (other_link number) = IsFalse (knows_link link) × (number ≡ link)
 
 -- its text
 abbrev pub content_text : Content → List ℕ
 content_text (frame layers) = layers_text layers
 content_text (refusal error) = refusal_text error
+content_text (other_link number) = codes " link " ++ decimal number
 
 -- ---- kinds
 
@@ -52,6 +62,7 @@ frame_kind None None = None
 abbrev pub content_kind : Content → Option Kind
 content_kind (frame layers) = frame_kind layers.net layers.transport
 content_kind (refusal error) = Some Refused
+content_kind (other_link number) = None
 
 -- whether two kinds are one
 abbrev pub same_kind : Kind → Kind → Bool
@@ -84,10 +95,11 @@ abbrev pub rows_text : ℕ → List ℕ → List ℕ
 rows_text index [] = []
 rows_text index (byte ∷ bytes) = in_row_text index byte ++ rows_text (index + 1) bytes
 
--- the payload of a frame, or all bytes of what is none
+-- the payload of a frame, or all bytes of what is none or is not read
 abbrev pub shown_bytes : Content → List ℕ → List ℕ
 shown_bytes (frame layers) bytes = last_payload layers
 shown_bytes (refusal error) bytes = bytes
+shown_bytes (other_link number) bytes = bytes
 
 -- the bytes in rows, where they are wanted
 abbrev pub bytes_text : Bool → List ℕ → List ℕ

@@ -33,8 +33,12 @@ abbrev pub inner_text : Option TransportLayer → List ℕ → List ℕ
 inner_text (Some layer) unread = transport_text layer
 inner_text None unread = unread
 
+-- the layers outside the payload of the net layer, from the outside in
+abbrev pub outer_text : Layers → List ℕ
+outer_text layers = link_text layers.link ++ extensions_text layers.link_exts ++ net_text layers.net
+
 -- all layers, from the outside in
 abbrev pub layers_text : Layers → List ℕ
 layers_text layers =
-    link_text layers.link ++ extensions_text layers.link_exts ++ net_text layers.net
+    outer_text layers
     ++ inner_text layers.transport (unread_text layers.net (payload_ether_type_in layers) (last_payload layers))

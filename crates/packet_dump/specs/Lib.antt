@@ -6,8 +6,12 @@ pub mod Layers
 pub mod Lines
 pub mod Links
 pub mod Nets
+pub mod PacketLines
+pub mod PoolCalls
+pub mod PoolLines
 pub mod Refusals
 pub mod Sessions
+pub mod Shown
 pub mod Texts
 pub mod Transports
 pub mod WatchedWords

@@ -1,29 +1,38 @@
 -- What is known between two pieces of a capture.
-use Rattle.std.specs.Prelude.{◌≡◌, ℕ, ◌+◌, ◌≤◌, List, ◌++◌, Option, Some}
+use Rattle.std.specs.Prelude.{◌≡◌, ℕ, ◌+◌, ◌≤◌, List, ◌++◌, Option}
 use Rattle.std.specs.Io.KnownBytes.{Appends, Consumes}
-use Rattle.capture_reader.specs.Captures.{Item, IsCapture, RefusesCapture}
+use Rattle.capture_reader.specs.Captures.{Item, IsCapture, PlainShown, RefusesCapture}
 use Rattle.capture_reader.specs.Readers.{Reads, reader_left, reader_offset}
-use Rattle.capture_reader.specs.Classic.{PlainPacket}
-use Rattle.capture_reader.specs.declared.heading.Heading.{Heading}
 use Rattle.capture_reader.specs.declared.refusal.CaptureError.{CaptureError}
-use Rattle.packet_dump.specs.Dumps.{AreTexts, Begin, IsLine, first_time, none_read, packets_in, progress_behind, time_of}
+use Rattle.packet_dump.specs.Dumps.{AreAllTexts, Begin, IsLine, none_read, packets_in, progress_behind}
+use Rattle.packet_dump.specs.PoolCalls.{HoldsHistory, PoolHistory}
+use Rattle.packet_dump.specs.Shown.{first_after, instant_in, latest_after}
 use Rattle.packet_dump.specs.WatchedWords.{inner_of}
 use Rattle.packet_dump.specs.declared.ending.Ending.{Ending}
 use Rattle.packet_dump.specs.declared.ending.Ending.TheVariants as ending
+use Rattle.packet_dump.specs.declared.pooling.Pooling.{Pooling}
 use Rattle.packet_dump.specs.declared.session.Session.{Session}
 use Rattle.packet_dump.specs.declared.session.Standing.{Standing}
 use Rattle.packet_dump.specs.declared.session.Standing.TheVariants.{MayEnd, Enough, Cut, Refused}
 use Rattle.packet_dump.specs.declared.view.View.{View}
 use Rattle.packet_dump.specs.declared.watched.Watched.{Watched}
 
--- The session shows so much, took these bytes, read these items at their front, and knows how many packets, which are no
--- more than are wanted, and when the first came.
-pub record Stands (view : View) (session : Session) (read : List ℕ) (items : List Item) : Type 0 where
+-- this became of the pool
+pub record HoldsPooling (history : PoolHistory) (pooling : Pooling) : Type 0 where
+  pub swept : pooling.swept ≡ history.swept
+  pub held : HoldsHistory history pooling.pool
+
+-- The session shows so much, took these bytes, read these items at their front, and knows how many packets, which are
+-- no more than are wanted, and when the first and the last came. This became of the pool.
+pub record Stands (view : View) (session : Session) (read : List ℕ) (items : List Item) (history : PoolHistory)
+    : Type 0 where
   pub view_is : session.view ≡ view
   pub reads : Reads session.capture read items
   pub within : session.number ≤ view.most
   pub number : session.number ≡ (progress_behind none_read items).number
   pub first : session.first ≡ (progress_behind none_read items).first
+  pub latest : session.latest ≡ (progress_behind none_read items).latest
+  pub pooled : HoldsPooling history session.pooling
 
 -- how many bytes were taken
 abbrev pub taken_by : Session → ℕ
@@ -43,22 +52,27 @@ StandsSo view (Refused error) read items = RefusesCapture read (items, error)
 -- more items were read, and their text was put together
 pub record Drained (view : View) (session : Session) (read : List ℕ) (items : List Item) (text : List ℕ) : Type 0 where
   pub more : List Item
-  pub stands : Stands view session read (items ++ more)
-  pub texts : AreTexts view none_read (items ++ more) (text ++ session.output.items)
+  pub after : PoolHistory
+  pub stands : Stands view session read (items ++ more) after
+  pub texts : AreAllTexts view (items ++ more) (text ++ session.output.items) after
 
 -- the same, and the capture stands so
 abbrev pub Drains : View → Session → Standing → List ℕ → List Item → List ℕ → Type 0
 Drains view session standing read items text =
     (drained : Drained view session read items text) × StandsSo view standing read (items ++ drained.more)
 
--- a packet was counted, and its line put together
-pub record PushesLine (old new : Session) (head : Heading) (one : PlainPacket) : Type 0 where
+-- a packet was counted, and its text put together behind what became of the pool
+pub record PushesLine (old new : Session) (before : PoolHistory) (shown : PlainShown) : Type 0 where
   pub view : new.view ≡ old.view
   pub line : List ℕ
-  pub is : IsLine old.view head (old.number + 1) (first_time old.first (time_of head one)) one line
+  pub after : PoolHistory
+  pub is : IsLine old.view (old.number + 1) (first_after old.first (instant_in shown))
+      (latest_after old.latest (instant_in shown)) before shown line after
+  pub pooled : HoldsPooling after new.pooling
   pub output : new.output.items ≡ old.output.items ++ line
   pub number : new.number ≡ old.number + 1
-  pub first : new.first ≡ Some (first_time old.first (time_of head one))
+  pub first : new.first ≡ first_after old.first (instant_in shown)
+  pub latest : new.latest ≡ latest_after old.latest (instant_in shown)
 
 -- how a run ends where the capture stands so and so many packets were read
 abbrev pub ending_of : Standing → ℕ → Ending

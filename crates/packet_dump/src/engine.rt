@@ -8,6 +8,7 @@ ghost use Rattle.packet_dump.specs.WatchedWords.{has_ended, has_failed, reads_le
 use crate::ending::Ending;
 use crate::run_error::RunError;
 use crate::session::{Session, Standing};
+use crate::summary::Summary;
 use crate::view::View;
 use crate::watched::Watched;
 use std::alloc::{AllocError, Global};
@@ -16,13 +17,15 @@ use std::io::{Read, Write};
 /// How many bytes are read at a time, at most.
 const PIECE_LEN: usize = 65_536;
 
-/// Writes the lines of the packets of the capture that the reader gives, until it has ended, as many packets were read as
-/// are wanted, or what it gave is refused, and says which. Neither may have failed before, nor the reader have ended.
+/// Writes the lines of the packets of the capture that the reader gives, until it has ended, as many packets were read
+/// as are wanted, or what it gave is refused, and says which. Neither may have failed before, nor the reader have ended.
 ///
-/// The reader is read in pieces of 64 KiB, and what was read of them is written before the next is read.
+/// The reader is read in pieces of 64 KiB, and what was read of them is written before the next is read. What was read
+/// is counted in the summary, as far as that is wanted.
 pub fn run<R: Read, W: Write>(
     alloc: Global,
     view: View,
+    summary: &mut Summary,
     reader: &mut Watched<R>,
     writer: &mut Watched<W>,
 ) -> Result<Ending, RunError>
@@ -45,10 +48,12 @@ pub fn run<R: Read, W: Write>(
     let piece = buffer.as_mut_slice();
     let mut session = Session::new(alloc, view);
     'pieces: loop {
-        let standing = session.drain()?;
+        let standing = session.drain(summary)?;
         writer.write_all(session.output.as_slice())?;
         if reader.ended() || matches!(standing, Standing::Enough | Standing::Refused(_)) {
-            return Ok(session.ending(standing));
+            let ending = session.ending(standing);
+            session.count_pool(summary);
+            return Ok(ending);
         }
         let count = reader.read(piece)?;
         session.take(&piece[..count])?;

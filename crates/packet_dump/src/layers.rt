@@ -6,7 +6,7 @@ ghost use Rattle.ep_base.specs.IpPayload.{ip_payload_of};
 ghost use Rattle.ep_packet.specs.FrameBytes.{last_payload};
 ghost use Rattle.ep_packet.specs.Layers.{layers_of};
 ghost use Rattle.ep_packet.specs.Payloads.{payload_ether_type_in};
-ghost use Rattle.packet_dump.specs.Layers.{ether_type_text, ip_payload_text, layers_text, unread_text};
+ghost use Rattle.packet_dump.specs.Layers.{ether_type_text, ip_payload_text, layers_text, outer_text, unread_text};
 
 use crate::addresses::push_hex;
 use crate::decimals;
@@ -21,13 +21,20 @@ use std::alloc::AllocError;
 pub fn push_layers(output: &mut Vec<u8>, packet: &SlicedPacket<'_>) -> Result<(), AllocError>
     ensures { OnOk result (output.new.items ≡ output.old.items ++ layers_text (layers_of packet.now)) }
 {
-    push_link(output, &packet.link)?;
-    push_extensions(output, packet.link_exts.as_slice())?;
-    push_net(output, &packet.net)?;
+    push_outer(output, packet)?;
     match &packet.transport {
         Some(transport) => push_transport(output, transport),
         None => push_unread(output, packet),
     }
+}
+
+/// Appends the text of each layer outside the payload of the net layer.
+pub fn push_outer(output: &mut Vec<u8>, packet: &SlicedPacket<'_>) -> Result<(), AllocError>
+    ensures { OnOk result (output.new.items ≡ output.old.items ++ outer_text (layers_of packet.now)) }
+{
+    push_link(output, &packet.link)?;
+    push_extensions(output, packet.link_exts.as_slice())?;
+    push_net(output, &packet.net)
 }
 
 /// Appends what no layer was read in: the payload of an IP packet, or else that of the link layer and its extensions.

@@ -1,37 +1,104 @@
 //! The line of a packet.
 
-ghost use Rattle.std.specs.Prelude.{◌≡◌, ◌<◌, ◌+◌, ◌^◌, ◌∷◌, ◌++◌, [], ℕ, List, OnOk};
-ghost use Rattle.capture_reader.specs.Classic.{packet_of};
+ghost use Rattle.std.specs.Prelude.{◌≡◌, ◌<◌, ◌++◌, ℕ, IsTrue, List, OnOk};
+ghost use Rattle.capture_reader.specs.Classic.{knows_link};
+ghost use Rattle.capture_reader.specs.Readers.{shown_of};
 ghost use Rattle.ep_packet.specs.Layers.{layers_of};
-ghost use Rattle.packet_dump.specs.Contents.{bytes_text, frame, in_row_text, refusal, row_start, rows_text};
-ghost use Rattle.packet_dump.specs.Dumps.{IsLine, cut_text, end_text, entry_of, span_text, start_text, time_of};
-ghost use Rattle.packet_dump.specs.Dumps.{shown_text, time_text, units_of};
+ghost use Rattle.packet_dump.specs.Contents.{bytes_text, entry_of, frame, in_row_text, other_link, refusal};
+ghost use Rattle.packet_dump.specs.Contents.{row_start, rows_text};
+ghost use Rattle.packet_dump.specs.Dumps.{IsLine};
+ghost use Rattle.packet_dump.specs.PacketLines.{cut_text, end_text, fraction_text, shown_text, since_text};
+ghost use Rattle.packet_dump.specs.PacketLines.{seconds_in, span_text, start_text, time_text};
+ghost use Rattle.packet_dump.specs.PoolCalls.{PoolHistory};
+ghost use Rattle.packet_dump.specs.PoolLines.{IsPooled};
+ghost use Rattle.packet_dump.specs.Sessions.{HoldsPooling};
 
 use crate::addresses::push_pair;
 use crate::decimals;
 use crate::layers::push_layers;
+use crate::pooling::Pooling;
 use crate::refusals::push_refusal;
+use crate::shown::{instant_of, is_fine};
+use crate::summary::Summary;
 use crate::view::{Kind, View};
-use capture_reader::{Heading, Packet, Resolution};
+use capture_reader::{Shown, Time, knows_link};
 use ep_packet::err::SliceError;
 use ep_packet::{Entry, SlicedPacket};
 use std::alloc::AllocError;
 
-/// Appends the line of a packet, whose time is counted from the first packet's, where it is of a kind that is shown.
+/// Appends the line of a packet, whose time is counted from the first one's, where it is of a kind that is shown, and
+/// then what the pool says of the fragment that it carries, which came at the latest instant.
 pub fn push_line(
     output: &mut Vec<u8>,
+    pooling: &mut Pooling,
+    summary: &mut Summary,
     view: &View,
-    heading: &Heading,
     number: u64,
-    first: u64,
-    packet: &Packet<'_>,
+    first: Option<u128>,
+    latest: u128,
+    shown: &Shown<'_>,
 ) -> Result<(), AllocError>
-    ensures { OnOk result ((line : List ℕ) × IsLine view.now heading.now number first (packet_of packet.now) line
-        × (output.new.items ≡ output.old.items ++ line)) }
+    ensures { OnOk result ((before : PoolHistory) → HoldsPooling before pooling.old →
+        (line : List ℕ) × (after : PoolHistory)
+        × IsLine view.now number first latest before (shown_of shown.now) line after
+        × HoldsPooling after pooling.new × (output.new.items ≡ output.old.items ++ line)) }
 {
-    match SlicedPacket::from_entry(entry_of(heading.link_type()), packet.bytes) {
-        Ok(frame) => push_frame(output, view, heading, number, first, packet, &frame),
-        Err(error) => push_refused(output, view, heading, number, first, packet, &error),
+    if knows_link(shown.link_type) {
+        push_read(output, pooling, summary, view, number, first, latest, shown)
+    } else {
+        push_other(output, view, number, first, shown)
+    }
+}
+
+/// The same of a packet whose link type is read.
+fn push_read(
+    output: &mut Vec<u8>,
+    pooling: &mut Pooling,
+    summary: &mut Summary,
+    view: &View,
+    number: u64,
+    first: Option<u128>,
+    latest: u128,
+    shown: &Shown<'_>,
+) -> Result<(), AllocError>
+    requires { IsTrue (knows_link shown.now.link_type) }
+    ensures { OnOk result ((before : PoolHistory) → HoldsPooling before pooling.old →
+        (line : List ℕ) × (after : PoolHistory)
+        × IsLine view.now number first latest before (shown_of shown.now) line after
+        × HoldsPooling after pooling.new × (output.new.items ≡ output.old.items ++ line)) }
+{
+    match SlicedPacket::from_entry(entry_of(shown.link_type), shown.bytes) {
+        Ok(frame) => {
+            summary.count_frame(&frame);
+            push_whole(output, pooling, view, number, first, latest, shown, &frame)
+        }
+        Err(error) => push_refused(output, summary, view, number, first, shown, &error),
+    }
+}
+
+/// Appends the line of a packet that is a frame, and then what the pool says of the fragment that it carries.
+fn push_whole(
+    output: &mut Vec<u8>,
+    pooling: &mut Pooling,
+    view: &View,
+    number: u64,
+    first: Option<u128>,
+    latest: u128,
+    shown: &Shown<'_>,
+    sliced: &SlicedPacket<'_>,
+) -> Result<(), AllocError>
+    ensures { OnOk result ((before : PoolHistory) → HoldsPooling before pooling.old →
+        (more : List ℕ) × (after : PoolHistory)
+        × IsPooled view.now (start_text number first (shown_of shown.now)) before latest
+        (frame (layers_of sliced.now)) more after
+        × HoldsPooling after pooling.new × (output.new.items ≡ output.old.items
+        ++ (shown_text view.now number first (shown_of shown.now) (frame (layers_of sliced.now)) ++ more))) }
+{
+    push_frame(output, view, number, first, shown, sliced)?;
+    if view.reassemble {
+        pooling.give(output, view, number, first, latest, shown, sliced)
+    } else {
+        Ok(())
     }
 }
 
@@ -39,76 +106,92 @@ pub fn push_line(
 fn push_frame(
     output: &mut Vec<u8>,
     view: &View,
-    heading: &Heading,
     number: u64,
-    first: u64,
-    packet: &Packet<'_>,
+    first: Option<u128>,
+    shown: &Shown<'_>,
     sliced: &SlicedPacket<'_>,
 ) -> Result<(), AllocError>
     ensures { OnOk result (output.new.items ≡ output.old.items
-        ++ shown_text view.now heading.now number first (packet_of packet.now) (frame (layers_of sliced.now))) }
+        ++ shown_text view.now number first (shown_of shown.now) (frame (layers_of sliced.now))) }
 {
     if !view.shows(Kind::of(sliced)) {
         return Ok(());
     }
-    push_start(output, heading, number, first, packet)?;
+    push_start(output, number, first, shown)?;
     push_layers(output, sliced)?;
-    push_end(output, packet, view.hex, sliced.payload())
+    push_end(output, shown, view.hex, sliced.payload())
 }
 
 /// Appends the line of a packet that is refused, where such packets are shown.
 fn push_refused(
     output: &mut Vec<u8>,
+    summary: &mut Summary,
     view: &View,
-    heading: &Heading,
     number: u64,
-    first: u64,
-    packet: &Packet<'_>,
+    first: Option<u128>,
+    shown: &Shown<'_>,
     error: &SliceError,
 ) -> Result<(), AllocError>
     ensures { OnOk result (output.new.items ≡ output.old.items
-        ++ shown_text view.now heading.now number first (packet_of packet.now) (refusal error.now)) }
+        ++ shown_text view.now number first (shown_of shown.now) (refusal error.now)) }
 {
+    summary.count_refusal(error)?;
     if !view.shows(Some(Kind::Refused)) {
         return Ok(());
     }
-    push_start(output, heading, number, first, packet)?;
+    push_start(output, number, first, shown)?;
     push_refusal(output, error)?;
-    push_end(output, packet, view.hex, packet.bytes)
+    push_end(output, shown, view.hex, shown.bytes)
+}
+
+/// Appends the line of a packet whose link type is not read, where all packets are shown.
+fn push_other(
+    output: &mut Vec<u8>,
+    view: &View,
+    number: u64,
+    first: Option<u128>,
+    shown: &Shown<'_>,
+) -> Result<(), AllocError>
+    ensures { OnOk result (output.new.items ≡ output.old.items
+        ++ shown_text view.now number first (shown_of shown.now) (other_link shown.now.link_type)) }
+{
+    if !view.shows(None) {
+        return Ok(());
+    }
+    push_start(output, number, first, shown)?;
+    decimals::push_behind(output, b" link ", u64::from(shown.link_type))?;
+    push_end(output, shown, view.hex, shown.bytes)
 }
 
 /// Appends what the line of a packet begins with: its number, and its time since the first.
-fn push_start(
+pub fn push_start(
     output: &mut Vec<u8>,
-    heading: &Heading,
     number: u64,
-    first: u64,
-    packet: &Packet<'_>,
+    first: Option<u128>,
+    shown: &Shown<'_>,
 ) -> Result<(), AllocError>
-    ensures { OnOk result (output.new.items
-        ≡ output.old.items ++ start_text heading.now number first (packet_of packet.now)) }
+    ensures { OnOk result (output.new.items ≡ output.old.items ++ start_text number first (shown_of shown.now)) }
 {
-    let this = time_of(heading, packet);
     decimals::push(output, number)?;
     output.push(b' ')?;
-    push_time(output, units_of(heading.resolution), first, this)
+    push_time(output, first, shown.time)
 }
 
-/// Appends what the line of a packet ends with: how much was kept where that is not all, bytes where they are wanted, and
-/// the line feed.
+/// Appends what the line of a packet ends with: how much was kept where that is not all, bytes where they are wanted,
+/// and the line feed.
 fn push_end(
     output: &mut Vec<u8>,
-    packet: &Packet<'_>,
+    shown: &Shown<'_>,
     hex: bool,
     bytes: &[u8],
 ) -> Result<(), AllocError>
     ensures { OnOk result (output.new.items
-        ≡ output.old.items ++ end_text (packet_of packet.now) (bytes_text hex bytes.now)) }
+        ≡ output.old.items ++ end_text (shown_of shown.now) (bytes_text hex bytes.now)) }
 {
     push_cut(
         output,
-        packet.bytes.len() as u64,
-        u64::from(packet.original_len),
+        shown.bytes.len() as u64,
+        u64::from(shown.original_len),
     )?;
     if hex {
         push_rows(output, bytes)?;
@@ -118,7 +201,7 @@ fn push_end(
 }
 
 /// Appends bytes, sixteen in a row.
-fn push_rows(output: &mut Vec<u8>, bytes: &[u8]) -> Result<(), AllocError>
+pub fn push_rows(output: &mut Vec<u8>, bytes: &[u8]) -> Result<(), AllocError>
     ensures { OnOk result (output.new.items ≡ output.old.items ++ rows_text 0 bytes.now) }
 {
     for index in 0..bytes.len() {
@@ -159,46 +242,63 @@ fn entry_of(link_type: u16) -> Entry
     }
 }
 
-/// How many fractions make a second.
-fn units_of(resolution: Resolution) -> u64
-    ensures { result ≡ units_of resolution }
+/// Appends the time since the first packet, where it is known.
+fn push_time(
+    output: &mut Vec<u8>,
+    first: Option<u128>,
+    time: Option<Time>,
+) -> Result<(), AllocError>
+    ensures { OnOk result (output.new.items ≡ output.old.items ++ time_text first time) }
 {
-    match resolution {
-        Resolution::Micros => 1_000_000,
-        Resolution::Nanos => 1_000_000_000,
+    match (first, time) {
+        (Some(first), Some(time)) => push_since(output, is_fine(time), first, instant_of(time)),
+        (Some(_), None) | (None, _) => output.extend_from_slice(b"-"),
     }
 }
 
-/// When a packet came, in fractions of a second.
-pub fn time_of(heading: &Heading, packet: &Packet<'_>) -> u64
-    ensures { result ≡ time_of heading.now (packet_of packet.now) }
-{
-    u64::from(packet.seconds) * units_of(heading.resolution) + u64::from(packet.fraction)
-}
-
-/// Appends the time since the first packet.
-fn push_time(output: &mut Vec<u8>, units: u64, first: u64, this: u64) -> Result<(), AllocError>
-    requires some { 0 < units }
-    requires few { units < 2 ^ 32 }
-    ensures { OnOk result (output.new.items ≡ output.old.items ++ time_text units first this) }
+/// Appends the span from one instant to another.
+fn push_since(output: &mut Vec<u8>, fine: bool, first: u128, this: u128) -> Result<(), AllocError>
+    ensures { OnOk result (output.new.items ≡ output.old.items ++ since_text fine first this) }
 {
     if this < first {
-        output.push(b'-')?;
-        push_span(output, units, first - this)
+        output.extend_from_slice(b"-")?;
+        push_span(output, fine, first - this)
     } else {
-        push_span(output, units, this - first)
+        push_span(output, fine, this - first)
     }
 }
 
-/// Appends a span of time.
-fn push_span(output: &mut Vec<u8>, units: u64, span: u64) -> Result<(), AllocError>
-    requires some { 0 < units }
-    requires few { units < 2 ^ 32 }
-    ensures { OnOk result (output.new.items ≡ output.old.items ++ span_text units span) }
+/// Appends a span of nanoseconds.
+fn push_span(output: &mut Vec<u8>, fine: bool, span: u128) -> Result<(), AllocError>
+    ensures { OnOk result (output.new.items ≡ output.old.items ++ span_text fine span) }
 {
-    decimals::push(output, span / units)?;
-    output.push(b'.')?;
-    decimals::push_behind_first(output, units + span % units)
+    decimals::push(output, seconds_in(span))?;
+    output.extend_from_slice(b".")?;
+    push_fraction(output, fine, (span % 1_000_000_000) as u64)
+}
+
+/// How many seconds are in a span of nanoseconds, at most as many as 64 bits hold.
+fn seconds_in(span: u128) -> u64
+    ensures { result ≡ seconds_in span }
+{
+    let seconds = span / 1_000_000_000;
+    if seconds < 0x1_0000_0000_0000_0000 {
+        seconds as u64
+    } else {
+        u64::MAX
+    }
+}
+
+/// Appends the digits of a fraction of a second.
+fn push_fraction(output: &mut Vec<u8>, fine: bool, nanos: u64) -> Result<(), AllocError>
+    requires { nanos < 1000000000 }
+    ensures { OnOk result (output.new.items ≡ output.old.items ++ fraction_text fine nanos) }
+{
+    if fine {
+        decimals::push_behind_first(output, 1_000_000_000 + nanos)
+    } else {
+        decimals::push_behind_first(output, 1_000_000 + nanos / 1_000)
+    }
 }
 
 /// Appends how much of a packet was kept, where that is not all.

@@ -1,8 +1,8 @@
 //! Prints a line for each packet of a capture.
 //!
-//! `packet_dump FILE` reads a file, and `packet_dump` or `packet_dump -` standard input. A line has the packet's number,
-//! its time since the first one in seconds, its layers from the outside in, or why it is refused, and how much of it was
-//! kept where that is not all. `packet_dump --help` lists the options.
+//! `packet_dump FILE` reads a file, and `packet_dump` or `packet_dump -` standard input. A line has the packet's
+//! number, its time since the first one in seconds, its layers from the outside in, or why it is refused, and how much
+//! of it was kept where that is not all. `packet_dump --help` lists the options.
 #![tactic(auto)]
 
 mod addresses;
@@ -15,9 +15,16 @@ mod lines;
 mod links;
 mod nets;
 mod options;
+mod pool_lines;
+mod pooling;
+mod progress;
 mod refusals;
 pub mod run_error;
 mod session;
+mod shown;
+pub mod summary;
+#[cfg(test)]
+mod tests;
 mod transports;
 pub mod view;
 pub mod watched;
@@ -25,10 +32,13 @@ pub mod watched;
 use crate::ending::Ending;
 use crate::engine::run;
 use crate::options::{Request, UsageError, parse};
+use crate::progress::{LONG, Progress};
 use crate::run_error::RunError;
+use crate::summary::Summary;
 use crate::view::View;
 use crate::watched::Watched;
 use capture_reader::Refusal;
+use std::io::{IsTerminal, Read};
 use std::process::ExitCode;
 use std::rt::{Env, Files};
 use std::{env, fs};
@@ -36,15 +46,21 @@ use std::{env, fs};
 /// The text of `--help`.
 const HELP: &str = "usage: packet_dump [OPTION..] [FILE]
 
-Prints a line for each packet of a capture (pcap): the packet's number, its time
-since the first one, its layers from the outside in or why it is refused, and
-how much of it was kept. Without FILE, or where it is -, standard input is read.
+Prints a line for each packet of a capture (pcap or pcapng): the packet's number,
+its time since the first one, its layers from the outside in or why it is
+refused, and how much of it was kept. Without FILE, or where it is -, standard
+input is read.
 
-  --count N      stop behind the Nth packet
-  --only KIND    only packets of a kind: udp, tcp, icmp, arp or refused
-  --hex          the bytes of payloads too, 16 in a row
-  --help         this text
-  --version      the version
+  --count N          stop behind the Nth packet
+  --only KIND        only packets of a kind: udp, tcp, icmp, arp or refused
+  --hex              the bytes of payloads too, 16 in a row
+  --reassemble       put IP payloads together from their fragments: a line more
+                     behind the packet that completes one, or is refused for it
+  --timeout SECONDS  give a payload up of which nothing came for so long (30)
+  --limit BYTES      put no payload together that is longer (65535)
+  --summary          behind the lines how much of what was read, and the errors
+  --help             this text
+  --version          the version
 
 It ends with 0, with 1 where the capture is none or is cut, a file cannot be
 read or a line not be written, and with 2 where the command line is wrong.";
@@ -69,7 +85,13 @@ fn main(rt: HostRuntime) -> ExitCode {
     match parse(behind_name) {
         Ok(Request::Help) => printed(&rt, HELP),
         Ok(Request::Version) => printed(&rt, VERSION),
-        Ok(Request::Dump { view, path }) => dump(&rt, view, path),
+        Ok(
+            Request::Dump {
+                view,
+                path,
+                summary,
+            },
+        ) => dump(&rt, view, path, summary),
         Err(error) => refused(&rt, &error),
     }
 }
@@ -97,29 +119,69 @@ fn refused(rt: &impl Eprint, error: &UsageError<'_>) -> ExitCode {
         UsageError::NotAKind(word) => {
             eprintln!(rt; "packet_dump: no kind of packets: {word} (udp, tcp, icmp, arp, refused)")
         }
+        UsageError::NotATimeout(word) => {
+            eprintln!(rt; "packet_dump: no number of seconds up to 4294967295: {word}")
+        }
+        UsageError::NotALimit(word) => {
+            eprintln!(rt; "packet_dump: no number of bytes up to 65535: {word}")
+        }
         UsageError::SecondFile(word) => eprintln!(rt; "packet_dump: a second file: {word}"),
     };
     said(rt, "packet_dump --help lists the options", 2)
 }
 
-/// Writes the lines of a file or of standard input.
-fn dump(rt: &HostRuntime, view: View, path: Option<&str>) -> ExitCode {
-    let mut writer = Watched::new(rt.stdout());
+/// Writes the lines of a file or of standard input, and the summary where it is wanted.
+fn dump(rt: &HostRuntime, view: View, path: Option<&str>, wanted: bool) -> ExitCode {
+    let mut summary = Summary::new(rt.alloc(), wanted);
     let outcome = match path {
         Some(path) => {
             let Ok(file) = fs::open(rt, path) else {
                 let _ = eprintln!(rt; "packet_dump: {path} cannot be opened");
                 return ExitCode::from(1);
             };
-            let mut reader = Watched::new(file);
-            run(rt.alloc(), view, &mut reader, &mut writer)
+            dump_file(rt, view, &mut summary, file)
         }
-        None => {
-            let mut reader = Watched::new(rt.stdin());
-            run(rt.alloc(), view, &mut reader, &mut writer)
-        }
+        None => dump_reader(rt, view, &mut summary, rt.stdin()),
     };
+    if wanted && outcome.is_ok() && !summarized(rt, &summary) {
+        return said(rt, RunError::Write.text(), 1);
+    }
     ended(rt, outcome)
+}
+
+/// Writes the lines of a file. How far it was read is said where that takes long and nobody sees the lines come.
+fn dump_file(
+    rt: &HostRuntime,
+    view: View,
+    summary: &mut Summary,
+    file: fs::File,
+) -> Result<Ending, RunError> {
+    match file.metadata() {
+        Ok(metadata) if metadata.len() >= LONG && !rt.stdout().is_terminal() => {
+            dump_reader(rt, view, summary, Progress::new(file, rt, metadata.len()))
+        }
+        _ => dump_reader(rt, view, summary, file),
+    }
+}
+
+/// Writes the lines of what a reader gives.
+fn dump_reader(
+    rt: &HostRuntime,
+    view: View,
+    summary: &mut Summary,
+    reader: impl Read + Drop,
+) -> Result<Ending, RunError> {
+    let mut reader = Watched::new(reader);
+    let mut writer = Watched::new(rt.stdout());
+    run(rt.alloc(), view, summary, &mut reader, &mut writer)
+}
+
+/// Prints the summary, and tells whether that succeeded.
+fn summarized(rt: &HostRuntime, summary: &Summary) -> bool {
+    match summary.text(rt.alloc()) {
+        Ok(text) => rt.print(text).is_ok(),
+        Err(_) => false,
+    }
 }
 
 /// How the program ends after a run.
@@ -144,9 +206,6 @@ fn hint(refusal: Refusal) -> Option<&'static str> {
             "packet_dump: what is read is Ethernet, raw IP, and Linux cooked captures \
             (tcpdump -y LINUX_SLL -i any)",
         ),
-        Refusal::UnknownMagic { magic: 0x0a0d_0d0a } => {
-            Some("packet_dump: pcapng is not read; editcap -F pcap IN OUT makes a pcap file of it")
-        }
         _ => None,
     }
 }

@@ -10,7 +10,12 @@ pub enum Request<'a> {
     /// The text of `--version`.
     Version,
     /// The lines of a capture: of the file of this name, or of standard input where there is none.
-    Dump { view: View, path: Option<&'a str> },
+    Dump {
+        view: View,
+        path: Option<&'a str>,
+        /// Whether a summary follows.
+        summary: bool,
+    },
 }
 
 /// What is wrong with a command line.
@@ -24,6 +29,10 @@ pub enum UsageError<'a> {
     NotACount(&'a str),
     /// The word behind `--only` is no kind of packet.
     NotAKind(&'a str),
+    /// The word behind `--timeout` is no number of seconds, of at most 4294967295.
+    NotATimeout(&'a str),
+    /// The word behind `--limit` is no number of bytes, of at most 65535.
+    NotALimit(&'a str),
     /// A second file is named.
     SecondFile(&'a str),
 }
@@ -33,6 +42,20 @@ pub enum UsageError<'a> {
 enum Awaited {
     Count,
     Only,
+    Timeout,
+    Limit,
+}
+
+impl Awaited {
+    /// The option's word.
+    fn word(self) -> &'static str {
+        match self {
+            Awaited::Count => "--count",
+            Awaited::Only => "--only",
+            Awaited::Timeout => "--timeout",
+            Awaited::Limit => "--limit",
+        }
+    }
 }
 
 /// Reads the words behind the program's name.
@@ -41,28 +64,30 @@ pub fn parse(words: &[String]) -> Result<Request<'_>, UsageError<'_>> {
         only: None,
         most: u64::MAX,
         hex: false,
+        reassemble: false,
+        timeout: 30,
+        limit: u16::MAX,
     };
     let mut path = None;
+    let mut summary = false;
     let mut awaited = None;
     for word in words {
         let text = word.as_str();
         match awaited {
-            Some(Awaited::Count) => {
-                view.most = text
-                    .parse::<u64>()
-                    .map_err(|_| UsageError::NotACount(text))?;
-                awaited = None;
-            }
-            Some(Awaited::Only) => {
-                view.only = Some(kind_of(text).ok_or(UsageError::NotAKind(text))?);
+            Some(option) => {
+                set(&mut view, option, text)?;
                 awaited = None;
             }
             None => match text {
                 "-h" | "--help" => return Ok(Request::Help),
                 "-V" | "--version" => return Ok(Request::Version),
                 "--hex" => view.hex = true,
+                "--summary" => summary = true,
+                "--reassemble" => view.reassemble = true,
                 "--count" => awaited = Some(Awaited::Count),
                 "--only" => awaited = Some(Awaited::Only),
+                "--timeout" => awaited = Some(Awaited::Timeout),
+                "--limit" => awaited = Some(Awaited::Limit),
                 "-" => path = None,
                 _ if text.starts_with("-") => return Err(UsageError::UnknownOption(text)),
                 _ if path.is_some() => return Err(UsageError::SecondFile(text)),
@@ -71,10 +96,38 @@ pub fn parse(words: &[String]) -> Result<Request<'_>, UsageError<'_>> {
         }
     }
     match awaited {
-        Some(Awaited::Count) => Err(UsageError::NoValue("--count")),
-        Some(Awaited::Only) => Err(UsageError::NoValue("--only")),
-        None => Ok(Request::Dump { view, path }),
+        Some(option) => Err(UsageError::NoValue(option.word())),
+        None => Ok(Request::Dump {
+            view,
+            path,
+            summary,
+        }),
     }
+}
+
+/// Sets an option to the value that a word says.
+fn set<'a>(view: &mut View, option: Awaited, text: &'a str) -> Result<(), UsageError<'a>> {
+    match option {
+        Awaited::Count => {
+            view.most = text
+                .parse::<u64>()
+                .map_err(|_| UsageError::NotACount(text))?;
+        }
+        Awaited::Only => {
+            view.only = Some(kind_of(text).ok_or(UsageError::NotAKind(text))?);
+        }
+        Awaited::Timeout => {
+            view.timeout = text
+                .parse::<u32>()
+                .map_err(|_| UsageError::NotATimeout(text))?;
+        }
+        Awaited::Limit => {
+            view.limit = text
+                .parse::<u16>()
+                .map_err(|_| UsageError::NotALimit(text))?;
+        }
+    }
+    Ok(())
 }
 
 /// The kind of packets of this name.

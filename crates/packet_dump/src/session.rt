@@ -1,15 +1,18 @@
 //! What is known between two pieces of a capture.
 
 ghost use Rattle.std.specs.Prelude.{◌≡◌, ◌<◌, ◌≤◌, ◌+◌, ◌^◌, ◌++◌, [], ℕ, List, IfOk, OnOk, length};
-ghost use Rattle.capture_reader.specs.Captures.{Item, in_records};
-ghost use Rattle.capture_reader.specs.Readers.{reader_packet, reader_stage};
-ghost use Rattle.capture_reader.specs.declared.heading.Heading.{Heading};
-ghost use Rattle.packet_dump.specs.Dumps.{AreTexts, none_read};
-ghost use Rattle.packet_dump.specs.Sessions.{Counts, Drains, PushesLine, Stands, ending_of, taken_by};
+ghost use Rattle.capture_reader.specs.Captures.{Item};
+ghost use Rattle.capture_reader.specs.Readers.{reader_shown};
+ghost use Rattle.packet_dump.specs.Dumps.{AreAllTexts};
+ghost use Rattle.packet_dump.specs.PoolCalls.{PoolHistory, new_pool};
+ghost use Rattle.packet_dump.specs.Sessions.{Counts, Drains, HoldsPooling, PushesLine, Stands, ending_of, taken_by};
 ghost use Rattle.packet_dump.specs.declared.view.View.{View};
 
 use crate::ending::Ending;
-use crate::lines::{push_line, time_of};
+use crate::lines::push_line;
+use crate::pooling::Pooling;
+use crate::shown::{first_after, instant_in, latest_after};
+use crate::summary::Summary;
 use crate::view::View;
 use capture_reader::{Advance, CaptureError, CaptureReader};
 use std::alloc::{AllocError, Global};
@@ -27,14 +30,17 @@ pub enum Standing {
     Refused(CaptureError),
 }
 
-/// The reader of a capture, how many packets it read, and when the first came.
+/// The reader of a capture, how many packets it read, when the first and the last came, and the pool of fragments.
 #[derive(Drop)]
 pub struct Session {
     view: View,
     capture: CaptureReader,
     number: u64,
-    /// In fractions of a second.
-    first: Option<u64>,
+    /// When the first packet came of which that is known, in nanoseconds.
+    first: Option<u128>,
+    /// When the last one came.
+    latest: u128,
+    pooling: Pooling,
     /// Lines that are not yet written.
     pub(crate) output: Vec<u8>,
 }
@@ -42,7 +48,7 @@ pub struct Session {
 impl Session {
     /// Nothing was read.
     pub fn new(alloc: Global, view: View) -> Session
-        ensures stands { Stands view result [] [] }
+        ensures stands { Stands view result [] [] (new_pool view.limit) }
         ensures taken { taken_by result ≡ 0 }
         ensures counts { Counts result }
     {
@@ -51,6 +57,8 @@ impl Session {
             capture: CaptureReader::new(alloc),
             number: 0,
             first: None,
+            latest: 0,
+            pooling: Pooling::new(alloc, view.limit),
             output: Vec::new(alloc),
         }
     }
@@ -58,8 +66,8 @@ impl Session {
     /// Takes the next bytes.
     pub fn take(&mut self, piece: &[u8]) -> Result<(), AllocError>
         requires room { taken_by self.old + length piece.now < 2 ^ 64 }
-        ensures stands { OnOk result ((view : View) (read : List ℕ) (items : List Item) →
-            Stands view self.old read items → Stands view self.new (read ++ piece.now) items) }
+        ensures stands { OnOk result ((view : View) (read : List ℕ) (items : List Item) (history : PoolHistory) →
+            Stands view self.old read items history → Stands view self.new (read ++ piece.now) items history) }
         ensures taken { OnOk result (taken_by self.new ≡ taken_by self.old + length piece.now) }
         ensures counts { Counts self.old → Counts self.new }
     {
@@ -67,12 +75,12 @@ impl Session {
     }
 
     /// Puts together the lines of the packets that were taken whole.
-    pub fn drain(&mut self) -> Result<Standing, AllocError>
+    pub fn drain(&mut self, summary: &mut Summary) -> Result<Standing, AllocError>
         requires room { taken_by self.old < 2 ^ 64 }
         requires counts { Counts self.old }
-        ensures drains { IfOk result (λ standing. (view : View) (read : List ℕ) (items : List Item) (text : List ℕ) →
-            Stands view self.old read items → AreTexts view none_read items text →
-            Drains view self.new standing read items text) }
+        ensures drains { IfOk result (λ standing. (view : View) (read : List ℕ) (items : List Item) (text : List ℕ)
+            (history : PoolHistory) → Stands view self.old read items history →
+            AreAllTexts view items text history → Drains view self.new standing read items text) }
         ensures taken { OnOk result (taken_by self.new ≡ taken_by self.old) }
         ensures counts { OnOk result (Counts self.new) }
     {
@@ -82,7 +90,7 @@ impl Session {
                 return Ok(Standing::Enough);
             }
             match self.capture.advance() {
-                Ok(Advance::Packet) => self.push_packet()?,
+                Ok(Advance::Packet) => self.push_packet(summary)?,
                 Ok(Advance::Other) => {}
                 Ok(Advance::MayEnd) => return Ok(Standing::MayEnd),
                 Ok(Advance::Cut(error)) => return Ok(Standing::Cut(error)),
@@ -105,30 +113,37 @@ impl Session {
         }
     }
 
+    /// Counts what became of fragments.
+    pub fn count_pool(&mut self, summary: &mut Summary) {
+        summary.count_pool(&mut self.pooling);
+    }
+
     /// Appends the line of the packet that was read last.
-    fn push_packet(&mut self) -> Result<(), AllocError>
+    fn push_packet(&mut self, summary: &mut Summary) -> Result<(), AllocError>
         requires { self.old.number + 1 < 2 ^ 64 }
         ensures capture { self.new.capture ≡ self.old.capture }
-        ensures line { OnOk result ((head : Heading) → reader_stage self.old.capture ≡ in_records head →
-            PushesLine self.old self.new head (reader_packet self.old.capture)) }
+        ensures line { OnOk result ((before : PoolHistory) → HoldsPooling before self.old.pooling →
+            PushesLine self.old self.new before (reader_shown self.old.capture)) }
         ensures counts { self.new.number ≤ self.old.number + 1 }
     {
-        let Some(heading) = self.capture.heading() else {
-            return Ok(());
-        };
-        let packet = self.capture.packet();
-        let this = time_of(&heading, &packet);
-        let first = self.first.unwrap_or(this);
+        let shown = self.capture.shown();
+        summary.count_packet(&shown);
+        let this = instant_in(&shown);
+        let first = first_after(self.first, this);
+        let latest = latest_after(self.latest, this);
         self.number += 1;
-        self.first = Some(first);
+        self.first = first;
+        self.latest = latest;
         let view = self.view;
         push_line(
             &mut self.output,
+            &mut self.pooling,
+            summary,
             &view,
-            &heading,
             self.number,
             first,
-            &packet,
+            latest,
+            &shown,
         )
     }
 }

@@ -1,8 +1,11 @@
 //! What is shown of a capture.
 
 ghost use Rattle.std.specs.Prelude.{◌≡◌, Some};
+ghost use Rattle.std.specs.Option.{option_map};
 ghost use Rattle.ep_packet.specs.Layers.{layers_of};
+ghost use Rattle.ep_transport.specs.TransportParts.{transport_layer_of};
 ghost use Rattle.packet_dump.specs.Contents.{content_kind, frame, same_kind, shows_kind};
+ghost use Rattle.packet_dump.specs.PoolLines.{inner_kind, part};
 
 use ep_packet::{NetSlice, SlicedPacket};
 use ep_transport::TransportSlice;
@@ -36,6 +39,18 @@ impl Kind {
         }
     }
 
+    /// The kind of the payload of an IP packet, where it is of one.
+    pub fn of_part(transport: &Option<TransportSlice<'_>>) -> Option<Kind>
+        ensures { result ≡ inner_kind (part (option_map transport_layer_of transport.now)) }
+    {
+        match transport {
+            Some(TransportSlice::Udp(_)) => Some(Kind::Udp),
+            Some(TransportSlice::Tcp(_)) => Some(Kind::Tcp),
+            Some(TransportSlice::Icmpv4(_) | TransportSlice::Icmpv6(_)) => Some(Kind::Icmp),
+            None => None,
+        }
+    }
+
     /// Whether two kinds are one.
     fn is(self, other: Kind) -> bool
         ensures { result ≡ same_kind self other }
@@ -60,6 +75,12 @@ pub struct View {
     pub most: u64,
     /// Whether the bytes of payloads are shown, and all bytes of what is refused.
     pub hex: bool,
+    /// Whether payloads are put together from fragments.
+    pub reassemble: bool,
+    /// How many seconds a stream of fragments is kept of which none is accepted.
+    pub timeout: u32,
+    /// The greatest length of a payload that is put together, in bytes.
+    pub limit: u16,
 }
 
 impl View {

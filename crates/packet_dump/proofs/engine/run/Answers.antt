@@ -5,8 +5,19 @@ use Rattle.packet_dump.specs.Dumps.{IsDump}
 use Rattle.packet_dump.specs.Sessions.{Moves}
 use Rattle.packet_dump.specs.WatchedWords.{AppendsFront, inner_of}
 use Rattle.packet_dump.proofs.DumpLemmas.{Moves-begun, Moves-drained, Moves-ended, Moves-front, Moves-kept, Moves-piece}
-use Rattle.packet_dump.proofs.DumpLemmas.{Moves-taken, at_exit}
+use Rattle.packet_dump.proofs.DumpLemmas.{Moves-new, Moves-taken, at_exit}
 use Rattle.packet_dump.proofs.engine.run.Goals as goal
+
+pub pieces-init : goal.pieces-init
+pieces-init g c = (
+  Moves-new c.args.view c.new-session.result (g.R.Read.remaining (inner_of c.args.reader.now))
+      (g.W.Write.contents (inner_of c.args.writer.now)) c.new-session.ensures.stands,
+  c.requires.reader_sound,
+  c.requires.writer_sound,
+  grind (arith, common_steps),
+  c.new-session.ensures.counts,
+  grind (arith, common_steps, c.new-session.ensures.taken, c.requires.reads),
+)
 
 pub returns-in_err-write_all-clause-err : goal.returns-in_err-write_all-clause-err
 returns-in_err-write_all-clause-err g c =
@@ -29,7 +40,7 @@ returns-then-ended-clause-ok g c =
     let held = contents (inner_of c.args.writer.now) in
     let holds = contents (inner_of c.pieces.writer) in
     let then_holds = contents (inner_of c.write_all.new.self) in
-    subst (λ e. Moves (IsDump c.args.view e) had has held then_holds) (sym c.ending.ensures)
+    subst (λ e. Moves (IsDump c.args.view e) had has held then_holds) (sym c.ending-ending.ensures)
     (Moves-ended c.args.view c.pieces.session c.drain.new.self c.in_ok-standing.standing had has held holds then_holds
     c.pieces.invariant.0 c.in_ok-standing.ensures.drains
     (subst (Appends holds then_holds) c.as_slice.ensures.value c.in_ok-write_all.ensures.all))

@@ -1,31 +1,20 @@
-use Rattle.std.proofs.Common.{ap, refl, subst, ◌∙◌}
+use Rattle.std.proofs.Common.{◌++◌, [], refl, sym, ◌∙◌}
+use Rattle.std.proofs.lemmas.List.{append-nil}
 use Rattle.std.proofs.lemmas.Result.{on_ok_weaker}
-use Rattle.capture_reader.specs.Classic.{packet_of}
-use Rattle.ep_packet.specs.Layers.{layers_of}
-use Rattle.packet_dump.specs.Contents.{Holds, frame, refusal}
-use Rattle.packet_dump.specs.Dumps.{entry_of, shown_text}
+use Rattle.capture_reader.specs.Readers.{shown_of}
+use Rattle.packet_dump.specs.Contents.{other_link}
+use Rattle.packet_dump.specs.PacketLines.{shown_text}
 use Rattle.packet_dump.proofs.lines.push_line.Goals as goal
 
-pub returns-in-Ok : goal.returns-in-Ok
-returns-in-Ok c =
-    let packet = c.args.packet.now in
-    let content = frame (layers_of c.in-Ok.frame) in
-    let entry = c.entry_of.ensures ∙ ap entry_of c.link_type.ensures in
-    on_ok_weaker c.push_frame.result
-    (λ pushed. (
-      shown_text c.args.view.now c.args.heading.now c.args.number c.args.first (packet_of packet) content,
-      (content, subst (λ e. Holds e packet.bytes.now content) entry c.in-Ok.ensures.ok, refl),
-      pushed,
-    )) c.push_frame.ensures
-
-pub returns-in-Err : goal.returns-in-Err
-returns-in-Err c =
-    let packet = c.args.packet.now in
-    let content = refusal c.in-Err.error in
-    let entry = c.entry_of.ensures ∙ ap entry_of c.link_type.ensures in
-    on_ok_weaker c.push_refused.result
-    (λ pushed. (
-      shown_text c.args.view.now c.args.heading.now c.args.number c.args.first (packet_of packet) content,
-      (content, subst (λ e. Holds e packet.bytes.now content) entry c.in-Err.ensures.err, refl),
-      pushed,
-    )) c.push_refused.ensures
+pub returns-else-knows_link : goal.returns-else-knows_link
+returns-else-knows_link c =
+    let shown = shown_of c.args.shown.now in
+    let content = other_link shown.link in
+    on_ok_weaker c.push_other.result
+    (λ pushed before held. (
+      shown_text c.args.view.now c.args.number c.args.first shown content ++ [],
+      before,
+      (content, [], (sym c.knows_link.ensures ∙ c.if-knows_link.false, refl), (refl, refl), refl),
+      held,
+      rw append-nil pushed,
+    )) c.push_other.ensures

@@ -1,15 +1,17 @@
 use Rattle.std.proofs.Common.{◌≡◌, ℕ, List}
 use Rattle.capture_reader.specs.Captures.{Item}
 use Rattle.capture_reader.specs.Readers.{reader_left}
-use Rattle.packet_dump.specs.Dumps.{AreTexts, none_read}
+use Rattle.packet_dump.specs.Dumps.{AreAllTexts}
+use Rattle.packet_dump.specs.PoolCalls.{PoolHistory}
 use Rattle.packet_dump.specs.Sessions.{Counts, Drained, Stands, taken_by}
 use Rattle.packet_dump.specs.declared.view.View.{View}
 use Rattle.packet_dump.proofs.session.Session.drain.Given as goal
 
 abbrev pub invariant-items : goal.invariant-items
 invariant-items l =
-    ((view : View) (read : List ℕ) (items : List Item) (text : List ℕ) → Stands view l.fn.self read items
-    → AreTexts view none_read items text → Drained view l.self read items text) × (taken_by l.self ≡ taken_by l.fn.self) × Counts l.self
+    ((view : View) (read : List ℕ) (items : List Item) (text : List ℕ) (history : PoolHistory)
+    → Stands view l.fn.self read items history → AreAllTexts view items text history
+    → Drained view l.self read items text) × (taken_by l.self ≡ taken_by l.fn.self) × Counts l.self
 
 abbrev pub decreases-items : goal.decreases-items
 decreases-items l = reader_left l.self.capture

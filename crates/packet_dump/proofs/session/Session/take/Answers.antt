@@ -5,4 +5,4 @@ use Rattle.packet_dump.proofs.session.Session.take.Goals as goal
 
 pub returns-clause-stands : goal.returns-clause-stands
 returns-clause-stands c =
-    on_ok_weaker c.take.result (λ more. takes c.args.self.now _ c.args.piece.now refl refl refl more) c.take.ensures.ok
+    on_ok_weaker c.take.result (λ more. takes c.args.self.now _ c.args.piece.now refl refl refl refl refl more) c.take.ensures.ok

@@ -1,0 +1,148 @@
+-- The program's pool after the calls that packets make.
+use Rattle.std.proofs.Common.{◌≡◌, ℕ, Bool, true, false, cond, if◌then◌else◌, nat_eq, nat_le, nat_lt, ◌/◌, List, [], ◌∷◌, ◌++◌, Option, Some, None, refl, sym, ap, ◌∙◌, subst}
+use Rattle.std.specs.Prelude.{IsFalse, Result, Ok, Err, OnOk}
+use Rattle.std.proofs.lemmas.List.{append-nil}
+use Rattle.std.proofs.lemmas.List.Elements.{filter-append}
+use Rattle.ep_defrag.specs.declared.ip_defrag_error.IpDefragError.{IpDefragError}
+use Rattle.ep_defrag.specs.declared.ip_defrag_payload_vec.IpDefragPayloadVec.{IpDefragPayloadVec}
+use Rattle.ep_defrag.specs.declared.ip_defrag_pool.IpDefragPool.{IpDefragPool}
+use Rattle.ep_defrag.specs.declared.ip_frag_id.IpFragId.{IpFragId}
+use Rattle.ep_defrag.specs.Calls.{gives_frame, drops_streams, returns_buffer, Kept, kept_after, kept_after_all, concerns, calls_of, table_after, answer_to, table_with}
+use Rattle.ep_defrag.specs.Pools.{limit_of, HoldsEntry, HoldsTable, TakesFrame, plain_frame_answer, stream_named, wants_memory}
+use Rattle.ep_defrag.specs.Streams.{PacketFragment, name_of, same_stream}
+use Rattle.ep_packet.specs.Layers.{Layers}
+use Rattle.packet_dump.specs.PoolCalls.{NumberCall, PoolHistory, new_pool, frame_call, with_call, with_sweep, HoldsHistory, table_behind}
+use Rattle.packet_dump.specs.PoolLines.{GivesFrame, GivesWhere, IsCallText, oldest_from, swept_at}
+use Rattle.packet_dump.specs.Sessions.{HoldsPooling}
+use Rattle.packet_dump.specs.declared.pooling.Pooling.{Pooling}
+use Rattle.packet_dump.specs.declared.view.View.{View}
+
+-- ---- one call more
+
+module _ (limit : ℕ) where
+  -- one more call at the end of those that concern a stream
+  kept_after_all-push : (kept : Option (Kept ℕ)) (calls : List NumberCall) (call : NumberCall)
+      → kept_after_all limit nat_le kept (calls ++ call ∷ [])
+      ≡ kept_after limit nat_le (kept_after_all limit nat_le kept calls) call
+  kept_after_all-push kept [] call = refl
+  kept_after_all-push kept (first ∷ calls) call =
+      kept_after_all-push (kept_after limit nat_le kept first) calls call
+
+  -- what one more call changes: nothing where it doesn't concern the stream
+  after_one_more : (calls : List NumberCall) (call : NumberCall) (name : IpFragId ℕ) (does : Bool)
+      → concerns nat_eq name call ≡ does → table_after limit nat_eq nat_le (calls ++ call ∷ []) name
+      ≡ cond does (kept_after limit nat_le (table_after limit nat_eq nat_le calls name) call)
+      (table_after limit nat_eq nat_le calls name)
+  after_one_more calls call name true does =
+      rw (filter-append (concerns nat_eq name) calls (call ∷ []), does)
+      (kept_after_all-push None (calls_of nat_eq name calls) call)
+  after_one_more calls call name false not =
+      rw (filter-append (concerns nat_eq name) calls (call ∷ []), not)
+      (ap (kept_after_all limit nat_le None) (append-nil (calls_of nat_eq name calls)))
+
+  -- the table behind one more call
+  table_after-push : (calls : List NumberCall) (call : NumberCall) (name : IpFragId ℕ)
+      → table_with limit nat_eq nat_le (table_after limit nat_eq nat_le calls) call name
+      ≡ table_after limit nat_eq nat_le (calls ++ call ∷ []) name
+  table_after-push calls (gives_frame None timestamp channel) name =
+      sym (after_one_more calls (gives_frame None timestamp channel) name false refl)
+  table_after-push calls (gives_frame (Some carried) timestamp channel) name =
+      sym (after_one_more calls (gives_frame (Some carried) timestamp channel) name
+      (same_stream nat_eq (name_of carried channel) name) refl)
+  table_after-push calls (drops_streams value) name =
+      sym (after_one_more calls (drops_streams value) name true refl)
+  table_after-push calls returns_buffer name = sym (after_one_more calls returns_buffer name false refl)
+
+-- a pool of this limit that holds what one more call makes of the table is what the history and the call made
+pub HoldsHistory-push : (pool : IpDefragPool ℕ ℕ) (history : PoolHistory) (call : NumberCall)
+    → limit_of pool ≡ history.limit
+    → HoldsTable nat_eq pool (table_with history.limit nat_eq nat_le (table_behind history) call)
+    → HoldsHistory (with_call history call) pool
+HoldsHistory-push pool history call limit held = record {
+  limit = limit;
+  table = record {
+    apart = held.apart;
+    each = λ name.
+        subst (λ kept. HoldsEntry (limit_of pool) (stream_named nat_eq name pool) kept)
+        (table_after-push history.limit history.calls call name) (held.each name);
+  };
+}
+
+-- a frame that lacked no memory: what the pool then holds, and what it answers
+pub HoldsHistory-frame : (old new : IpDefragPool ℕ ℕ) (carried : Option PacketFragment) (timestamp channel : ℕ)
+    (result : Result (Option IpDefragPayloadVec) IpDefragError)
+    → TakesFrame nat_eq old new carried timestamp channel result → IsFalse (wants_memory result)
+    → (history : PoolHistory) → HoldsHistory history old
+    → HoldsHistory (with_call history (gives_frame carried timestamp channel)) new
+HoldsHistory-frame old new None timestamp channel result takes enough history held =
+    HoldsHistory-push new history (gives_frame None timestamp channel) (ap limit_of takes.1 ∙ held.limit)
+    (rw takes.1 held.table)
+HoldsHistory-frame old new (Some carried) timestamp channel result takes enough history held =
+    HoldsHistory-push new history (gives_frame (Some carried) timestamp channel) (takes.limit ∙ held.limit)
+    (rw held.limit at (takes.holds enough (table_behind history) held.table))
+
+pub frame_answered : (old new : IpDefragPool ℕ ℕ) (carried : Option PacketFragment) (timestamp channel : ℕ)
+    (result : Result (Option IpDefragPayloadVec) IpDefragError)
+    → TakesFrame nat_eq old new carried timestamp channel result → IsFalse (wants_memory result)
+    → (history : PoolHistory) → HoldsHistory history old
+    → plain_frame_answer result
+    ≡ answer_to {V = ℕ} history.limit (table_behind history) (gives_frame carried timestamp channel)
+frame_answered old new None timestamp channel result takes enough history held = ap plain_frame_answer takes.0
+frame_answered old new (Some carried) timestamp channel result takes enough history held =
+    rw held.limit at (takes.answer enough (table_behind history) held.table)
+
+-- ---- drops
+
+-- a second that is no later than those before drops nothing
+pub sweeps_nothing : (pooling : Pooling) (before : PoolHistory) (second oldest : ℕ) → HoldsPooling before pooling
+    → nat_lt pooling.swept second ≡ false → HoldsPooling (with_sweep before second oldest) pooling
+sweeps_nothing pooling before second oldest held not =
+    let is : nat_lt before.swept second ≡ false = ap (λ (n : ℕ). nat_lt n second) (sym held.swept) ∙ not in
+    subst (λ (h : PoolHistory). HoldsPooling h pooling)
+    (sym (ap (λ (b : Bool). if b then with_call (record before { swept = second }) (drops_streams oldest) else before) is)) held
+
+-- a later one drops what is too old
+pub sweeps : (old new : Pooling) (before : PoolHistory) (second oldest : ℕ) → HoldsPooling before old
+    → nat_lt old.swept second ≡ true → new.swept ≡ second → limit_of new.pool ≡ limit_of old.pool
+    → HoldsTable nat_eq new.pool
+    (table_with before.limit nat_eq nat_le (table_behind before) (drops_streams oldest))
+    → HoldsPooling (with_sweep before second oldest) new
+sweeps old new before second oldest held later swept limit table =
+    let is : nat_lt before.swept second ≡ true = ap (λ (n : ℕ). nat_lt n second) (sym held.swept) ∙ later in
+    subst (λ (h : PoolHistory). HoldsPooling h new)
+    (sym (ap (λ (b : Bool). if b then with_call (record before { swept = second }) (drops_streams oldest) else before) is)) (record {
+      swept = swept;
+      held = HoldsHistory-push new.pool (record before { swept = second }) (drops_streams oldest)
+          (limit ∙ held.held.limit) table;
+    })
+
+-- ---- packets
+
+-- a frame was given behind a drop
+pub gives : (view : View) (start : List ℕ) (before : PoolHistory) (this : ℕ) (layers : Layers) (oldest : ℕ)
+    (text : List ℕ) (new : Pooling) → oldest ≡ oldest_from view this
+    → IsCallText view start (with_sweep before (this / 1000000000) oldest) layers this text
+    → HoldsPooling (with_call (with_sweep before (this / 1000000000) oldest) (frame_call layers this)) new
+    → (after : PoolHistory) × GivesFrame view start before this layers text after × HoldsPooling after new
+gives view start before this layers oldest text new same told held = (
+  with_call (swept_at view before this) (frame_call layers this),
+  (
+    subst (λ (o : ℕ). IsCallText view start (with_sweep before (this / 1000000000) o) layers this text) same told,
+    refl,
+  ),
+  subst
+      (λ (o : ℕ). HoldsPooling (with_call (with_sweep before (this / 1000000000) o) (frame_call layers this)) new) same
+      held,
+)
+
+-- where payloads are put together, a frame is given
+pub given : (wanted : Bool) (view : View) (start : List ℕ) (before : PoolHistory) (this : ℕ) (layers : Layers)
+    (text : List ℕ) (after : PoolHistory) → wanted ≡ true → GivesFrame view start before this layers text after
+    → GivesWhere wanted view start before this layers text after
+given wanted view start before this layers text after is told =
+    subst (λ w. GivesWhere w view start before this layers text after) (sym is) told
+
+pub not_given : (wanted : Bool) (view : View) (start : List ℕ) (before : PoolHistory) (this : ℕ) (layers : Layers)
+    → wanted ≡ false → GivesWhere wanted view start before this layers [] before
+not_given wanted view start before this layers is =
+    subst (λ w. GivesWhere w view start before this layers [] before) (sym is) (refl, refl)

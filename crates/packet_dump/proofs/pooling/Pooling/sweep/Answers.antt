@@ -1,0 +1,17 @@
+use Rattle.std.proofs.Common.{rules, of_calls, nat_le, refl}
+use Rattle.std.proofs.lemmas.Bool.{le-ltb, lt-ltb}
+use Rattle.packet_dump.specs.PoolCalls.{table_behind}
+use Rattle.packet_dump.proofs.PoolLemmas.{sweeps, sweeps_nothing}
+use Rattle.packet_dump.proofs.pooling.Pooling.sweep.Goals as goal
+
+pub returns-then-self-second : goal.returns-then-self-second
+returns-then-self-second c = λ before held.
+    sweeps_nothing c.args.self.now before c.args.second c.args.oldest held
+    (le-ltb c.args.self.now.swept c.args.second c.if-self-second.true)
+
+pub returns : goal.returns
+returns c = λ before held.
+    sweeps c.args.self.now _ before c.args.second c.args.oldest held
+    (lt-ltb c.args.self.now.swept c.args.second c.if-self-second.false) refl c.retain.ensures.answered.limit
+    (c.retain.ensures.holds (table_behind before) held.held.table (nat_le c.args.oldest)
+    (λ timestamp answer met. search (rules, of_calls)))

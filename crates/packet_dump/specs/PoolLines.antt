@@ -1,0 +1,141 @@
+-- What is written of payloads that are put together from fragments, and of fragments that the pool refuses.
+use Rattle.std.specs.Prelude.{◌≡◌, ℕ, ◌-◌, ◌*◌, ◌/◌, if◌then◌else◌, Bool, true, false, List, [], ◌∷◌, ◌++◌, Option, Some, None, codes}
+use Rattle.std.specs.Fmt.{decimal}
+use Rattle.ep_base.specs.Layer.{slices}
+use Rattle.ep_base.specs.declared.err.tcp.HeaderSliceError.{HeaderSliceError}
+use Rattle.ep_base.specs.declared.err.tcp.HeaderSliceError.TheVariants as header_error
+use Rattle.ep_defrag.specs.declared.ip_defrag_error.IpDefragError.{IpDefragError}
+use Rattle.ep_defrag.specs.Calls.{Answer, fragment_refused, payload_handed_out, nothing_handed_out, streams_dropped}
+use Rattle.ep_defrag.specs.Calls.{Payload, buffer_returned, answer_to}
+use Rattle.ep_defrag.specs.Texts.{error_text}
+use Rattle.ep_packet.specs.declared.err.slice_error.SliceError.{SliceError}
+use Rattle.ep_packet.specs.declared.err.slice_error.SliceError.TheVariants as slice_error
+use Rattle.ep_packet.specs.Layers.{Layers}
+use Rattle.ep_transport.specs.TransportParts.{TransportLayer, IsTransportPart, RefusesTransportPart, payload_in}
+use Rattle.packet_dump.specs.Contents.{Content, frame, refusal, other_link, bytes_text, header_kind, shows_kind}
+use Rattle.packet_dump.specs.Layers.{outer_text}
+use Rattle.packet_dump.specs.Lines.{line_feed}
+use Rattle.packet_dump.specs.PoolCalls.{PoolHistory, frame_call, table_behind, with_call, with_sweep}
+use Rattle.packet_dump.specs.Refusals.{refusal_text}
+use Rattle.packet_dump.specs.Transports.{len_text, transport_text}
+use Rattle.packet_dump.specs.declared.view.Kind.{Kind}
+use Rattle.packet_dump.specs.declared.view.Kind.TheVariants.{Refused}
+use Rattle.packet_dump.specs.declared.view.View.{View}
+
+-- ---- what a payload holds
+
+-- the transport layer of a payload, where its number has one, or why it has none where it must
+pub data Inner : Type 0 where
+  part : Option TransportLayer → Inner
+  unread : HeaderSliceError → Inner
+
+-- the bytes of a payload of this number hold this
+abbrev pub IsInner : ℕ → List ℕ → Inner → Type 0
+IsInner number bytes (part layer) = IsTransportPart slices number false bytes layer
+IsInner number bytes (unread error) = RefusesTransportPart slices number false bytes error
+
+-- why, as the error of a frame
+abbrev pub frame_error : HeaderSliceError → SliceError
+frame_error (header_error.Len error) = slice_error.Len error
+frame_error (header_error.Content error) = slice_error.Tcp error
+
+-- its text
+abbrev pub inner_text : ℕ → List ℕ → Inner → List ℕ
+inner_text number bytes (part (Some layer)) = transport_text layer
+inner_text number bytes (part None) = codes " protocol " ++ decimal number ++ len_text bytes
+inner_text number bytes (unread error) = refusal_text (frame_error error)
+
+-- its kind, where it is of one
+abbrev pub inner_kind : Inner → Option Kind
+inner_kind (part (Some layer)) = Some (header_kind layer.header)
+inner_kind (part None) = None
+inner_kind (unread error) = Some Refused
+
+-- the payload of the transport layer, or else all bytes
+abbrev pub inner_bytes : List ℕ → Inner → List ℕ
+inner_bytes bytes (part layer) = payload_in bytes layer
+inner_bytes bytes (unread error) = bytes
+
+-- ---- lines
+
+-- how a line behind that of a packet begins: as that line does, and with the layers outside the IP payload
+abbrev pub opening_text : List ℕ → Layers → List ℕ
+opening_text start layers = start ++ outer_text layers
+
+-- how it ends: with these bytes where they are wanted, and a line feed
+abbrev pub closing_text : Bool → List ℕ → List ℕ
+closing_text hex bytes = bytes_text hex bytes ++ line_feed ∷ []
+
+-- the line, which is there where its kind is one that is shown
+abbrev pub further_line : View → List ℕ → Layers → Option Kind → List ℕ → List ℕ → List ℕ
+further_line view start layers kind said bytes =
+    if shows_kind view.only kind then opening_text start layers ++ said ++ closing_text view.hex bytes else []
+
+-- what is said of a payload that was put together
+abbrev pub payload_text : ℕ → List ℕ → Inner → List ℕ
+payload_text number bytes inner = codes " reassembled" ++ inner_text number bytes inner
+
+-- the same of one that has no transport layer where it must have one
+abbrev pub unread_text : HeaderSliceError → List ℕ
+unread_text error = codes " reassembled" ++ refusal_text (frame_error error)
+
+-- the line of a payload
+abbrev pub payload_line : View → List ℕ → Layers → ℕ → List ℕ → Inner → List ℕ
+payload_line view start layers number bytes inner =
+    further_line view start layers (inner_kind inner) (payload_text number bytes inner) (inner_bytes bytes inner)
+
+-- why the pool refuses a fragment
+abbrev pub pool_refusal_text : IpDefragError → List ℕ
+pool_refusal_text error = codes " not reassembled: " ++ error_text error
+
+-- the line of a fragment that it refuses
+abbrev pub refused_line : View → List ℕ → Layers → IpDefragError → List ℕ
+refused_line view start layers error = further_line view start layers (Some Refused) (pool_refusal_text error) []
+
+-- what is written of the pool's answer to a frame with these layers
+abbrev pub IsAnswerText : View → List ℕ → Layers → Answer → List ℕ → Type 0
+IsAnswerText view start layers (payload_handed_out payload) text =
+    (inner : Inner) × IsInner payload.ip_number.0 payload.bytes inner
+    × (text ≡ payload_line view start layers payload.ip_number.0 payload.bytes inner)
+IsAnswerText view start layers (fragment_refused error) text = text ≡ refused_line view start layers error
+IsAnswerText view start layers nothing_handed_out text = text ≡ []
+IsAnswerText view start layers streams_dropped text = text ≡ []
+IsAnswerText view start layers buffer_returned text = text ≡ []
+
+-- ---- what packets do
+
+-- the instant before which a stream is too old, at a packet of this one
+abbrev pub oldest_from : View → ℕ → ℕ
+oldest_from view this = this - view.timeout * 1000000000
+
+-- where a second began, old streams are dropped
+abbrev pub swept_at : View → PoolHistory → ℕ → PoolHistory
+swept_at view before this = with_sweep before (this / 1000000000) (oldest_from view this)
+
+-- what is written of the pool's answer to a frame that came at this instant
+abbrev pub IsCallText : View → List ℕ → PoolHistory → Layers → ℕ → List ℕ → Type 0
+IsCallText view start before layers this text =
+    IsAnswerText view start layers (answer_to before.limit (table_behind before) (frame_call layers this)) text
+
+-- The pool is given a frame behind such a drop, and this is written of its answer.
+abbrev pub GivesFrame : View → List ℕ → PoolHistory → ℕ → Layers → List ℕ → PoolHistory → Type 0
+GivesFrame view start before this layers text after =
+    let swept = swept_at view before this in
+    IsCallText view start swept layers this text × (after ≡ with_call swept (frame_call layers this))
+
+-- nothing is done and written
+abbrev pub DoesNothing : PoolHistory → List ℕ → PoolHistory → Type 0
+DoesNothing before text after = (text ≡ []) × (after ≡ before)
+
+-- a frame is given where payloads are put together
+abbrev pub GivesWhere : Bool → View → List ℕ → PoolHistory → ℕ → Layers → List ℕ → PoolHistory → Type 0
+GivesWhere true view start before this layers text after = GivesFrame view start before this layers text after
+GivesWhere false view start before this layers text after = DoesNothing before text after
+
+-- What is written of the fragment that a packet carries which came at this instant, and what becomes of the pool. What
+-- is refused or not read does nothing.
+abbrev pub IsPooled : View → List ℕ → PoolHistory → ℕ → Content → List ℕ → PoolHistory → Type 0
+IsPooled view start before this (frame layers) text after =
+    GivesWhere view.reassemble view start before this layers text after
+IsPooled view start before this (refusal error) text after = DoesNothing before text after
+IsPooled view start before this (other_link number) text after = DoesNothing before text after

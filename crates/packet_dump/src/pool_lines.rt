@@ -1,0 +1,288 @@
+//! The lines of payloads that were put together, and of fragments that the pool refuses.
+
+ghost use Rattle.std.specs.Prelude.{◌≡◌, ◌++◌, ℕ, IfOk, IsFalse, List, OnOk};
+ghost use Rattle.std.specs.Option.{option_map};
+ghost use Rattle.capture_reader.specs.Readers.{shown_of};
+ghost use Rattle.ep_defrag.specs.Pools.{plain_frame_answer, wants_memory};
+ghost use Rattle.ep_defrag.specs.Refusals.{is_want_of_memory};
+ghost use Rattle.ep_defrag.specs.Texts.{error_text};
+ghost use Rattle.ep_packet.specs.Layers.{layers_of};
+ghost use Rattle.ep_transport.specs.TransportParts.{payload_in, transport_layer_of};
+ghost use Rattle.packet_dump.specs.PacketLines.{start_text};
+ghost use Rattle.packet_dump.specs.PoolLines.{Inner, IsAnswerText, IsInner, closing_text, frame_error, inner_text};
+ghost use Rattle.packet_dump.specs.PoolLines.{opening_text, part, payload_line, payload_text, pool_refusal_text};
+ghost use Rattle.packet_dump.specs.PoolLines.{refused_line, unread, unread_text};
+
+use crate::decimals;
+use crate::layers::push_outer;
+use crate::lines::{push_rows, push_start};
+use crate::refusals::push_refusal;
+use crate::transports::{push_len, push_transport};
+use crate::view::{Kind, View};
+use capture_reader::Shown;
+use ep_base::IpNumber;
+use ep_base::err::tcp::HeaderSliceError;
+use ep_defrag::{IpDefragError, IpDefragPayloadVec};
+use ep_packet::SlicedPacket;
+use ep_packet::err::SliceError;
+use ep_transport::TransportSlice;
+use std::alloc::{AllocError, Global};
+
+/// Appends what the pool answered to a frame: the line of a payload that was put together, or of a fragment that is
+/// refused. Want of memory has none, and is an error here.
+pub fn push_answer(
+    output: &mut Vec<u8>,
+    view: &View,
+    number: u64,
+    first: Option<u128>,
+    shown: &Shown<'_>,
+    sliced: &SlicedPacket<'_>,
+    answer: &Result<Option<IpDefragPayloadVec>, IpDefragError>,
+) -> Result<(), AllocError>
+    ensures memory { OnOk result (IsFalse (wants_memory answer.now)) }
+    ensures text { OnOk result ((text : List ℕ)
+        × IsAnswerText view.now (start_text number first (shown_of shown.now)) (layers_of sliced.now)
+        (plain_frame_answer answer.now) text × (output.new.items ≡ output.old.items ++ text)) }
+{
+    if let Ok(None) = answer {
+        return Ok(());
+    }
+    let start = start_of(*output.allocator(), number, first, shown)?;
+    push_told(output, view, start.as_slice(), sliced, answer)
+}
+
+/// What the line of a packet begins with.
+fn start_of(
+    alloc: Global,
+    number: u64,
+    first: Option<u128>,
+    shown: &Shown<'_>,
+) -> Result<Vec<u8>, AllocError>
+    ensures { IfOk result (λ start. start.items ≡ start_text number first (shown_of shown.now)) }
+{
+    let mut start = Vec::new(alloc);
+    push_start(&mut start, number, first, shown)?;
+    Ok(start)
+}
+
+/// The same of a line that begins so.
+fn push_told(
+    output: &mut Vec<u8>,
+    view: &View,
+    start: &[u8],
+    sliced: &SlicedPacket<'_>,
+    answer: &Result<Option<IpDefragPayloadVec>, IpDefragError>,
+) -> Result<(), AllocError>
+    ensures memory { OnOk result (IsFalse (wants_memory answer.now)) }
+    ensures text { OnOk result ((text : List ℕ)
+        × IsAnswerText view.now start.now (layers_of sliced.now) (plain_frame_answer answer.now) text
+        × (output.new.items ≡ output.old.items ++ text)) }
+{
+    match answer {
+        Ok(found) => push_found(output, view, start, sliced, found),
+        Err(error) => push_pool_error(output, view, start, sliced, error),
+    }
+}
+
+/// Appends the line of a payload, where one was put together.
+fn push_found(
+    output: &mut Vec<u8>,
+    view: &View,
+    start: &[u8],
+    sliced: &SlicedPacket<'_>,
+    found: &Option<IpDefragPayloadVec>,
+) -> Result<(), AllocError>
+    ensures { OnOk result ((text : List ℕ)
+        × IsAnswerText view.now start.now (layers_of sliced.now) (plain_frame_answer (Ok found.now)) text
+        × (output.new.items ≡ output.old.items ++ text)) }
+{
+    match found {
+        Some(payload) => push_payload(output, view, start, sliced, payload),
+        None => Ok(()),
+    }
+}
+
+/// Appends the line of a payload that was put together.
+fn push_payload(
+    output: &mut Vec<u8>,
+    view: &View,
+    start: &[u8],
+    sliced: &SlicedPacket<'_>,
+    payload: &IpDefragPayloadVec,
+) -> Result<(), AllocError>
+    ensures { OnOk result ((inner : Inner) × IsInner payload.now.ip_number.0 payload.now.payload.items inner
+        × (output.new.items ≡ output.old.items ++ payload_line view.now start.now (layers_of sliced.now)
+        payload.now.ip_number.0 payload.now.payload.items inner)) }
+{
+    let bytes = payload.payload.as_slice();
+    match TransportSlice::from_ip_number(payload.ip_number, false, bytes) {
+        Ok(part) => push_part(output, view, start, sliced, payload.ip_number, bytes, &part),
+        Err(error) => push_unread(output, view, start, sliced, payload.ip_number, bytes, error),
+    }
+}
+
+/// Appends the line of a payload that has a transport layer, or need have none.
+fn push_part(
+    output: &mut Vec<u8>,
+    view: &View,
+    start: &[u8],
+    sliced: &SlicedPacket<'_>,
+    number: IpNumber,
+    bytes: &[u8],
+    transport: &Option<TransportSlice<'_>>,
+) -> Result<(), AllocError>
+    ensures { OnOk result (output.new.items ≡ output.old.items ++ payload_line view.now start.now
+        (layers_of sliced.now) number.0 bytes.now (part (option_map transport_layer_of transport.now))) }
+{
+    if !view.shows(Kind::of_part(transport)) {
+        return Ok(());
+    }
+    push_opening(output, start, sliced)?;
+    push_part_said(output, number, bytes, transport)?;
+    push_closing(output, view.hex, bytes_of_part(bytes, transport))
+}
+
+/// Appends what is said of a payload that has a transport layer, or need have none.
+fn push_part_said(
+    output: &mut Vec<u8>,
+    number: IpNumber,
+    bytes: &[u8],
+    transport: &Option<TransportSlice<'_>>,
+) -> Result<(), AllocError>
+    ensures { OnOk result (output.new.items
+        ≡ output.old.items ++ payload_text number.0 bytes.now (part (option_map transport_layer_of transport.now))) }
+{
+    output.extend_from_slice(b" reassembled")?;
+    push_part_text(output, number, bytes, transport)
+}
+
+/// Appends the text of a transport layer, or else the protocol number and the length of the payload.
+fn push_part_text(
+    output: &mut Vec<u8>,
+    number: IpNumber,
+    bytes: &[u8],
+    transport: &Option<TransportSlice<'_>>,
+) -> Result<(), AllocError>
+    ensures { OnOk result (output.new.items
+        ≡ output.old.items ++ inner_text number.0 bytes.now (part (option_map transport_layer_of transport.now))) }
+{
+    match transport {
+        Some(transport) => push_transport(output, transport),
+        None => {
+            decimals::push_behind(output, b" protocol ", u64::from(number.0))?;
+            push_len(output, bytes)
+        }
+    }
+}
+
+/// The payload of a transport layer, or else all bytes.
+fn bytes_of_part<'a>(bytes: &'a [u8], transport: &Option<TransportSlice<'a>>) -> &'a [u8]
+    ensures { result.now ≡ payload_in bytes.now (option_map transport_layer_of transport.now) }
+{
+    match transport {
+        Some(transport) => transport.payload(),
+        None => bytes,
+    }
+}
+
+/// Appends the line of a payload that has no transport layer where it must have one.
+fn push_unread(
+    output: &mut Vec<u8>,
+    view: &View,
+    start: &[u8],
+    sliced: &SlicedPacket<'_>,
+    number: IpNumber,
+    bytes: &[u8],
+    error: HeaderSliceError,
+) -> Result<(), AllocError>
+    ensures { OnOk result (output.new.items ≡ output.old.items ++ payload_line view.now start.now
+        (layers_of sliced.now) number.0 bytes.now (unread error)) }
+{
+    if !view.shows(Some(Kind::Refused)) {
+        return Ok(());
+    }
+    push_opening(output, start, sliced)?;
+    push_unread_said(output, error)?;
+    push_closing(output, view.hex, bytes)
+}
+
+/// Appends what is said of a payload that has no transport layer where it must have one.
+fn push_unread_said(output: &mut Vec<u8>, error: HeaderSliceError) -> Result<(), AllocError>
+    ensures { OnOk result (output.new.items ≡ output.old.items ++ unread_text error) }
+{
+    output.extend_from_slice(b" reassembled")?;
+    push_refusal(output, &frame_error(error))
+}
+
+/// Why a payload has no transport layer, as the error of a frame.
+fn frame_error(error: HeaderSliceError) -> SliceError
+    ensures { result ≡ frame_error error }
+{
+    match error {
+        HeaderSliceError::Len(error) => SliceError::Len(error),
+        HeaderSliceError::Content(error) => SliceError::Tcp(error),
+    }
+}
+
+/// Appends the line of a fragment that the pool refuses. Want of memory has none, and is an error here.
+fn push_pool_error(
+    output: &mut Vec<u8>,
+    view: &View,
+    start: &[u8],
+    sliced: &SlicedPacket<'_>,
+    error: &IpDefragError,
+) -> Result<(), AllocError>
+    ensures memory { OnOk result (IsFalse (is_want_of_memory error.now)) }
+    ensures text { OnOk result (output.new.items
+        ≡ output.old.items ++ refused_line view.now start.now (layers_of sliced.now) error.now) }
+{
+    if let IpDefragError::AllocationFailure { .. } = error {
+        return Err(AllocError);
+    }
+    if !view.shows(Some(Kind::Refused)) {
+        return Ok(());
+    }
+    push_opening(output, start, sliced)?;
+    push_pool_refusal(output, error)?;
+    push_closing(output, view.hex, b"")
+}
+
+/// Appends why a fragment is refused, in the words of the error.
+fn push_pool_refusal(output: &mut Vec<u8>, error: &IpDefragError) -> Result<(), AllocError>
+    ensures { OnOk result (output.new.items ≡ output.old.items ++ pool_refusal_text error.now) }
+{
+    output.extend_from_slice(b" not reassembled: ")?;
+    push_pool_reason(output, error)
+}
+
+/// Appends the words of an error.
+fn push_pool_reason(output: &mut Vec<u8>, error: &IpDefragError) -> Result<(), AllocError>
+    ensures { OnOk result (output.new.items ≡ output.old.items ++ error_text error.now) }
+{
+    let text = format!(in *output.allocator(); "{error}")?;
+    output.extend_from_slice(text.as_bytes())
+}
+
+/// Appends what a line begins with that stands behind that of a packet, and the packet's layers outside its IP payload.
+fn push_opening(
+    output: &mut Vec<u8>,
+    start: &[u8],
+    sliced: &SlicedPacket<'_>,
+) -> Result<(), AllocError>
+    ensures { OnOk result (output.new.items
+        ≡ output.old.items ++ opening_text start.now (layers_of sliced.now)) }
+{
+    output.extend_from_slice(start)?;
+    push_outer(output, sliced)
+}
+
+/// Appends what it ends with: bytes where they are wanted, and the line feed.
+fn push_closing(output: &mut Vec<u8>, hex: bool, bytes: &[u8]) -> Result<(), AllocError>
+    ensures { OnOk result (output.new.items ≡ output.old.items ++ closing_text hex bytes.now) }
+{
+    if hex {
+        push_rows(output, bytes)?;
+    }
+    output.push(b'\n')?;
+    Ok(())
+}

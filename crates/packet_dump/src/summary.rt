@@ -1,0 +1,235 @@
+//! What a capture held, counted.
+
+use crate::pooling::Pooling;
+use capture_reader::Shown;
+use ep_base::err::{ip, ip_auth, ipv4, ipv6_exts, linux_sll, macsec};
+use ep_link::{LinkExtSlice, LinkSlice};
+use ep_packet::err::SliceError;
+use ep_packet::{NetSlice, SlicedPacket};
+use ep_transport::TransportSlice;
+use std::alloc::{AllocError, Global};
+
+/// How many frames had each layer; a link extension counts each time that it stands in a frame.
+#[derive(Clone, Copy)]
+struct Layers {
+    ethernet: u64,
+    linux_sll: u64,
+    vlan: u64,
+    macsec: u64,
+    ipv4: u64,
+    ipv6: u64,
+    arp: u64,
+    fragment: u64,
+    udp: u64,
+    tcp: u64,
+    icmpv4: u64,
+    icmpv6: u64,
+}
+
+/// What a capture held.
+#[derive(Drop)]
+pub struct Summary {
+    /// Whether it is wanted; otherwise nothing is counted.
+    wanted: bool,
+    packets: u64,
+    /// How many bytes of packets were kept.
+    kept: u64,
+    /// How many bytes packets had.
+    original: u64,
+    layers: Layers,
+    refused: u64,
+    /// How often packets were refused with each error, by its name.
+    errors: Vec<(&'static str, u64)>,
+    reassembled: u64,
+    /// How many fragments the pool refused.
+    not_reassembled: u64,
+    /// How many streams of fragments were not complete at the end.
+    open: u64,
+}
+
+impl Summary {
+    /// Nothing was counted.
+    pub fn new(alloc: Global, wanted: bool) -> Summary {
+        Summary {
+            wanted,
+            packets: 0,
+            kept: 0,
+            original: 0,
+            layers: Layers {
+                ethernet: 0,
+                linux_sll: 0,
+                vlan: 0,
+                macsec: 0,
+                ipv4: 0,
+                ipv6: 0,
+                arp: 0,
+                fragment: 0,
+                udp: 0,
+                tcp: 0,
+                icmpv4: 0,
+                icmpv6: 0,
+            },
+            refused: 0,
+            errors: Vec::new(alloc),
+            reassembled: 0,
+            not_reassembled: 0,
+            open: 0,
+        }
+    }
+
+    /// Counts a packet that was read.
+    pub fn count_packet(&mut self, shown: &Shown<'_>) {
+        more(&mut self.packets, 1);
+        more(&mut self.kept, shown.bytes.len() as u64);
+        more(&mut self.original, u64::from(shown.original_len));
+    }
+
+    /// Counts the layers of a frame.
+    pub fn count_frame(&mut self, frame: &SlicedPacket<'_>) {
+        if self.wanted {
+            self.layers.count(frame);
+        }
+    }
+
+    /// Counts a refusal.
+    pub fn count_refusal(&mut self, error: &SliceError) -> Result<(), AllocError> {
+        if !self.wanted {
+            return Ok(());
+        }
+        more(&mut self.refused, 1);
+        let name = error_name(error);
+        for (known, times) in self.errors.iter_mut() {
+            if *known == name {
+                more(times, 1);
+                return Ok(());
+            }
+        }
+        self.errors.push((name, 1))?;
+        Ok(())
+    }
+
+    /// Counts what became of fragments.
+    pub fn count_pool(&mut self, pooling: &mut Pooling) {
+        if self.wanted {
+            self.reassembled = pooling.reassembled();
+            self.not_reassembled = pooling.refused();
+            self.open = pooling.open();
+        }
+    }
+
+    /// The text of the summary: a line for each count, of layers for those that were there.
+    pub fn text(&self, alloc: Global) -> Result<String, AllocError> {
+        let mut text = String::new(alloc);
+        let (packets, kept, original) = (self.packets, self.kept, self.original);
+        write!(text, "packets: {packets}\nbytes: {kept} of {original}\n")?;
+        self.layers.push_text(&mut text)?;
+        push_count(&mut text, "refused", self.refused)?;
+        for (name, times) in &self.errors {
+            text.push_str("  ")?;
+            push_count(&mut text, name, *times)?;
+        }
+        push_count(&mut text, "reassembled", self.reassembled)?;
+        push_count(&mut text, "not reassembled", self.not_reassembled)?;
+        push_count(&mut text, "streams open", self.open)?;
+        Ok(text)
+    }
+}
+
+impl Layers {
+    /// Counts the layers of a frame.
+    fn count(&mut self, frame: &SlicedPacket<'_>) {
+        match &frame.link {
+            Some(LinkSlice::Ethernet2(_)) => more(&mut self.ethernet, 1),
+            Some(LinkSlice::LinuxSll(_)) => more(&mut self.linux_sll, 1),
+            _ => {}
+        }
+        for extension in frame.link_exts.as_slice() {
+            match extension {
+                LinkExtSlice::Vlan(_) => more(&mut self.vlan, 1),
+                LinkExtSlice::Macsec(_) => more(&mut self.macsec, 1),
+            }
+        }
+        match &frame.net {
+            Some(NetSlice::Ipv4(_)) => more(&mut self.ipv4, 1),
+            Some(NetSlice::Ipv6(_)) => more(&mut self.ipv6, 1),
+            Some(NetSlice::Arp(_)) => more(&mut self.arp, 1),
+            None => {}
+        }
+        if frame.is_ip_payload_fragmented() {
+            more(&mut self.fragment, 1);
+        }
+        match &frame.transport {
+            Some(TransportSlice::Udp(_)) => more(&mut self.udp, 1),
+            Some(TransportSlice::Tcp(_)) => more(&mut self.tcp, 1),
+            Some(TransportSlice::Icmpv4(_)) => more(&mut self.icmpv4, 1),
+            Some(TransportSlice::Icmpv6(_)) => more(&mut self.icmpv6, 1),
+            None => {}
+        }
+    }
+
+    /// Appends a line for each layer that was there.
+    fn push_text(&self, text: &mut String) -> Result<(), AllocError> {
+        let counts = [
+            ("eth", self.ethernet),
+            ("sll", self.linux_sll),
+            ("vlan", self.vlan),
+            ("macsec", self.macsec),
+            ("ipv4", self.ipv4),
+            ("ipv6", self.ipv6),
+            ("arp", self.arp),
+            ("fragment", self.fragment),
+            ("udp", self.udp),
+            ("tcp", self.tcp),
+            ("icmpv4", self.icmpv4),
+            ("icmpv6", self.icmpv6),
+        ];
+        for (name, times) in &counts {
+            if *times > 0 {
+                push_count(text, name, *times)?;
+            }
+        }
+        Ok(())
+    }
+}
+
+/// Counts on. The greatest count stays.
+fn more(count: &mut u64, by: u64) {
+    *count = count.saturating_add(by);
+}
+
+/// Appends a count in a line of its own.
+fn push_count(text: &mut String, name: &str, times: u64) -> Result<(), AllocError> {
+    write!(text, "{name}: {times}\n")
+}
+
+/// The name of an error: of too few bytes the layer, and of others what is wrong.
+fn error_name(error: &SliceError) -> &'static str {
+    match error {
+        SliceError::Len(error) => error.layer.name(),
+        SliceError::LinuxSll(linux_sll::HeaderError::UnsupportedPacketTypeField { .. }) => {
+            "LinuxSll UnsupportedPacketTypeField"
+        }
+        SliceError::LinuxSll(linux_sll::HeaderError::UnsupportedArpHardwareId { .. }) => {
+            "LinuxSll UnsupportedArpHardwareId"
+        }
+        SliceError::Macsec(macsec::HeaderError::UnexpectedVersion) => "Macsec UnexpectedVersion",
+        SliceError::Macsec(macsec::HeaderError::InvalidUnmodifiedShortLen) => {
+            "Macsec InvalidUnmodifiedShortLen"
+        }
+        SliceError::Ip(ip::HeaderError::UnsupportedIpVersion { .. }) => "Ip UnsupportedIpVersion",
+        SliceError::Ip(ip::HeaderError::Ipv4HeaderLengthSmallerThanHeader { .. }) => {
+            "Ip Ipv4HeaderLengthSmallerThanHeader"
+        }
+        SliceError::Ipv4(ipv4::HeaderError::UnexpectedVersion { .. }) => "Ipv4 UnexpectedVersion",
+        SliceError::Ipv4(ipv4::HeaderError::HeaderLengthSmallerThanHeader { .. }) => {
+            "Ipv4 HeaderLengthSmallerThanHeader"
+        }
+        SliceError::Ipv6(_) => "Ipv6 UnexpectedVersion",
+        SliceError::Ipv4Exts(ip_auth::HeaderError::ZeroPayloadLen) => "Ipv4Exts ZeroPayloadLen",
+        SliceError::Ipv6Exts(ipv6_exts::HeaderError::HopByHopNotAtStart) => {
+            "Ipv6Exts HopByHopNotAtStart"
+        }
+        SliceError::Ipv6Exts(ipv6_exts::HeaderError::IpAuth(_)) => "Ipv6Exts ZeroPayloadLen",
+        SliceError::Tcp(_) => "Tcp DataOffsetTooSmall",
+    }
+}

@@ -1,0 +1,197 @@
+//! What no contract says: that calls succeed where there is memory, and what comes of readers and writers that move
+//! little or fail, and of captures that are cut.
+
+ghost use Rattle.std.specs.Prelude.{◌≤◌, IfOk};
+
+use crate::ending::Ending;
+use crate::engine::run;
+use crate::run_error::RunError;
+use crate::summary::Summary;
+use crate::view::View;
+use crate::watched::Watched;
+use std::alloc::Global;
+use std::io;
+use std::io::{ErrorKind, Read, Write};
+use std::process::Abort;
+
+/// A classic capture of packets of IP: a datagram of UDP, and the two fragments of another one.
+const CAPTURE: &[u8] = b"\xd4\xc3\xb2\xa1\x02\0\x04\0\0\0\0\0\0\0\0\0\xff\xff\0\0\x65\0\0\0\
+    \x10\0\0\0\0\0\0\0\x20\0\0\0\x20\0\0\0\
+    \x45\0\0\x20\0\x07\0\0\x40\x11\xf7\x72\xc0\xa8\x01\x01\xc0\xa8\x01\x02\0\x15\x04\xd2\0\x0c\0\0abcd\
+    \x10\0\0\0\x01\0\0\0\x24\0\0\0\x24\0\0\0\
+    \x45\0\0\x24\0\x07\x20\0\x40\x11\xd7\x6e\xc0\xa8\x01\x01\xc0\xa8\x01\x02\0\x15\x04\xd2\0\x14\0\0abcdefgh\
+    \x10\0\0\0\x02\0\0\0\x18\0\0\0\x18\0\0\0\
+    \x45\0\0\x18\0\x07\0\x02\x40\x11\xf7\x78\xc0\xa8\x01\x01\xc0\xa8\x01\x02ijkl";
+
+/// Its lines.
+const LINES: &[u8] = b"1 0.000000 ipv4 192.168.1.1 > 192.168.1.2 udp 21 > 1234 len 4\n\
+    2 0.000001 ipv4 192.168.1.1 > 192.168.1.2 fragment id 7 offset 0 more protocol 17 len 16\n\
+    3 0.000002 ipv4 192.168.1.1 > 192.168.1.2 fragment id 7 offset 16 protocol 17 len 4\n\
+    3 0.000002 ipv4 192.168.1.1 > 192.168.1.2 fragment id 7 offset 16 reassembled udp 21 > 1234 len 12\n";
+
+/// What is shown of it.
+const VIEW: View = View {
+    only: None,
+    most: u64::MAX,
+    hex: false,
+    reassemble: true,
+    timeout: 30,
+    limit: u16::MAX,
+};
+
+/// A reader that moves so many bytes a call, and then comes to its end or fails.
+#[derive(Drop)]
+struct Source<'a> {
+    rest: &'a [u8],
+    most: usize,
+    fails: bool,
+}
+
+impl Read for Source<'_> {
+    fn read(&mut self, piece: &mut [u8]) -> io::Result<usize> {
+        if self.fails && self.rest.is_empty() {
+            return Err(ErrorKind::Other.into());
+        }
+        let count = self.rest.len().min(piece.len()).min(self.most);
+        let (front, rest) = self.rest.split_at(count);
+        piece[..count].copy_from_slice(front);
+        self.rest = rest;
+        Ok(count)
+    }
+}
+
+/// A writer that moves so many bytes a call, and fails where it has no more room.
+#[derive(Drop)]
+struct Target {
+    bytes: Vec<u8>,
+    most: usize,
+    room: usize,
+}
+
+impl Write for Target {
+    fn write(&mut self, part: &[u8]) -> io::Result<usize> {
+        if self.room == 0 {
+            return Err(ErrorKind::Other.into());
+        }
+        let count = part.len().min(self.most).min(self.room);
+        self.room -= count;
+        self.bytes.extend_from_slice(&part[..count])?;
+        Ok(count)
+    }
+
+    fn flush(&mut self) -> io::Result<()> {
+        Ok(())
+    }
+}
+
+/// Runs between the two, and answers how the run ends and what was written.
+fn run_between(
+    alloc: Global,
+    mut source: Source<'_>,
+    most: usize,
+    room: usize,
+) -> (Result<Ending, RunError>, Vec<u8>) {
+    let mut target = Target {
+        bytes: Vec::new(alloc),
+        most,
+        room,
+    };
+    let mut summary = Summary::new(alloc, true);
+    let mut reader = Watched::new(&mut source);
+    let mut writer = Watched::new(&mut target);
+    let outcome = run(alloc, VIEW, &mut summary, &mut reader, &mut writer);
+    (outcome, target.bytes)
+}
+
+/// The whole capture, moved so many bytes a call.
+fn assert_whole(rt: &impl Abort, alloc: Global, most: usize) {
+    let source = Source {
+        rest: CAPTURE,
+        most,
+        fails: false,
+    };
+    let (outcome, written) = run_between(alloc, source, most, usize::MAX);
+    assert!(rt; matches!(outcome, Ok(Ending::Whole)));
+    assert_eq!(rt; written.as_slice(), LINES);
+}
+
+#[test]
+fn moves_little(rt: HostRuntime) {
+    for most in [1, 7, 64, usize::MAX] {
+        assert_whole(&rt, rt.alloc(), most);
+    }
+}
+
+/// A reader that fails behind so many bytes.
+fn assert_reader_fails(rt: &impl Abort, alloc: Global, front: &'static [u8]) {
+    let source = Source {
+        rest: front,
+        most: usize::MAX,
+        fails: true,
+    };
+    let (outcome, written) = run_between(alloc, source, usize::MAX, usize::MAX);
+    assert!(rt; matches!(outcome, Err(RunError::Read)));
+    assert!(rt; LINES.starts_with(written.as_slice()));
+}
+
+#[test]
+fn tells_a_failing_reader(rt: HostRuntime) {
+    for len in 0..=CAPTURE.len() {
+        assert_reader_fails(&rt, rt.alloc(), CAPTURE.get(..len).unwrap_or(b""));
+    }
+}
+
+/// A writer that fails behind so many bytes.
+fn assert_writer_fails(rt: &impl Abort, alloc: Global, room: usize) {
+    let source = Source {
+        rest: CAPTURE,
+        most: usize::MAX,
+        fails: false,
+    };
+    let (outcome, written) = run_between(alloc, source, usize::MAX, room);
+    assert!(rt; matches!(outcome, Err(RunError::Write)));
+    assert!(rt; Some(written.as_slice()) == LINES.get(..room));
+}
+
+#[test]
+fn tells_a_failing_writer(rt: HostRuntime) {
+    for room in 0..LINES.len() {
+        assert_writer_fails(&rt, rt.alloc(), room);
+    }
+}
+
+/// Where a capture is cut: how many bytes are left, how many packets stand in front, and at which byte it breaks off.
+const CUTS: [(usize, u64, u64); 9] = [
+    (0, 0, 0),
+    (3, 0, 0),
+    (23, 0, 0),
+    (25, 0, 24),
+    (40, 0, 24),
+    (71, 0, 24),
+    (73, 1, 72),
+    (123, 1, 72),
+    (163, 2, 124),
+];
+
+/// A capture that is cut within its heading or a record.
+fn assert_cut(rt: &impl Abort, alloc: Global, len: usize, wanted: u64, offset: u64) {
+    let source = Source {
+        rest: CAPTURE.get(..len).unwrap_or(b""),
+        most: usize::MAX,
+        fails: false,
+    };
+    let (outcome, written) = run_between(alloc, source, usize::MAX, usize::MAX);
+    let told = match outcome {
+        Ok(Ending::Broken { packets, error }) => packets == wanted && error.offset == offset,
+        _ => false,
+    };
+    assert!(rt; told);
+    assert!(rt; LINES.starts_with(written.as_slice()));
+}
+
+#[test]
+fn tells_where_it_is_cut(rt: HostRuntime) {
+    for (len, packets, offset) in CUTS {
+        assert_cut(&rt, rt.alloc(), len, packets, offset);
+    }
+}
