@@ -41,13 +41,13 @@ const VIEW: View = View {
 
 /// A reader that moves so many bytes a call, and then comes to its end or fails.
 #[derive(Drop)]
-struct Source<'a> {
-    rest: &'a [u8],
+struct Source {
+    rest: &'static [u8],
     most: usize,
     fails: bool,
 }
 
-impl Read for Source<'_> {
+impl Read for Source {
     fn read(&mut self, piece: &mut [u8]) -> io::Result<usize> {
         if self.fails && self.rest.is_empty() {
             return Err(ErrorKind::Other.into());
@@ -87,7 +87,7 @@ impl Write for Target {
 /// Runs between the two, and answers how the run ends and what was written.
 fn run_between(
     alloc: Global,
-    mut source: Source<'_>,
+    source: Source,
     most: usize,
     room: usize,
 ) -> (Result<Ending, RunError>, Vec<u8>) {
@@ -97,7 +97,7 @@ fn run_between(
         room,
     };
     let mut summary = Summary::new(alloc, true);
-    let mut reader = Watched::new(&mut source);
+    let mut reader = Watched::new(source);
     let mut writer = Watched::new(&mut target);
     let outcome = run(alloc, VIEW, &mut summary, &mut reader, &mut writer);
     (outcome, target.bytes)
