@@ -3,7 +3,7 @@
 
 A name in backticks has to stand somewhere in the code, a link has to lead to a file, and to a heading where it names one,
 a definition has to stand in the file that its link leads to, and each public call with a contract and each law of a
-library has to be named in the README of its crate. Its status is 0 where nothing is wrong.
+library has to be named in the README of its crate. Where nothing is wrong it prints nothing, and its status is 0.
 """
 import os
 import re
@@ -88,7 +88,8 @@ def main():
     for crate in LIBRARIES:
         named = set(re.findall(r"\w+", read(f"crates/{crate}/README.md")))
         wrong += [f"crates/{crate}/README.md: {call} has no row" for call in calls_of(crate) if call not in named]
-    print("\n".join(wrong) if wrong else "check_names: nothing is wrong")
+    for line in wrong:
+        print(line)
     sys.exit(bool(wrong))
 
 
