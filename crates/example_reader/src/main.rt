@@ -1,5 +1,5 @@
 //! Puts the fragmented payloads of Ethernet frames together. Each line of standard input is a time in seconds and a
-//! frame in hexadecimal. A stream of which nothing came for more than 30 seconds is dropped.
+//! frame in hexadecimal. A stream of which no fragment was taken for more than 30 seconds is dropped.
 #![tactic(auto)]
 
 mod reader;

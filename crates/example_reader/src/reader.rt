@@ -14,7 +14,7 @@ use etherparse::SlicedPacket;
 use etherparse::defrag::{IpDefragError, IpDefragPayloadVec, IpDefragPool};
 use etherparse::err::packet::SliceError;
 
-/// Streams by their addresses alone: the frames of one wire, with their times.
+/// The streams of one wire, so without a channel, with the time of each frame in seconds.
 pub type Pool = IpDefragPool<u64, ()>;
 
 /// Why a frame was not taken.
@@ -58,7 +58,7 @@ fn give(
     }
 }
 
-/// Drops the streams whose last fragment came before `oldest`.
+/// Drops the streams whose last accepted fragment came before `oldest`.
 pub fn drop_before(pool: &mut Pool, oldest: u64)
     ensures { (table : IpFragId (Unit {0}) → Option (Kept ℕ)) → HoldsTable ⟦<() as PartialEq>⟧.eq pool.old table
         → HoldsTable ⟦<() as PartialEq>⟧.eq pool.new (λ name. kept_by (nat_le oldest) (table name)) }
