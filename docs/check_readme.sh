@@ -4,7 +4,7 @@
 # Commands are the lines of the README's blocks ```sh. Each block is run from the top of the clone, in one shell, up to
 # its first failure. A line whose comment begins with `long:` or `root:` takes minutes or needs root, and is skipped
 # unless it is asked for. What is committed is what is checked. The README's example has to be the one in the crate that it
-# names. The status is 0 where no command failed.
+# names, and its kit the one that `rt version` says. The status is 0 where no command failed.
 set -uo pipefail
 cd "$(dirname "$0")/.."
 skipped='long|root'
@@ -26,6 +26,11 @@ status=0
 if ! sed -n '/^```rust$/,/^```$/p' "$work/clone/README.md" | sed '1d;$d' |
     cmp - "$work/clone/crates/example_filter/src/main.rt"; then
     echo "check_readme: the example is not crates/example_filter/src/main.rt" >&2
+    status=1
+fi
+kit=$(rt version)
+if ! grep -qF "$kit" "$work/clone/README.md"; then
+    echo "check_readme: the README names another kit than $kit" >&2
     status=1
 fi
 ran=0
