@@ -10,21 +10,15 @@ ghost use Rattle.example_filter.specs.Wanted.{is_wanted};
 use etherparse::{SlicedPacket, TransportSlice, VlanId};
 use std::io;
 
-const VLAN: u16 = 5;
-
-const PORT: u16 = 53;
-
 fn main(rt: HostRuntime) -> io::Result<()> {
-    let Ok(vlan) = VlanId::try_new(VLAN) else {
+    let Ok(vlan) = VlanId::try_new(5) else {
         return rt.eprintln("no VLAN identifier");
     };
     for line in rt.lines(rt.alloc()) {
         let line = line?;
-        let Ok(frame) = hex::decode(rt.alloc(), line.as_str()) else {
-            continue;
-        };
-        if keeps(frame.as_slice(), vlan, PORT) {
-            println!(rt; "{line}")?;
+        match hex::decode(rt.alloc(), line.as_str()) {
+            Ok(frame) if keeps(frame.as_slice(), vlan, 53) => println!(rt; "{line}")?,
+            _ => {}
         }
     }
     Ok(())
