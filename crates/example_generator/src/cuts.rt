@@ -1,8 +1,10 @@
 //! The fragments of a payload.
 
-ghost use Rattle.std.specs.Prelude.{◌≡◌, ◌↔◌, ◌*◌, ◌≤◌, length, vec_len, vec_capacity, IfSome, IsNone};
+ghost use Rattle.std.specs.Prelude.{◌≡◌, ◌*◌, vec_len, vec_capacity, IfSome};
+ghost use Rattle.std.specs.Option.{option_map};
 ghost use Rattle.etherparse.specs.Cuts.{IsCut};
 ghost use Rattle.etherparse.specs.DefragFragments.{fragment_with};
+ghost use Rattle.example_generator.specs.Cutting.{cut_from};
 ghost use Rattle.example_generator.specs.Frames.{Appends, fragment, fragment_between};
 
 use crate::end::End;
@@ -14,19 +16,15 @@ const CUT_LEN: usize = 16;
 
 /// The cut of a payload at a place, and whether more follow it; none behind the payload's end.
 pub fn cut_at(payload: &[u8], place: IpFragOffset) -> Option<(&[u8], bool)>
+    ensures value { option_map (λ found. (found.0.now, found.1)) result ≡ cut_from payload.now (8 * place) }
     ensures cut { IfSome result (λ found. IsCut payload.now (fragment_with place found.1 found.0.now)) }
-    ensures none { IsNone result ↔ (length payload.now ≤ 8 * place) }
 {
     let start = usize::from(place.byte_offset());
     if payload.len() <= start {
         return None;
     }
-    let rest = &payload[start..];
-    if rest.len() <= CUT_LEN {
-        Some((rest, false))
-    } else {
-        Some((&rest[..CUT_LEN], true))
-    }
+    let end = payload.len().min(start + CUT_LEN);
+    Some((&payload[start..end], end < payload.len()))
 }
 
 /// Appends a fragment of a payload of UDP over IPv4.
