@@ -34,28 +34,36 @@ other=${datagram/04d2/0035}
 
 if gcc --version > /dev/null 2>&1; then
     build() {
-        gcc -std=c99 -Wall -Wextra -Werror -O2 -I"$top/include" "c/$1.c" \
-            "$top/include/etherparse_heap.c" "$archive" -o "$work/$1"
+        gcc -std=c99 -pedantic -Wall -Wextra -Werror -O2 -I"$top/include" "c/$1.c" "${@:2}" "$archive" -o "$work/$1"
     }
-    build filter
+    heap=$top/include/etherparse_heap.c
+    build filter "$heap"
     "$work/filter" 1234 "$work/capture" | tee "$work/filter.out"
     cmp "$work/filter.out" c/filter.out
-    for name in build reassemble; do
-        build "$name"
+    build build "$heap"
+    build reassemble "$heap"
+    build statuses # it has a memory of its own
+    for name in build reassemble statuses; do
         "$work/$name" | tee "$work/$name.out"
         cmp "$work/$name.out" "c/$name.out"
     done
-    echo "examples: c/filter.c, c/build.c and c/reassemble.c printed what they must"
+    echo "examples: c/filter.c, c/build.c, c/reassemble.c and c/statuses.c printed what they must"
 else
     echo "examples: no gcc, so the C examples were not run"
+fi
+if g++ --version > /dev/null 2>&1; then
+    g++ -std=c++98 -Wall -Wextra -Werror -fsyntax-only -x c++ "$top/include/etherparse.h"
+    echo "examples: the header is C++ too"
+else
+    echo "examples: no g++, so the header was not read as C++"
 fi
 
 if cargo --version > /dev/null 2>&1 && cc --version > /dev/null 2>&1; then
     cd "$top/rust"
     cargo test --quiet --offline
     cargo run --quiet --offline --example filter -- 1234 "$work/capture" | tee "$work/filter.out"
-    cmp "$work/filter.out" examples/filter.out
-    echo "examples: the wrappers' tests passed, and rust/examples/filter.rs printed what it must"
+    cmp "$work/filter.out" ../examples/rust/filter.out
+    echo "examples: the wrappers' tests passed, and rust/filter.rs printed what it must"
 else
     echo "examples: no cargo or no cc, so the Rust wrappers and their example were not run"
 fi

@@ -5,6 +5,7 @@ pub mod Answers
 pub mod Building
 pub mod Holding
 pub mod Placing
+pub mod Plain
 pub mod Pointing
 pub mod Pools
 pub mod RefusalTexts

@@ -132,7 +132,7 @@ fn placed_tags(extensions: &[LinkExtSlice<'_>], offset: usize) -> Tags
 
 /// The place of a tag that is not there.
 #[inline(always)]
-fn no_tag() -> LinkExt
+pub(crate) fn no_tag() -> LinkExt
     ensures { result ≡ no_tag }
 {
     LinkExt {

@@ -17,6 +17,7 @@ mod numbers;
 mod owned_pool;
 mod packet;
 mod placing;
+mod plain;
 mod pool;
 mod pool_answer;
 mod pooling;
@@ -25,6 +26,7 @@ mod route;
 mod slicing;
 mod state;
 mod texts;
+mod vlans;
 
 pub use building::{etherparse_build_icmp_echo, etherparse_build_tcp, etherparse_build_udp};
 pub use checksum::etherparse_checksum;

@@ -8,6 +8,7 @@ ghost use Rattle.etherparse_c.specs.Answers.{IsSliceAnswer, entry_of, nothing_sa
 use crate::describing::describe;
 use crate::numbers;
 use crate::packet::Packet;
+use crate::plain::describe_plain;
 use crate::refusing::refusal_part;
 use etherparse::err::packet::SliceError;
 use etherparse::{Entry, EtherType, SlicedPacket};
@@ -23,6 +24,17 @@ pub extern "C" fn etherparse_slice(
     bytes: &[u8],
     packet: &mut Packet,
 ) -> u32
+    ensures { IsSliceAnswer (entry_of entry ether_type) bytes.now result packet.new }
+{
+    if entry == 0 && describe_plain(packet, bytes) {
+        return numbers::OK;
+    }
+    slice_any(entry, ether_type, bytes, packet)
+}
+
+/// The same of any frame.
+#[inline(never)]
+fn slice_any(entry: u32, ether_type: u16, bytes: &[u8], packet: &mut Packet) -> u32
     ensures { IsSliceAnswer (entry_of entry ether_type) bytes.now result packet.new }
 {
     let Some(entry) = entry_of(entry, ether_type) else {

@@ -1,0 +1,293 @@
+-- That plain frames are frames, and what is said of them.
+use Rattle.std.proofs.Common.{◌≡◌, ℕ, ◌+◌, ◌*◌, ◌-◌, ◌≤◌, Bool, true, false, ◌||◌, List, [], ◌∷◌, ◌++◌, length, take, drop, Option, Some, None, refl, sym, ap, subst, ◌∙◌, ◌⊎◌, inl, inr, arith}
+use Rattle.std.specs.Prelude.{nat_lt, suc}
+use Rattle.std.proofs.lemmas.List.{length-append, length-take, length-drop}
+use Rattle.ep_base.specs.Bytes.{bit}
+use Rattle.ep_base.specs.IpNumbers.{authentication_number, tcp_number, udp_number}
+use Rattle.ep_base.specs.IpPayload.{IpPayload}
+use Rattle.ep_base.specs.Layer.{cut_by, slices}
+use Rattle.ep_base.specs.Tables.{parts_of}
+use Rattle.ep_base.specs.declared.ether_type.EtherType.{EtherType}
+use Rattle.ep_base.specs.declared.ip_number.IpNumber.{IpNumber}
+use Rattle.ep_base.specs.declared.len_source.LenSource.{LenSource}
+use Rattle.ep_base.specs.declared.len_source.LenSource.TheVariants as source
+use Rattle.ep_ext.specs.Chains.{ipv4 as ipv4_chain, ipv6 as ipv6_chain, demand_of, ends}
+use Rattle.ep_ip.specs.declared.ipv4_header.Ipv4Header.{Ipv4Header}
+use Rattle.ep_ip.specs.declared.ipv6_header.Ipv6Header.{Ipv6Header}
+use Rattle.ep_ip.specs.Ipv4.{IsIpv4Header, IsIpv4Packet, ipv4_header_len, is_ipv4_fragment}
+use Rattle.ep_ip.specs.Ipv6.{IsIpv6Packet, ipv6_payload_source}
+use Rattle.ep_ip.specs.IpPackets.{IpPacket, IsIpv4, IsIpv6}
+use Rattle.ep_ip.proofs.CutLemmas.{cut_parts}
+use Rattle.ep_link.specs.declared.link.ethernet2_slice.Ethernet2Slice.{Ethernet2Slice}
+use Rattle.ep_link.specs.declared.link_ext.single_vlan_slice.SingleVlanSlice.{SingleVlanSlice}
+use Rattle.ep_link.specs.Ethernet2.{IsEthernet2}
+use Rattle.ep_link.specs.Ethernet2Slices.{ethernet2_slice_header, ethernet2_slice_parts, ethernet2_slice_payload}
+use Rattle.ep_link.specs.LinkExtensions.{LinkExtension, vlan, BeginsLinkExtension, IsVlanType}
+use Rattle.ep_link.specs.LinkSlices.{LinkLayer, ethernet2}
+use Rattle.ep_link.specs.Vlan.{IsVlan}
+use Rattle.ep_link.specs.VlanSlices.{vlan_slice_header, vlan_slice_parts, vlan_slice_payload}
+use Rattle.ep_packet.specs.declared.entry.Entry.TheVariants.{Ethernet as ethernet_entry}
+use Rattle.ep_packet.specs.Frame.{NetKind, only_ipv4, only_ipv6, net_kind, most_link_exts, IsFrame, IsInside, IsNetPart, IsTransportBehind, IsTransportIn}
+use Rattle.ep_packet.specs.Layers.{Layers, NetLayer, ipv4, ipv6, net_payload}
+use Rattle.ep_packet.specs.Payloads.{extensions_len_source}
+use Rattle.ep_transport.specs.TransportParts.{TransportLayer}
+use Rattle.etherparse_c.specs.declared.packet.Packet.{Packet}
+use Rattle.etherparse_c.specs.declared.plain.PlainIp.{PlainIp}
+use Rattle.etherparse_c.specs.declared.vlans.Behind.{Behind}
+use Rattle.etherparse_c.specs.Description.{description, header_end, link_len, link_part, net_end, no_refusal, source_number, tag_slots, tags_len}
+use Rattle.etherparse_c.specs.Plain.{HasPlainIp, HasVlans, IsPlainIp, IsPlainNet, plain_ip, plain_payload, plain_told}
+
+-- ---- tags
+
+-- a tag before others
+vlan_before : (type : EtherType) (bytes left : List ℕ) (tag : SingleVlanSlice) (room : ℕ) (others : List LinkExtension)
+    (net : Option NetLayer) (transport : Option TransportLayer) → IsVlanType type
+    → IsVlan bytes (vlan_slice_parts tag left)
+    → IsInside slices room (Some (vlan_slice_header tag).ether_type) (vlan_slice_payload tag) others net transport
+    → IsInside slices (suc room) (Some type) bytes (vlan (vlan_slice_header tag) (vlan_slice_payload tag) ∷ others) net
+    transport
+vlan_before type bytes left tag room others net transport of_type is inside = ((left, (of_type, is)), inside)
+
+-- one tag
+pub one_vlan : (type : EtherType) (bytes left : List ℕ) (tag : SingleVlanSlice) (behind : Behind) → IsVlanType type
+    → IsVlan bytes (vlan_slice_parts tag left) → behind.offset ≡ 18
+    → behind.ether_type ≡ (vlan_slice_header tag).ether_type → behind.slice.now ≡ vlan_slice_payload tag
+    → HasVlans type bytes (vlan (vlan_slice_header tag) (vlan_slice_payload tag) ∷ []) behind
+one_vlan type bytes left tag behind of_type is place same_type same = record {
+  place = place;
+  few = omega (arith, place);
+  uncut = refl;
+  holds = λ none net transport part. vlan_before type bytes left tag 2 [] net transport of_type is (
+    subst (λ (t : EtherType). ¬ BeginsLinkExtension t) same_type none,
+    subst (λ (t : EtherType). IsNetPart slices (net_kind t) (vlan_slice_payload tag) net transport) same_type
+        (subst (λ (b : List ℕ). IsNetPart slices (net_kind behind.ether_type) b net transport) same part),
+  );
+}
+
+-- two tags
+pub two_vlans : (type : EtherType) (bytes left rest : List ℕ) (outer inner : SingleVlanSlice) (behind : Behind)
+    → IsVlanType type → IsVlan bytes (vlan_slice_parts outer left) → IsVlanType (vlan_slice_header outer).ether_type
+    → IsVlan (vlan_slice_payload outer) (vlan_slice_parts inner rest) → behind.offset ≡ 22
+    → behind.ether_type ≡ (vlan_slice_header inner).ether_type → behind.slice.now ≡ vlan_slice_payload inner
+    → HasVlans type bytes (vlan (vlan_slice_header outer) (vlan_slice_payload outer)
+    ∷ vlan (vlan_slice_header inner) (vlan_slice_payload inner) ∷ []) behind
+two_vlans type bytes left rest outer inner behind of_type is of_inner_type is_inner place same_type same = record {
+  place = place;
+  few = omega (arith, place);
+  uncut = refl;
+  holds = λ none net transport part. vlan_before type bytes left outer 2
+      (vlan (vlan_slice_header inner) (vlan_slice_payload inner) ∷ []) net transport of_type is
+      (vlan_before (vlan_slice_header outer).ether_type (vlan_slice_payload outer) rest inner 1 [] net transport
+      of_inner_type is_inner (
+        subst (λ (t : EtherType). ¬ BeginsLinkExtension t) same_type none,
+        subst (λ (t : EtherType). IsNetPart slices (net_kind t) (vlan_slice_payload inner) net transport) same_type
+            (subst (λ (b : List ℕ). IsNetPart slices (net_kind behind.ether_type) b net transport) same part),
+      ));
+}
+
+-- ---- IP
+
+-- another number than that of an authentication header ends a chain of IPv4 before it begins
+ipv4_chain_ends : (number : ℕ) → (number ≡ authentication_number → ⊥) → demand_of ipv4_chain slices [] number ≡ ends
+ipv4_chain_ends number other = grind (arith, other)
+
+-- those of UDP and TCP end one of IPv6
+ipv6_chain_ends : (number : ℕ) → (number ≡ udp_number) ⊎ (number ≡ tcp_number)
+    → demand_of ipv6_chain slices [] number ≡ ends
+ipv6_chain_ends number (inl is) = ap (λ (n : ℕ). demand_of ipv6_chain slices [] n) is
+ipv6_chain_ends number (inr is) = ap (λ (n : ℕ). demand_of ipv6_chain slices [] n) is
+
+-- bytes that a header begins, and that its total length cuts, are a packet
+pub cut_packet : (bytes rest : List ℕ) (header : Ipv4Header) (n t : ℕ) → IsIpv4Header bytes (header, rest)
+    → n ≡ ipv4_header_len header → n + length rest ≡ length bytes → t ≡ header.total_len → n ≤ t → t ≤ length bytes
+    → IsIpv4Packet bytes (parts_of header (take (t - n) (drop n bytes)) (drop t bytes))
+cut_packet bytes rest header n t is of_header len same enough most =
+    let there : n ≡ length is.encoded =
+    omega (arith, ap length is.parts, length-append is.encoded rest, len) in
+    record {
+      encoded = is.encoded;
+      encodes = is.encodes;
+      parts = cut_parts bytes is.encoded rest n t is.parts there enough;
+      cut = omega (arith, same, there, enough, most, length-take (t - n) (drop n bytes), length-drop n bytes);
+    }
+
+-- a header of no fragment says so
+pub whole_header : (header : Ipv4Header) → is_ipv4_fragment header ≡ false
+    → (header.more_fragments ≡ false) × (header.fragment_offset ≡ 0)
+whole_header header whole = grind (arith, whole)
+
+-- an IPv4 packet without an authentication header
+pub has_ipv4 : (bytes left : List ℕ) (header : Ipv4Header) (ip : PlainIp)
+    → IsIpv4Packet bytes (parts_of header ip.payload.now left) → (header.protocol.0 ≡ authentication_number → ⊥)
+    → is_ipv4_fragment header ≡ false → ip.version ≡ 4 → ip.len ≡ ipv4_header_len header
+    → ip.identification ≡ header.identification → ip.number ≡ header.protocol → ip.end ≡ source.Ipv4HeaderTotalLen
+    → HasPlainIp (Some only_ipv4) bytes ip
+has_ipv4 bytes left header ip cut other whole version len identification number end =
+    let payload : IpPayload = record {
+      number = header.protocol.0;
+      fragmented = is_ipv4_fragment header;
+      source = source.Ipv4HeaderTotalLen;
+      bytes = ip.payload.now;
+    } in
+    let packet : IpPacket Ipv4Header =
+    record { header = header; extensions = []; payload = payload; left = left } in
+    let is : IsIpv4 slices bytes packet = record {
+      content = ip.payload.now;
+      cut = cut;
+      chain = (ipv4_chain_ends header.protocol.0 other, refl, refl);
+      fragmented = refl;
+      source = refl;
+    } in
+    let says = whole_header header whole in
+    record {
+      layer = ipv4 header [] payload;
+      is = (packet, is, refl);
+      shown = record {
+        kind = sym version;
+        len = omega (arith, len);
+        most = omega (arith, len, cut.encodes.fits.options_len);
+        says = λ i. record {
+          version = sym version i;
+          number = (sym number i).0;
+          fragmented = bit (whole i);
+          more_fragments = bit (says.0 i);
+          fragment_offset = 8 * says.1 i;
+          identification = sym identification i;
+          header_len = sym len i;
+        };
+        end = sym end;
+        payload = λ i. Some (record {
+          number = (sym number i).0;
+          fragmented = whole i;
+          source = sym end i;
+          bytes = ip.payload.now;
+        });
+      };
+    }
+
+-- an IPv6 packet with UDP or TCP behind its header
+pub has_ipv6 : (bytes left : List ℕ) (header : Ipv6Header) (ip : PlainIp)
+    → IsIpv6Packet bytes (parts_of header ip.payload.now left)
+    → (header.next_header.0 ≡ udp_number) ⊎ (header.next_header.0 ≡ tcp_number)
+    → ip.version ≡ 6 → ip.len ≡ 40 → ip.identification ≡ 0 → ip.number ≡ header.next_header
+    → ip.end ≡ ipv6_payload_source header ip.payload.now → HasPlainIp (Some only_ipv6) bytes ip
+has_ipv6 bytes left header ip cut known version len identification number end =
+    let payload : IpPayload = record {
+      number = header.next_header.0;
+      fragmented = false;
+      source = ipv6_payload_source header ip.payload.now;
+      bytes = ip.payload.now;
+    } in
+    let packet : IpPacket Ipv6Header =
+    record { header = header; extensions = []; payload = payload; left = left } in
+    let is : IsIpv6 slices bytes packet = record {
+      content = ip.payload.now;
+      cut = cut;
+      chain = (ipv6_chain_ends header.next_header.0 known, refl, refl);
+      fragmented = refl;
+      source = refl;
+    } in
+    record {
+      layer = ipv6 header [] payload;
+      is = (packet, is, refl);
+      shown = record {
+        kind = sym version;
+        len = sym len;
+        most = omega (arith, len);
+        says = λ i. record {
+          version = sym version i;
+          number = (sym number i).0;
+          fragmented = 0;
+          more_fragments = 0;
+          fragment_offset = 0;
+          identification = sym identification i;
+          header_len = sym len i;
+        };
+        end = sym end;
+        payload = λ i. Some (record {
+          number = (sym number i).0;
+          fragmented = false;
+          source = sym end i;
+          bytes = ip.payload.now;
+        });
+      };
+    }
+
+-- a type that begins a tag is none of a net layer
+tagged_kind : (type : EtherType) → BeginsLinkExtension type → net_kind type ≡ None
+tagged_kind type (inl (inl is)) = ap (λ (n : ℕ). net_kind (record { 0 = n })) is
+tagged_kind type (inl (inr (inl is))) = ap (λ (n : ℕ). net_kind (record { 0 = n })) is
+tagged_kind type (inl (inr (inr is))) = ap (λ (n : ℕ). net_kind (record { 0 = n })) is
+tagged_kind type (inr is) = ap (λ (n : ℕ). net_kind (record { 0 = n })) is
+
+-- so bytes with an IP packet are of a type that begins none
+pub begins_none : (type : EtherType) (bytes : List ℕ) (ip : PlainIp) → HasPlainIp (net_kind type) bytes ip
+    → ¬ BeginsLinkExtension type
+begins_none type bytes ip has =
+    λ begins. subst (λ (kind : Option NetKind). IsPlainNet kind bytes has.layer) (tagged_kind type begins) has.is
+
+-- the layers of an IP packet and of what is in it are the net part of bytes
+pub plain_part : (kind : Option NetKind) (bytes : List ℕ) (layer : NetLayer) (payload : IpPayload)
+    (transport : TransportLayer) → IsPlainNet kind bytes layer → net_payload layer ≡ Some payload
+    → IsTransportIn slices payload (Some transport) → IsNetPart slices kind bytes (Some layer) (Some transport)
+plain_part None bytes layer payload transport is same inside = absurd is
+plain_part (Some kind) bytes layer payload transport is same inside =
+    (layer, is, refl, subst (λ (p : Option IpPayload). IsTransportBehind slices p (Some transport)) (sym same) inside)
+
+-- ---- all of it
+
+-- the layers of a plain frame
+abbrev pub plain_layers : LinkLayer → List LinkExtension → NetLayer → TransportLayer → Layers
+plain_layers link tags net transport =
+    record { link = Some link; link_exts = tags; net = Some net; transport = Some transport }
+
+-- what cuts nothing leaves the end to what is in it
+cut_alone : (end : LenSource) → cut_by source.Slice end ≡ end
+cut_alone source.Slice = refl
+cut_alone source.MacsecShortLength = refl
+cut_alone source.Ipv4HeaderTotalLen = refl
+cut_alone source.Ipv6HeaderPayloadLen = refl
+cut_alone source.UdpHeaderLen = refl
+cut_alone source.ArpAddrLengths = refl
+
+-- what is said of the IP packet, beside link header and tags, describes the layers
+pub plain_described : (link : LinkLayer) (tags : List LinkExtension) (net : NetLayer) (transport : TransportLayer)
+    (ip : PlainIp) (offset : ℕ) (old new : Packet) → IsPlainIp net ip → extensions_len_source tags ≡ source.Slice
+    → offset ≡ link_len (Some link) + tags_len tags → old.link ≡ link_part (Some link)
+    → old.link_exts ≡ tag_slots (link_len (Some link)) tags → old.link_ext_count ≡ length tags
+    → old.refusal ≡ no_refusal → new ≡ plain_told offset ip transport old
+    → new ≡ description (plain_layers link tags net transport)
+plain_described link tags net transport ip offset old new shown uncut place link_told tags_told count refused same =
+    let end : ip.end ≡ cut_by (extensions_len_source tags) (net_end (Some net)) =
+    sym shown.end ∙ sym (cut_alone (net_end (Some net)))
+    ∙ ap (λ (e : LenSource). cut_by e (net_end (Some net))) (sym uncut) in
+    let len = sym shown.len in
+    same ∙ (λ i. record {
+      link = link_told i;
+      link_exts = tags_told i;
+      link_ext_count = count i;
+      source_port = (plain_told offset ip transport old).source_port;
+      destination_port = (plain_told offset ip transport old).destination_port;
+      net = record { kind = sym shown.kind i; offset = place i; len = len i };
+      ip = sym shown.says i;
+      transport = record {
+        kind = (plain_told offset ip transport old).transport.kind;
+        offset = place i + len i;
+        len = (plain_told offset ip transport old).transport.len;
+      };
+      payload = record {
+        len_source = source_number (cut_by (end i) (header_end transport.header));
+        offset = place i + len i + (plain_told offset ip transport old).transport.len;
+        len = length transport.payload;
+      };
+      refusal = refused i;
+    })
+
+-- the bytes are a frame of Ethernet II with these tags and what they hold
+pub plain_frame : (bytes left : List ℕ) (frame : Ethernet2Slice) (tags : List LinkExtension) (net : NetLayer)
+    (transport : TransportLayer) → IsEthernet2 bytes (ethernet2_slice_parts frame left)
+    → IsInside slices most_link_exts (Some (ethernet2_slice_header frame).ether_type) (ethernet2_slice_payload frame)
+    tags (Some net) (Some transport)
+    → IsFrame ethernet_entry bytes
+    (plain_layers (ethernet2 (ethernet2_slice_header frame) (ethernet2_slice_payload frame)) tags net transport)
+plain_frame bytes left frame tags net transport is inside = (ethernet2_slice_parts frame left, is, refl, inside)

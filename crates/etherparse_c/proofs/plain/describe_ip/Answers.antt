@@ -1,0 +1,65 @@
+use Rattle.std.proofs.Common.{◌≡◌, ℕ, ◌+◌, List, length, ap, refl, sym, ◌∙◌}
+use Rattle.std.proofs.lemmas.Bool.{eqb-true}
+use Rattle.ep_base.specs.Layer.{cut_by}
+use Rattle.ep_base.specs.declared.len_source.LenSource.{LenSource}
+use Rattle.ep_transport.specs.TransportParts.{transport_layer_of}
+use Rattle.ep_transport.specs.declared.transport_slice.TransportSlice.TheVariants as transport
+use Rattle.etherparse_c.specs.Description.{part, source_number}
+use Rattle.etherparse_c.specs.Plain.{plain_ip}
+use Rattle.etherparse_c.proofs.plain.describe_ip.Goals as goal
+
+pub returns-then-eq : goal.returns-then-eq
+returns-then-eq c =
+    λ done.
+    let ip = c.args.ip.now in
+    let old = c.args.told.now in
+    let ok = c.in-Ok.ensures.ok in
+    let offset = c.args.offset + ip.len in
+    let end = c.source_number.ensures ∙ ap source_number (c.cut_by.ensures
+    ∙ ap (λ (e : LenSource). cut_by ip.end e) c.datagram_end.ensures) in (
+      transport_layer_of (transport.Udp c.in-Ok.datagram),
+      (refl, (eqb-true _ _ (sym c.eq.ensures ∙ c.if-eq.true), (ok.0, ok.2))),
+      λ i. record {
+        link = old.link;
+        link_exts = old.link_exts;
+        link_ext_count = old.link_ext_count;
+        source_port = c.source_port-told.ensures i;
+        destination_port = c.destination_port-told.ensures i;
+        net = record { kind = c.from.ensures i; offset = c.args.offset; len = ip.len };
+        ip = plain_ip ip;
+        transport = part 17 offset 8;
+        payload = record {
+          len_source = end i;
+          offset = offset + 8;
+          len = length (c.payload.ensures i);
+        };
+        refusal = old.refusal;
+      },
+    )
+
+pub returns-then-eq-2 : goal.returns-then-eq-2
+returns-then-eq-2 c =
+    λ done.
+    let ip = c.args.ip.now in
+    let old = c.args.told.now in
+    let ok = c.in-Ok-from_slice.ensures.ok in
+    let offset = c.args.offset + ip.len in (
+      transport_layer_of (transport.Tcp c.in-Ok-from_slice.segment),
+      (refl, (eqb-true _ _ (sym c.eq-2.ensures ∙ c.if-eq-2.true), ok.2)),
+      λ i. record {
+        link = old.link;
+        link_exts = old.link_exts;
+        link_ext_count = old.link_ext_count;
+        source_port = c.source_port-told-then-eq-2.ensures i;
+        destination_port = c.destination_port-told-then-eq-2.ensures i;
+        net = record { kind = c.from.ensures i; offset = c.args.offset; len = ip.len };
+        ip = plain_ip ip;
+        transport = part 6 offset (20 + length (c.options.ensures.value i));
+        payload = record {
+          len_source = c.source_number-then-eq-2.ensures i;
+          offset = offset + (20 + length (c.options.ensures.value i));
+          len = length (c.payload-then-eq-2.ensures i);
+        };
+        refusal = old.refusal;
+      },
+    )

@@ -1,0 +1,15 @@
+use Rattle.std.proofs.Common.{rules, ◌≡◌, ◌⊎◌, ap, refl, subst, ◌∙◌, true}
+use Rattle.ep_base.specs.IpNumbers.{tcp_number, udp_number}
+use Rattle.ep_base.specs.declared.ip_number.IpNumber.{IpNumber}
+use Rattle.ep_ip.specs.Ipv6Slices.{ipv6_header_slice_header}
+use Rattle.etherparse_c.proofs.PlainLemmas.{has_ipv6}
+use Rattle.etherparse_c.proofs.plain.ipv6.Goals as goal
+
+pub returns : goal.returns
+returns c =
+    let ok = c.in-Ok.ensures.ok in
+    let read : c.is_udp_or_tcp.result ≡ true = search rules in
+    let known = subst (λ (k : IpNumber). (k.0 ≡ udp_number) ⊎ (k.0 ≡ tcp_number)) c.next_header-number.ensures
+    (c.is_udp_or_tcp.ensures read) in
+    has_ipv6 c.args.slice.now ok.0 (ipv6_header_slice_header c.in-Ok.header) _ ok.2 known refl refl refl
+    c.next_header-number.ensures c.in-Ok.ensures.source
