@@ -24,6 +24,7 @@
 pub mod declared;
 
 use std::fmt;
+use std::mem::MaybeUninit;
 use std::ptr;
 
 /// What a frame begins with.
@@ -174,6 +175,7 @@ fn len_source(number: u32) -> LenSource {
 }
 
 /// Slices a frame that begins with an Ethernet II header.
+#[inline]
 pub fn slice(frame: &[u8]) -> Result<Packet<'_>, Refusal> {
     slice_from(Entry::Ethernet, frame)
 }
@@ -194,13 +196,16 @@ pub fn slice(frame: &[u8]) -> Result<Packet<'_>, Refusal> {
 /// }
 /// # Ok::<(), etherparse_c::Refusal>(())
 /// ```
+#[inline]
 pub fn slice_from(entry: Entry, frame: &[u8]) -> Result<Packet<'_>, Refusal> {
     let (entry, ether_type) = entry.numbers();
-    let mut told = declared::Packet::default();
-    // SAFETY: both pointers are of references that live as long as the call, and they do not overlap.
+    let mut told = MaybeUninit::<declared::Packet>::uninit();
+    // SAFETY: both pointers are of what lives as long as the call, and they do not overlap.
     let status = unsafe {
-        declared::etherparse_slice(entry, ether_type, frame.as_ptr(), frame.len(), &mut told)
+        declared::etherparse_slice(entry, ether_type, frame.as_ptr(), frame.len(), told.as_mut_ptr())
     };
+    // SAFETY: whatever it answers, the call reads nothing there and writes each field.
+    let told = unsafe { told.assume_init_ref() };
     if status != 0 {
         return Err(Refusal(told.refusal));
     }
