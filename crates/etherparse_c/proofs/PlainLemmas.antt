@@ -1,6 +1,6 @@
 -- That plain frames are frames, and what is said of them.
-use Rattle.std.proofs.Common.{◌≡◌, ℕ, ◌+◌, ◌*◌, ◌-◌, ◌≤◌, Bool, true, false, ◌||◌, List, [], ◌∷◌, ◌++◌, length, take, drop, Option, Some, None, refl, sym, ap, subst, ◌∙◌, ◌⊎◌, inl, inr, arith}
-use Rattle.std.specs.Prelude.{nat_lt, suc}
+use Rattle.std.proofs.Common.{◌≡◌, ℕ, ◌+◌, ◌*◌, ◌-◌, ◌≤◌, false, List, [], ◌∷◌, length, take, drop, Option, Some, None, refl, sym, ap, subst, ◌∙◌, ◌⊎◌, inl, inr, arith}
+use Rattle.std.specs.Prelude.{suc}
 use Rattle.std.proofs.lemmas.List.{length-append, length-take, length-drop}
 use Rattle.ep_base.specs.Bytes.{bit}
 use Rattle.ep_base.specs.IpNumbers.{authentication_number, tcp_number, udp_number}
@@ -8,7 +8,6 @@ use Rattle.ep_base.specs.IpPayload.{IpPayload}
 use Rattle.ep_base.specs.Layer.{cut_by, slices}
 use Rattle.ep_base.specs.Tables.{parts_of}
 use Rattle.ep_base.specs.declared.ether_type.EtherType.{EtherType}
-use Rattle.ep_base.specs.declared.ip_number.IpNumber.{IpNumber}
 use Rattle.ep_base.specs.declared.len_source.LenSource.{LenSource}
 use Rattle.ep_base.specs.declared.len_source.LenSource.TheVariants as source
 use Rattle.ep_ext.specs.Chains.{ipv4 as ipv4_chain, ipv6 as ipv6_chain, demand_of, ends}
@@ -16,7 +15,7 @@ use Rattle.ep_ip.specs.declared.ipv4_header.Ipv4Header.{Ipv4Header}
 use Rattle.ep_ip.specs.declared.ipv6_header.Ipv6Header.{Ipv6Header}
 use Rattle.ep_ip.specs.Ipv4.{IsIpv4Header, IsIpv4Packet, ipv4_header_len, is_ipv4_fragment}
 use Rattle.ep_ip.specs.Ipv6.{IsIpv6Packet, ipv6_payload_source}
-use Rattle.ep_ip.specs.IpPackets.{IpPacket, IsIpv4, IsIpv6}
+use Rattle.ep_ip.specs.IpPackets.{IpPacket, IsIpv4, IsIpv6, ipv4_part, ipv6_part}
 use Rattle.ep_ip.proofs.CutLemmas.{cut_parts}
 use Rattle.ep_link.specs.declared.link.ethernet2_slice.Ethernet2Slice.{Ethernet2Slice}
 use Rattle.ep_link.specs.declared.link_ext.single_vlan_slice.SingleVlanSlice.{SingleVlanSlice}
@@ -27,7 +26,7 @@ use Rattle.ep_link.specs.LinkSlices.{LinkLayer, ethernet2}
 use Rattle.ep_link.specs.Vlan.{IsVlan}
 use Rattle.ep_link.specs.VlanSlices.{vlan_slice_header, vlan_slice_parts, vlan_slice_payload}
 use Rattle.ep_packet.specs.declared.entry.Entry.TheVariants.{Ethernet as ethernet_entry}
-use Rattle.ep_packet.specs.Frame.{NetKind, only_ipv4, only_ipv6, net_kind, most_link_exts, IsFrame, IsInside, IsNetPart, IsTransportBehind, IsTransportIn}
+use Rattle.ep_packet.specs.Frame.{NetKind, any_ip, only_ipv4, only_ipv6, net_kind, most_link_exts, IsFrame, IsInside, IsNetPart, IsTransportBehind, IsTransportIn}
 use Rattle.ep_packet.specs.Layers.{Layers, NetLayer, ipv4, ipv6, net_payload}
 use Rattle.ep_packet.specs.Payloads.{extensions_len_source}
 use Rattle.ep_transport.specs.TransportParts.{TransportLayer}
@@ -35,7 +34,7 @@ use Rattle.etherparse_c.specs.declared.packet.Packet.{Packet}
 use Rattle.etherparse_c.specs.declared.plain.PlainIp.{PlainIp}
 use Rattle.etherparse_c.specs.declared.vlans.Behind.{Behind}
 use Rattle.etherparse_c.specs.Description.{description, header_end, link_len, link_part, net_end, no_refusal, source_number, tag_slots, tags_len}
-use Rattle.etherparse_c.specs.Plain.{HasPlainIp, HasVlans, IsPlainIp, IsPlainNet, plain_ip, plain_payload, plain_told}
+use Rattle.etherparse_c.specs.Plain.{HasPlainIp, HasVlans, IsPlainIp, IsPlainNet, plain_told}
 
 -- ---- tags
 
@@ -213,6 +212,21 @@ has_ipv6 bytes left header ip cut known version len identification number end =
       };
     }
 
+-- a packet of one version is one of any
+pub any_ipv4 : (bytes : List ℕ) (ip : PlainIp) → HasPlainIp (Some only_ipv4) bytes ip → HasPlainIp (Some any_ip) bytes ip
+any_ipv4 bytes ip has = record {
+  layer = has.layer;
+  is = (ipv4_part has.is.0, has.is.1, has.is.2);
+  shown = has.shown;
+}
+
+pub any_ipv6 : (bytes : List ℕ) (ip : PlainIp) → HasPlainIp (Some only_ipv6) bytes ip → HasPlainIp (Some any_ip) bytes ip
+any_ipv6 bytes ip has = record {
+  layer = has.layer;
+  is = (ipv6_part has.is.0, has.is.1, has.is.2);
+  shown = has.shown;
+}
+
 -- a type that begins a tag is none of a net layer
 tagged_kind : (type : EtherType) → BeginsLinkExtension type → net_kind type ≡ None
 tagged_kind type (inl (inl is)) = ap (λ (n : ℕ). net_kind (record { 0 = n })) is
@@ -237,9 +251,9 @@ plain_part (Some kind) bytes layer payload transport is same inside =
 -- ---- all of it
 
 -- the layers of a plain frame
-abbrev pub plain_layers : LinkLayer → List LinkExtension → NetLayer → TransportLayer → Layers
+abbrev pub plain_layers : Option LinkLayer → List LinkExtension → NetLayer → TransportLayer → Layers
 plain_layers link tags net transport =
-    record { link = Some link; link_exts = tags; net = Some net; transport = Some transport }
+    record { link = link; link_exts = tags; net = Some net; transport = Some transport }
 
 -- what cuts nothing leaves the end to what is in it
 cut_alone : (end : LenSource) → cut_by source.Slice end ≡ end
@@ -251,10 +265,10 @@ cut_alone source.UdpHeaderLen = refl
 cut_alone source.ArpAddrLengths = refl
 
 -- what is said of the IP packet, beside link header and tags, describes the layers
-pub plain_described : (link : LinkLayer) (tags : List LinkExtension) (net : NetLayer) (transport : TransportLayer)
+pub plain_described : (link : Option LinkLayer) (tags : List LinkExtension) (net : NetLayer) (transport : TransportLayer)
     (ip : PlainIp) (offset : ℕ) (old new : Packet) → IsPlainIp net ip → extensions_len_source tags ≡ source.Slice
-    → offset ≡ link_len (Some link) + tags_len tags → old.link ≡ link_part (Some link)
-    → old.link_exts ≡ tag_slots (link_len (Some link)) tags → old.link_ext_count ≡ length tags
+    → offset ≡ link_len link + tags_len tags → old.link ≡ link_part link
+    → old.link_exts ≡ tag_slots (link_len link) tags → old.link_ext_count ≡ length tags
     → old.refusal ≡ no_refusal → new ≡ plain_told offset ip transport old
     → new ≡ description (plain_layers link tags net transport)
 plain_described link tags net transport ip offset old new shown uncut place link_told tags_told count refused same =
@@ -289,5 +303,5 @@ pub plain_frame : (bytes left : List ℕ) (frame : Ethernet2Slice) (tags : List 
     → IsInside slices most_link_exts (Some (ethernet2_slice_header frame).ether_type) (ethernet2_slice_payload frame)
     tags (Some net) (Some transport)
     → IsFrame ethernet_entry bytes
-    (plain_layers (ethernet2 (ethernet2_slice_header frame) (ethernet2_slice_payload frame)) tags net transport)
+    (plain_layers (Some (ethernet2 (ethernet2_slice_header frame) (ethernet2_slice_payload frame))) tags net transport)
 plain_frame bytes left frame tags net transport is inside = (ethernet2_slice_parts frame left, is, refl, inside)

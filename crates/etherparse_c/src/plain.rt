@@ -1,5 +1,5 @@
-//! Plain frames, as most are: Ethernet II, at most two VLAN tags, IP without extension headers, and UDP or TCP. They are
-//! described without a packet in between.
+//! Plain frames, as most are: IP without extension headers, behind Ethernet II and at most two VLAN tags or alone, and UDP
+//! or TCP. They are described without a packet in between.
 //!
 //! Each call here may give up, by the answer false or none, where the bytes are another frame or no frame: what is said
 //! then is of no use.
@@ -7,9 +7,9 @@
 ghost use Rattle.std.specs.Prelude.{◌≡◌, ◌≤◌, ◌⊎◌, IfSome, Some, true};
 ghost use Rattle.ep_base.specs.IpNumbers.{tcp_number, udp_number};
 ghost use Rattle.ep_base.specs.Layer.{slices};
-ghost use Rattle.ep_packet.specs.declared.entry.Entry.TheVariants.{Ethernet as ethernet};
+ghost use Rattle.ep_packet.specs.declared.entry.Entry.TheVariants.{Ethernet as ethernet, Ip as ip_entry};
 ghost use Rattle.ep_packet.specs.Frame.{IsFrame, IsTransportIn, net_kind};
-ghost use Rattle.ep_packet.specs.Frame.{only_ipv4, only_ipv6};
+ghost use Rattle.ep_packet.specs.Frame.{any_ip, only_ipv4, only_ipv6};
 ghost use Rattle.ep_packet.specs.Layers.{Layers};
 ghost use Rattle.ep_transport.specs.TransportParts.{TransportLayer};
 ghost use Rattle.ep_transport.specs.UdpSlices.{udp_slice_header};
@@ -17,7 +17,7 @@ ghost use Rattle.ep_transport.specs.declared.transport_header.TransportHeader.Th
 ghost use Rattle.etherparse_c.specs.Description.{description, header_end};
 ghost use Rattle.etherparse_c.specs.Plain.{HasPlainIp, plain_payload, plain_told};
 
-use crate::describing::{no_refusal, source_number};
+use crate::describing::{no_refusal, no_tag, source_number};
 use crate::numbers;
 use crate::packet::{Ip, Packet, Part, Payload};
 use crate::vlans::place_vlans;
@@ -39,7 +39,7 @@ pub(crate) struct PlainIp<'a> {
     pub(crate) payload: &'a [u8],
 }
 
-/// Says what the layers of a plain frame are.
+/// Says what the layers of a plain frame are that begins with an Ethernet II header.
 #[inline(always)]
 pub(crate) fn describe_plain(told: &mut Packet, bytes: &[u8]) -> bool
     ensures { result ≡ true → ((layers : Layers) × IsFrame ethernet bytes.now layers
@@ -66,6 +66,46 @@ pub(crate) fn describe_plain(told: &mut Packet, bytes: &[u8]) -> bool
     };
     told.refusal = no_refusal();
     describe_ip(told, behind.offset, &ip)
+}
+
+/// Says what the layers of a plain frame are that begins with an IP header.
+#[inline(always)]
+pub(crate) fn describe_plain_ip(told: &mut Packet, bytes: &[u8]) -> bool
+    ensures { result ≡ true → ((layers : Layers) × IsFrame ip_entry bytes.now layers
+        × (told.new ≡ description layers)) }
+{
+    let Some(packet) = ip_of_version(bytes) else {
+        return false;
+    };
+    told.link = Part {
+        kind: 0,
+        offset: 0,
+        len: 0,
+    };
+    told.link_exts = [no_tag(), no_tag(), no_tag()];
+    told.link_ext_count = 0;
+    told.refusal = no_refusal();
+    describe_ip(told, 0, &packet)
+}
+
+/// The IP packet that bytes begin with, by the version that they say.
+#[inline(always)]
+fn ip_of_version<'a>(slice: &'a [u8]) -> Option<PlainIp<'a>>
+    ensures { IfSome result (HasPlainIp (Some any_ip) slice.now) }
+{
+    if slice.is_empty() {
+        return None;
+    }
+    if slice[0] >> 4 == 4 {
+        let Some(packet) = ipv4(slice) else {
+            return None;
+        };
+        return Some(packet);
+    }
+    let Some(packet) = ipv6(slice) else {
+        return None;
+    };
+    Some(packet)
 }
 
 /// The IP packet that bytes of a type begin with.

@@ -8,7 +8,7 @@ ghost use Rattle.etherparse_c.specs.Answers.{IsSliceAnswer, entry_of, nothing_sa
 use crate::describing::describe;
 use crate::numbers;
 use crate::packet::Packet;
-use crate::plain::describe_plain;
+use crate::plain::{describe_plain, describe_plain_ip};
 use crate::refusing::refusal_part;
 use etherparse::err::packet::SliceError;
 use etherparse::{Entry, EtherType, SlicedPacket};
@@ -27,6 +27,9 @@ pub extern "C" fn etherparse_slice(
     ensures { IsSliceAnswer (entry_of entry ether_type) bytes.now result packet.new }
 {
     if entry == 0 && describe_plain(packet, bytes) {
+        return numbers::OK;
+    }
+    if entry == 3 && describe_plain_ip(packet, bytes) {
         return numbers::OK;
     }
     slice_any(entry, ether_type, bytes, packet)

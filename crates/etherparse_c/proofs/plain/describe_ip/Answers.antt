@@ -1,4 +1,4 @@
-use Rattle.std.proofs.Common.{◌≡◌, ℕ, ◌+◌, List, length, ap, refl, sym, ◌∙◌}
+use Rattle.std.proofs.Common.{◌+◌, length, ap, refl, sym, ◌∙◌}
 use Rattle.std.proofs.lemmas.Bool.{eqb-true}
 use Rattle.ep_base.specs.Layer.{cut_by}
 use Rattle.ep_base.specs.declared.len_source.LenSource.{LenSource}

@@ -1,4 +1,4 @@
-use Rattle.std.proofs.Common.{◌≡◌, ℕ, List, Option, Some, refl, subst}
+use Rattle.std.proofs.Common.{ℕ, List, Some, refl, subst}
 use Rattle.ep_base.specs.Layer.{slices}
 use Rattle.ep_base.specs.declared.ether_type.EtherType.{EtherType}
 use Rattle.ep_link.specs.Ethernet2Slices.{ethernet2_slice_header, ethernet2_slice_payload}
@@ -39,8 +39,8 @@ returns c =
     c.ether_type.ensures
     (subst (λ (b : List ℕ). IsInside slices most_link_exts (Some c.ether_type.result) b tags (Some has.layer)
     (Some transport)) c.payload_slice.ensures held) in (
-      plain_layers (ethernet2 header payload) tags has.layer transport,
+      plain_layers (Some (ethernet2 header payload)) tags has.layer transport,
       plain_frame bytes ok.0 frame tags has.layer transport ok.2 inside,
-      plain_described (ethernet2 header payload) tags has.layer transport ip behind.offset old c.describe_ip.new.told
+      plain_described (Some (ethernet2 header payload)) tags has.layer transport ip behind.offset old c.describe_ip.new.told
           has.shown found.1.uncut found.1.place refl found.2 found.3 c.no_refusal-told.ensures does.2,
     )

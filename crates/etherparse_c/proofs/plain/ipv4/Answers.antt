@@ -1,4 +1,4 @@
-use Rattle.std.proofs.Common.{◌≡◌, ◌≤◌, ◌-◌, length, take, drop, ap, refl, sym, ◌∙◌, subst, arith}
+use Rattle.std.proofs.Common.{rules, ◌≡◌, length, drop, ap, refl, sym, ◌∙◌, arith}
 use Rattle.std.proofs.lemmas.Bool.{eqb-false}
 use Rattle.std.proofs.lemmas.List.{length-append}
 use Rattle.ep_base.specs.IpNumbers.{authentication_number}
@@ -19,5 +19,5 @@ returns c =
     c.total_len-total_len.ensures (omega arith) (omega arith) in
     let other : header.protocol.0 ≡ authentication_number → ⊥ =
     λ is. eqb-false _ _ (sym c.eq.ensures ∙ c.if-eq.false) (ap (λ (k : IpNumber). k.0) c.protocol-number.ensures ∙ is) in
-    has_ipv4 bytes (drop t bytes) header _ cut other (sym c.is_fragmenting_payload.ensures ∙ c.if-is_fragmenting_payload.false)
+    has_ipv4 bytes (drop t bytes) header _ cut other (search rules)
     refl c.header_len-len.ensures.value (c.from.ensures ∙ c.identification.ensures) c.protocol-number.ensures refl

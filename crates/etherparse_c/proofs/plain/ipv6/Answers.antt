@@ -1,4 +1,4 @@
-use Rattle.std.proofs.Common.{rules, ◌≡◌, ◌⊎◌, ap, refl, subst, ◌∙◌, true}
+use Rattle.std.proofs.Common.{rules, ◌≡◌, ◌⊎◌, refl, subst, true}
 use Rattle.ep_base.specs.IpNumbers.{tcp_number, udp_number}
 use Rattle.ep_base.specs.declared.ip_number.IpNumber.{IpNumber}
 use Rattle.ep_ip.specs.Ipv6Slices.{ipv6_header_slice_header}

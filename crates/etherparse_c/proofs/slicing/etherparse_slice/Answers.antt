@@ -1,6 +1,6 @@
 use Rattle.std.proofs.Common.{rules, ◌≡◌, ℕ, Option, Some, inl, refl, ap, subst, sym}
 use Rattle.ep_packet.specs.declared.entry.Entry.{Entry}
-use Rattle.ep_packet.specs.declared.entry.Entry.TheVariants.{Ethernet as ethernet}
+use Rattle.ep_packet.specs.declared.entry.Entry.TheVariants.{Ethernet as ethernet, Ip as ip}
 use Rattle.etherparse_c.specs.Answers.{IsSliceAnswer, entry_of}
 use Rattle.etherparse_c.proofs.PlaceLemmas.{frame_describes}
 use Rattle.etherparse_c.proofs.slicing.etherparse_slice.Goals as goal
@@ -14,3 +14,13 @@ returns-then-describe_plain c =
     let told = c.describe_plain.new.told in
     subst (λ (entry : Option Entry). IsSliceAnswer entry c.args.bytes.now 0 told) (sym known)
     (inl (refl, (found.0, frame_describes ethernet c.args.bytes.now found.0 told found.1 found.2)))
+
+pub returns-then-describe_plain_ip : goal.returns-then-describe_plain_ip
+returns-then-describe_plain_ip c =
+    let fourth : c.args.entry ≡ 3 = search rules in
+    let known : entry_of c.args.entry c.args.ether_type ≡ Some ip =
+    ap (λ (n : ℕ). entry_of n c.args.ether_type) fourth in
+    let found = c.describe_plain_ip.ensures c.if-describe_plain_ip.true in
+    let told = c.describe_plain_ip.new.told in
+    subst (λ (entry : Option Entry). IsSliceAnswer entry c.args.bytes.now 0 told) (sym known)
+    (inl (refl, (found.0, frame_describes ip c.args.bytes.now found.0 told found.1 found.2)))
