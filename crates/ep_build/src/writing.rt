@@ -40,6 +40,7 @@ pub(crate) fn write_ip(
     ensures fragment { OnOk result (IsFragmentReadBack link.now headers.old last payload.now) }
     ensures full { result ≡ Err BuildWriteError.OutOfMemory → vec_capacity buf.old
         < vec_len buf.old + built_size (held_ip link.now headers.old last) (length payload.now) }
+    ensures capacity { vec_capacity buf.old ≤ vec_capacity buf.new }
 {
     link_fits(link);
     let ether_type = match link_headers(headers, last, payload.len()) {
@@ -73,6 +74,7 @@ pub(crate) fn write_transport(
     ensures read_back { OnOk result (IsReadBack link.now headers.old transport.old payload.now) }
     ensures full { result ≡ Err BuildWriteError.OutOfMemory → vec_capacity buf.old
         < vec_len buf.old + built_size (held_transport link.now headers.old transport.old) (length payload.now) }
+    ensures capacity { vec_capacity buf.old ≤ vec_capacity buf.new }
 {
     link_fits(link);
     let last = number_of(transport);
@@ -108,6 +110,7 @@ pub(crate) fn write_arp(
     ensures read_back { OnOk result (IsArpReadBack link.now (arp_of packet.now)) }
     ensures full { OnErr result
         (vec_capacity buf.old < vec_len buf.old + built_size (held_arp link.now (arp_of packet.now)) 0) }
+    ensures capacity { vec_capacity buf.old ≤ vec_capacity buf.new }
 {
     link_fits(link);
     let size = link.header_len() + packet.packet_len();

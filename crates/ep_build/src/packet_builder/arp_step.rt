@@ -1,6 +1,6 @@
 //! The step of an ARP packet.
 
-ghost use Rattle.std.specs.Prelude.{◌≡◌, ◌+◌, ◌<◌, ◌++◌, [], length, IfErr, OnOk, OnErr, vec_len, vec_capacity};
+ghost use Rattle.std.specs.Prelude.{◌≡◌, ◌+◌, ◌<◌, ◌≤◌, ◌++◌, [], length, IfErr, OnOk, OnErr, vec_len, vec_capacity};
 ghost use Rattle.ep_build.specs.BuiltFrames.{built_frame, built_size};
 ghost use Rattle.ep_build.specs.Steps.{ArpStepReadsBack, arp_held};
 
@@ -20,6 +20,7 @@ impl PacketBuilderStep<ArpPacket> {
         ensures refused { IfErr result (λ error. error ≡ BuildWriteError.OutOfMemory) }
         ensures read_back { OnOk result (ArpStepReadsBack self) }
         ensures full { OnErr result (vec_capacity buf.old < vec_len buf.old + built_size (arp_held self) 0) }
+        ensures capacity { vec_capacity buf.old ≤ vec_capacity buf.new }
     {
         write_arp(&self.before, &self.last, buf)
     }

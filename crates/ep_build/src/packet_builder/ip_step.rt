@@ -1,6 +1,6 @@
 //! The step of IP headers: the transport header behind them, or a payload of another protocol.
 
-ghost use Rattle.std.specs.Prelude.{◌≡◌, ◌+◌, ◌<◌, ◌^◌, ◌++◌, ℕ, List, length, Err, IfErr, OnOk, OnErr, vec_len, vec_capacity};
+ghost use Rattle.std.specs.Prelude.{◌≡◌, ◌+◌, ◌<◌, ◌≤◌, ◌^◌, ◌++◌, ℕ, List, length, Err, IfErr, OnOk, OnErr, vec_len, vec_capacity};
 ghost use Rattle.ep_transport.specs.Tcp.{default_tcp_header};
 ghost use Rattle.ep_transport.specs.declared.icmpv4_type.Icmpv4Type.TheVariants as v4;
 ghost use Rattle.ep_transport.specs.declared.icmpv6_type.Icmpv6Type.TheVariants as v6;
@@ -190,6 +190,7 @@ impl PacketBuilderStep<IpHeaders> {
         ensures fragment { OnOk result (IpStepReadsBack self last_next_header_ip_number payload.now) }
         ensures full { result ≡ Err BuildWriteError.OutOfMemory → vec_capacity buf.old
             < vec_len buf.old + built_size (ip_held self last_next_header_ip_number) (length payload.now) }
+        ensures capacity { vec_capacity buf.old ≤ vec_capacity buf.new }
     {
         write_ip(
             &self.before,

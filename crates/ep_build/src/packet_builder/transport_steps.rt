@@ -1,6 +1,6 @@
 //! The steps of transport headers: the payload behind them ends the frame.
 
-ghost use Rattle.std.specs.Prelude.{◌≡◌, ◌+◌, ◌<◌, ◌^◌, ◌++◌, ℕ, List, length, Err, IfErr, OnOk, OnErr, vec_len, vec_capacity};
+ghost use Rattle.std.specs.Prelude.{◌≡◌, ◌+◌, ◌<◌, ◌≤◌, ◌^◌, ◌++◌, ℕ, List, length, Err, IfErr, OnOk, OnErr, vec_len, vec_capacity};
 ghost use Rattle.ep_build.specs.BuildErrors.{IsBuildable, IsBuildError};
 ghost use Rattle.ep_build.specs.BuiltFrames.{built_frame, built_size};
 ghost use Rattle.ep_build.specs.Steps.{StepReadsBack, transport_held};
@@ -31,6 +31,7 @@ impl<Transport: HoldsHeaders<Before = (LinkPart, IpHeaders)> + IsTransport> Pack
         ensures read_back { OnOk result (StepReadsBack Transport.kind self payload.now) }
         ensures full { result ≡ Err BuildWriteError.OutOfMemory → vec_capacity buf.old
             < vec_len buf.old + built_size (transport_held Transport.kind self) (length payload.now) }
+        ensures capacity { vec_capacity buf.old ≤ vec_capacity buf.new }
     {
         let mut transport = self.last.into_transport();
         let (link, headers) = &mut self.before;
