@@ -175,20 +175,20 @@ fn hand_out(
     }
 }
 
-/// 2,100 streams at once, of which a drop takes the oldest 100. Each is asked for once. Then each of the others is
+/// 100,000 streams at once, of which a drop takes the oldest 100. Each is asked for once. Then each of the others is
 /// completed.
 #[test]
 fn many_streams(rt: HostRuntime) {
     let (first, last) = (half(&rt, VLAN_1_FIRST), half(&rt, VLAN_1_LAST));
     let mut pool = IpDefragPool::new(rt.alloc());
-    hand_out(&rt, &mut pool, &first, 0..2100, b"");
+    hand_out(&rt, &mut pool, &first, 0..100_000, b"");
     let asked = Cell::new(0u32);
     pool.retain(|timestamp| {
         asked.set(asked.get().wrapping_add(1));
         *timestamp >= 100
     });
-    same(&rt, &asked.get(), &2100);
-    hand_out(&rt, &mut pool, &last, 100..2100, WHOLE);
+    same(&rt, &asked.get(), &100_000);
+    hand_out(&rt, &mut pool, &last, 100..100_000, WHOLE);
     hand_out(&rt, &mut pool, &last, 0..100, b"");
 }
 
@@ -308,5 +308,15 @@ fn used_again(rt: HostRuntime) {
     completes(&rt, &mut pool, (0, true), &long[..56], b"");
     completes_and_returns(&rt, &mut pool, 7, &long[56..], long);
     completes(&rt, &mut pool, (1, false), b"89ABCDEF", b"");
-    completes(&rt, &mut pool, (0, true), b"01234567", b"0123456789ABCDEF");
+    let fragment = Fragment {
+        offset: offset(&rt, 0),
+        more_fragments: true,
+        payload: b"01234567",
+    };
+    let answer = pool.process_fragment(name(), &fragment, 1);
+    let handed_out = answer.expect(&rt, "refused").expect(&rt, "whole");
+    let bytes = handed_out.payload.as_slice();
+    same(&rt, &bytes, &b"0123456789ABCDEF".as_slice());
+    // The room is that of the long one.
+    same(&rt, &(handed_out.payload.capacity() >= 64), &true);
 }
