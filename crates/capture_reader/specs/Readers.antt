@@ -46,6 +46,10 @@ reader_rest reader = drop reader.end reader.buffer.items
 abbrev pub reader_left : CaptureReader → ℕ
 reader_left reader = length reader.buffer.items - reader.end
 
+-- how many of the bytes that were taken it keeps, read or not
+abbrev pub reader_held : CaptureReader → ℕ
+reader_held reader = length reader.buffer.items
+
 -- how many bytes were read
 abbrev pub reader_offset : CaptureReader → ℕ
 reader_offset reader = reader.offset

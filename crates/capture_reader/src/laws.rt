@@ -1,12 +1,22 @@
 //! What holds of every list of bytes, each law the contract of a function that does nothing.
 
-ghost use Rattle.std.specs.Prelude.{ℕ, List};
+ghost use Rattle.std.specs.Prelude.{◌≡◌, ◌↔◌, ℕ, None, List, IsTrue};
 ghost use Rattle.ep_base.specs.Bytes.{AreBytes};
 ghost use Rattle.ep_base.specs.Tables.{IsDecided};
 ghost use Rattle.capture_reader.specs.Blocks.{IsBlock, RefusesBlock, Section};
 ghost use Rattle.capture_reader.specs.Captures.{IsCapture, RefusesCapture};
 ghost use Rattle.capture_reader.specs.Classic.{IsHeading, IsRecord, RefusesHeading, RefusesRecord};
 ghost use Rattle.capture_reader.specs.declared.byte_order.ByteOrder.{ByteOrder};
+ghost use Rattle.capture_reader.specs.declared.packet.TheConstants as packet;
+
+use crate::block::{Block, BlockKind};
+use crate::byte_order::ByteOrder;
+use crate::heading::{Heading, Resolution};
+use crate::interface::Interface;
+use crate::packet::Record;
+use crate::reader::Advance;
+use crate::refusal::{CaptureError, Refusal};
+use crate::shown::{Known, Time};
 
 /// Bytes begin with a heading in one way, or are refused with one error, and never both.
 pub fn heading()
@@ -28,4 +38,26 @@ pub fn block()
 /// Bytes are a capture in one way, or are refused with one error behind the items in front of it, and never both.
 pub fn capture()
     ensures { (bytes : List ℕ) → AreBytes bytes → IsDecided (IsCapture bytes) (RefusesCapture bytes) }
+{}
+
+/// How many bytes stand in front of packets, and the most that are kept of one; and what is known of none.
+pub fn constants()
+    ensures lengths { (Heading.LEN ≡ 24) × (Record.LEN ≡ 16) × (Block.FRONT_LEN ≡ 8) }
+    ensures most_kept { packet.MOST_KEPT ≡ 262144 }
+    ensures no_record { Record.NONE ≡ record { seconds = 0; fraction = 0; original_len = 0; kept = 0 } }
+    ensures known { Known.NONE ≡ record { link_type = 0; time = None; original_len = 0 } }
+{}
+
+/// Values are equal where they are the same.
+pub fn comparisons()
+    ensures orders { (a b : ByteOrder) → IsTrue (⟦<ByteOrder as PartialEq>⟧.eq a b) ↔ (a ≡ b) }
+    ensures kinds { (a b : BlockKind) → IsTrue (⟦<BlockKind as PartialEq>⟧.eq a b) ↔ (a ≡ b) }
+    ensures resolutions { (a b : Resolution) → IsTrue (⟦<Resolution as PartialEq>⟧.eq a b) ↔ (a ≡ b) }
+    ensures headings { (a b : Heading) → IsTrue (⟦<Heading as PartialEq>⟧.eq a b) ↔ (a ≡ b) }
+    ensures interfaces { (a b : Interface) → IsTrue (⟦<Interface as PartialEq>⟧.eq a b) ↔ (a ≡ b) }
+    ensures times { (a b : Time) → IsTrue (⟦<Time as PartialEq>⟧.eq a b) ↔ (a ≡ b) }
+    ensures known { (a b : Known) → IsTrue (⟦<Known as PartialEq>⟧.eq a b) ↔ (a ≡ b) }
+    ensures refusals { (a b : Refusal) → IsTrue (⟦<Refusal as PartialEq>⟧.eq a b) ↔ (a ≡ b) }
+    ensures errors { (a b : CaptureError) → IsTrue (⟦<CaptureError as PartialEq>⟧.eq a b) ↔ (a ≡ b) }
+    ensures advances { (a b : Advance) → IsTrue (⟦<Advance as PartialEq>⟧.eq a b) ↔ (a ≡ b) }
 {}

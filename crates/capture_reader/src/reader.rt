@@ -73,7 +73,7 @@ impl CaptureReader {
     ghost use Rattle.capture_reader.specs.Captures.{Item};
     ghost use Rattle.capture_reader.specs.Classic.{packet_of};
     ghost use Rattle.capture_reader.specs.Readers.{AdvancesTo, Answers, Passes, Reads, ReadsBlocks, Waits};
-    ghost use Rattle.capture_reader.specs.Readers.{heading_in, most_held, reader_left, reader_offset, reader_packet};
+    ghost use Rattle.capture_reader.specs.Readers.{heading_in, most_held, reader_held, reader_left, reader_offset, reader_packet};
     ghost use Rattle.capture_reader.specs.Readers.{reader_rest, reader_shown, reader_stage, refused_at, shown_of};
 
     /// A reader that took nothing yet.
@@ -111,6 +111,7 @@ impl CaptureReader {
         ensures err { OnErr result ((taken : List ℕ) (items : List Item) → Reads self.old taken items →
             Reads self.new taken items) }
         ensures left { OnOk result (reader_left self.new ≡ reader_left self.old + length piece.now) }
+        ensures held { OnOk result (reader_held self.new ≡ reader_left self.new) }
         ensures offset { reader_offset self.new ≡ reader_offset self.old }
     {
         self.spare.clear();
