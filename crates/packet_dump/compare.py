@@ -253,26 +253,28 @@ def compare_tcpdump(tally, path, a, text):
     """Whether the addresses, ports, lengths and fragments stand in what tcpdump writes."""
     if "refused" in a:
         return
-    at, seen, wanted = a["frame.number"], " ".join(text.split()), []
+    at, seen = a["frame.number"], " ".join(text.split())
     for field in ("ip", "ipv6"):
         if field + ".src" not in a:
             continue
-        ends = {f"{a[field + '.src']} > {a[field + '.dst']}:"}
+        apart = f"{a[field + '.src']} > {a[field + '.dst']}:"
+        ends = apart
         for kind in ("udp", "tcp"):
             if kind + ".srcport" in a:
-                ends = {f"{a[field + '.src']}.{a[kind + '.srcport']} > {a[field + '.dst']}.{a[kind + '.dstport']}:"}
+                ports = (a[kind + ".srcport"], a[kind + ".dstport"])
+                ends = f"{a[field + '.src']}.{ports[0]} > {a[field + '.dst']}.{ports[1]}:"
         found = re.search(r"(?:^|\s)([0-9a-fA-F:.]+) > ([0-9a-fA-F:.]+):(?:\s|$)", seen)
         if not found:
             tally.reasons["packet_dump alone: addresses, of which tcpdump writes none"] += 1
             continue
         told = f"{found[1]} > {found[2]}:"
-        # Behind a routing header it tells ports, but not with the addresses.
-        if re.search(r"srcrt|RT6", seen):
-            ends.add(re.sub(r"\.\d+ > (.*)\.\d+:$", r" > \1:", next(iter(ends))))
-        if "ip.id" in a or "ipv6.fraghdr.ident" in a or not ("udp.srcport" in a or "tcp.srcport" in a):
+        if ends == apart and told != apart:
             # It tells the ports of a first fragment, and those of other transports.
-            told = told if told in ends else re.sub(r"\.\d+ > (.*)\.\d+:$", r" > \1:", told)
-        tally.compared(path, at, "ends", ends, told, told in ends, "tcpdump")
+            told = re.sub(r"\.\d+ > (.*)\.\d+:$", r" > \1:", told)
+        elif told == apart and ends != apart and f" {ports[0]} > {ports[1]}:" in seen:
+            # Behind extension headers it tells ports apart from addresses.
+            told = ends
+        tally.compared(path, at, "ends", ends, told, told == ends, "tcpdump")
     for name, form in (("udp.length", r"UDP, (?:bad )?length (\d+)"), ("tcp.len", r": tcp (\d+)")):
         if name in a and (found := re.search(form, seen)):
             value = a[name] - 8 if name == "udp.length" else a[name]
