@@ -254,7 +254,7 @@ holds_with section SectionHeader bytes len fits is body_fits size split passed =
       body_is = read.1;
     }
 holds_with section InterfaceDescription bytes len fits is body_fits size split passed =
-    let read = interface_reads section.order section.interfaces len (slice_range bytes 8 (len - 4)) body_fits
+    let read = interface_reads section len (slice_range bytes 8 (len - 4)) body_fits
     (omega (arith, size, passed.least)) passed.body in
     record {
       fits = read.0;
@@ -381,7 +381,7 @@ held section (header plain) len body fits is =
     let read = header_is_read plain.order len section.interfaces plain body fits is in
     record { none = read.0; is = ap (λ p. header p) read.1; least = omega (arith, read.2) }
 held section (interface plain) len body fits is =
-    let read = interface_is_read section.order section.interfaces len plain body fits is in
+    let read = interface_is_read section len plain body fits is in
     record { none = read.0; is = ap (λ p. interface p) read.1; least = omega (arith, read.2) }
 held section (enhanced plain) len body fits is =
     let read = enhanced_is_read section len plain body fits is in

@@ -40,6 +40,7 @@ not_final refusal.OptionBeyondBlock required len final same = cc
 not_final (refusal.OptionLength code other) required len final same = cc
 not_final (refusal.UnsupportedResolution resolution) required len final same = cc
 not_final (refusal.UndescribedInterface interface) required len final same = cc
+not_final refusal.TooManyInterfaces required len final same = cc
 
 -- what refuses for good is not that bytes are too few
 not_few : (few : Bool) (required len : ℕ) (rows : List (Bool × Refusal)) (e : Refusal) → IsFinal e
@@ -141,7 +142,7 @@ cut_behind ((false, error) ∷ front) short len n required there last all all_la
 body_final : (interfaces : List Interface) (order : ByteOrder) (kind : BlockKind) (len : ℕ) (body : List ℕ)
     → AllErrors IsFinal (body_rows interfaces order kind len body)
 body_final interfaces order SectionHeader len body = (tt, tt)
-body_final interfaces order InterfaceDescription len body = (tt, (tt, (tt, (tt, tt))))
+body_final interfaces order InterfaceDescription len body = (tt, (tt, (tt, (tt, (tt, tt)))))
 body_final interfaces order SimplePacket len body = (tt, (tt, (tt, tt)))
 body_final interfaces order EnhancedPacket len body = (tt, (tt, (tt, tt)))
 body_final interfaces order Other len body = tt

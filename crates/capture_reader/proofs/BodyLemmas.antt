@@ -1,8 +1,11 @@
 -- What blocks hold is read in one way.
-use Rattle.std.proofs.Common.{◌≡◌, ℕ, ◌+◌, ◌-◌, ◌^◌, ◌<◌, ◌≤◌, ◌==◌, Bool, true, false, not, nat_lt, if◌then◌else◌}
+use Rattle.std.proofs.Common.{◌≡◌, ℕ, ◌+◌, ◌-◌, ◌^◌, ◌<◌, ◌≤◌, ◌==◌, ◌||◌, Bool, true, false, not, nat_lt, if◌then◌else◌}
 use Rattle.std.proofs.Common.{List, [], ◌∷◌, ◌++◌, Option, Some, None, length, drop, slice_range}
 use Rattle.std.proofs.Common.{get_or, refl, sym, ap, ◌∙◌, append_assoc, length-append, length-drop, arith}
 use Rattle.std.proofs.lemmas.Bool.{eq-eqb, eqb-true, le-ltb, lt-ltb, ltb-false, ltb-true, not-false, not_from_true}
+use Rattle.std.proofs.lemmas.Bool.{or_from, or_parts}
+use Rattle.std.proofs.lemmas.Bool.Decides.{nat_tests}
+use Rattle.std.proofs.lemmas.Grind.{common_steps}
 use Rattle.std.proofs.lemmas.Option.{none-some}
 use Rattle.ep_base.specs.Bytes.{AreBytes}
 use Rattle.ep_base.specs.Tables.{first_row}
@@ -15,7 +18,8 @@ use Rattle.capture_reader.specs.Blocks.{FitsEnhanced, FitsHeader, FitsInterface,
 use Rattle.capture_reader.specs.Blocks.{PlainEnhanced, PlainHeader, PlainInterface, PlainSimple}
 use Rattle.capture_reader.specs.Blocks.{header, interface, enhanced, simple, Section, block_body}
 use Rattle.capture_reader.specs.Blocks.{body_rows, enhanced_of, header_of, interface_read, kept_rows}
-use Rattle.capture_reader.specs.Blocks.{options_rows, said_rows, simple_kept, simple_of}
+use Rattle.capture_reader.specs.Blocks.{knows_minor, most_interfaces, options_rows, said_rows, simple_kept, simple_of}
+use Rattle.capture_reader.specs.Blocks.{version_rows}
 use Rattle.capture_reader.specs.declared.block.BlockKind.TheVariants.{SectionHeader, InterfaceDescription, SimplePacket}
 use Rattle.capture_reader.specs.declared.block.BlockKind.TheVariants.{EnhancedPacket}
 use Rattle.capture_reader.specs.declared.byte_order.ByteOrder.{ByteOrder}
@@ -108,19 +112,36 @@ header_parts : (order : ByteOrder) (plain : PlainHeader)
     ≡ word32 plain.order 0x1a2b3c4d ++ (word16 plain.order 1 ++ (word16 plain.order plain.minor ++ plain.behind))
 header_parts order plain = simp append_assoc
 
+-- a version that is known
+version_facts : (major minor : ℕ) → first_row (version_rows major minor) ≡ None
+    → (major ≡ 1) × (knows_minor minor ≡ true)
+version_facts major minor none =
+    let row = row_none (not (major == 1) || not (knows_minor minor)) (refusal.UnsupportedVersion major minor) _ none in
+    let parts = or_parts (not (major == 1)) (not (knows_minor minor)) row.0 in
+    (eqb-true major 1 (not-false (major == 1) parts.0), not-false (knows_minor minor) parts.1)
+
+version_none : (major minor : ℕ) → major ≡ 1 → knows_minor minor ≡ true → first_row (version_rows major minor) ≡ None
+version_none major minor is known =
+    row_pass (not (major == 1) || not (knows_minor minor)) (refusal.UnsupportedVersion major minor) _
+    (or_from (not (major == 1)) (not (knows_minor minor)) (not_from_true (major == 1) (eq-eqb major 1 is))
+    (not_from_true (knows_minor minor) known))
+
+-- its minor number fits two bytes
+minor_fits : (minor : ℕ) → knows_minor minor ≡ true → minor < 2 ^ 16
+minor_fits minor known = grind (arith, common_steps, nat_tests)
+
 pub header_reads : (before order : ByteOrder) (len : ℕ) (body : List ℕ) → AreBytes body → 16 ≤ length body
     → word32 Big (word32_at Big body 0) ≡ word32 order 0x1a2b3c4d
     → first_row (body_rows [] order SectionHeader len body) ≡ None
     → FitsHeader (header_of order body) × (body ≡ block_body before (header (header_of order body)))
 header_reads before order len body fits long magic none =
     let plain = header_of order body in
-    let row = row_none (not (word16_at order body 4 == 1))
-    (refusal.UnsupportedVersion (word16_at order body 4) (word16_at order body 6)) _ none in
-    let major : word16_at order body 4 ≡ 1 = eqb-true (word16_at order body 4) 1 (not-false (word16_at order body 4 == 1) row.0) in
+    let version = version_facts (word16_at order body 4) (word16_at order body 6) none in
+    let major = version.0 in
     let second : drop 4 body ≡ word16 order 1 ++ drop 6 body =
     word16_front order body 4 fits (omega arith) ∙ ap (λ (n : ℕ). word16 order n ++ drop 6 body) major in
     let third : drop 6 body ≡ word16 order plain.minor ++ drop 8 body = word16_front order body 6 fits (omega arith) in (
-      record { minor = word16_at-fits order body 6 fits; behind = omega (arith, length-drop 8 body) },
+      record { minor = version.1; behind = omega (arith, length-drop 8 body) },
       word32_front Big body 0 fits (omega arith)
           ∙ ap (λ (s : List ℕ). s ++ drop 4 body) magic
           ∙ ap (λ (s : List ℕ). word32 order 0x1a2b3c4d ++ s)
@@ -137,10 +158,8 @@ header_is_read before len interfaces plain body fits is =
     let parts = is ∙ header_parts before plain in
     let magic = word32_read order 0x1a2b3c4d 0 body _ (omega arith) parts in
     let major = word16_read order 1 4 body _ (omega arith) magic.1 in
-    let minor = word16_read order plain.minor 6 body plain.behind fits.minor major.1 in (
-      row_pass (not (word16_at order body 4 == 1))
-          (refusal.UnsupportedVersion (word16_at order body 4) (word16_at order body 6)) _
-          (not_from_true (word16_at order body 4 == 1) (eq-eqb (word16_at order body 4) 1 major.0)),
+    let minor = word16_read order plain.minor 6 body plain.behind (minor_fits plain.minor fits.minor) major.1 in (
+      version_none (word16_at order body 4) (word16_at order body 6) major.0 (ap knows_minor minor.0 ∙ fits.minor),
       λ i. record { order = order; minor = minor.0 i; behind = minor.1 i },
       omega (arith, ap length minor.1, length-drop 8 body, fits.behind),
     )
@@ -153,21 +172,25 @@ interface_parts : (order : ByteOrder) (plain : PlainInterface)
     ++ (options_bytes order plain.options ++ plain.ending)))
 interface_parts order plain = simp append_assoc
 
-pub interface_reads : (order : ByteOrder) (interfaces : List Interface) (len : ℕ) (body : List ℕ) → AreBytes body
-    → 8 ≤ length body → first_row (body_rows interfaces order InterfaceDescription len body) ≡ None
-    → FitsInterface order (interface_read order body)
-    × (body ≡ block_body order (interface (interface_read order body)))
-interface_reads order interfaces len body fits long none =
+pub interface_reads : (section : Section) (len : ℕ) (body : List ℕ) → AreBytes body → 8 ≤ length body
+    → first_row (body_rows section.interfaces section.order InterfaceDescription len body) ≡ None
+    → FitsInterface section (interface_read section.order body)
+    × (body ≡ block_body section.order (interface (interface_read section.order body)))
+interface_reads section len body fits long none =
+    let order = section.order in
     let plain = interface_read order body in
     let options = parsed order (drop 8 body) (AreBytes-drop 8 body fits) in
     let said = value_of 9 plain.options in
-    let ends = row_none (not (ends_options order plain.ending)) _ _ none in
+    let few = nat_lt (length section.interfaces) most_interfaces in
+    let room = row_none (not few) _ _ none in
+    let ends = row_none (not (ends_options order plain.ending)) _ _ room.1 in
     let first_len = row_none (not (has_len 1 said)) _ _ ends.1 in
     let second_len = row_none (not (has_len 8 (value_of 14 plain.options))) _ _ first_len.1 in
     let known = row_none (not (knows_resolution (resolution_said said))) _ _ second_len.1 in
     let second : drop 2 body ≡ word16 order plain.reserved ++ drop 4 body = word16_front order body 2 fits (omega arith) in
     let third : drop 4 body ≡ word32 order plain.snap_len ++ drop 8 body = word32_front order body 4 fits (omega arith) in (
       record {
+        room = ltb-true (length section.interfaces) most_interfaces (not-false few room.0);
         link_type = word16_at-fits order body 0 fits;
         reserved = word16_at-fits order body 2 fits;
         snap_len = word32_at-fits order body 4 fits;
@@ -184,11 +207,12 @@ interface_reads order interfaces len body fits long none =
           ∙ sym (interface_parts order plain),
     )
 
-pub interface_is_read : (order : ByteOrder) (interfaces : List Interface) (len : ℕ) (plain : PlainInterface)
-    (body : List ℕ) → FitsInterface order plain → body ≡ block_body order (interface plain)
-    → (first_row (body_rows interfaces order InterfaceDescription len body) ≡ None)
-    × (interface_read order body ≡ plain) × (8 ≤ length body)
-interface_is_read order interfaces len plain body fits is =
+pub interface_is_read : (section : Section) (len : ℕ) (plain : PlainInterface) (body : List ℕ)
+    → FitsInterface section plain → body ≡ block_body section.order (interface plain)
+    → (first_row (body_rows section.interfaces section.order InterfaceDescription len body) ≡ None)
+    × (interface_read section.order body ≡ plain) × (8 ≤ length body)
+interface_is_read section len plain body fits is =
+    let order = section.order in
     let parts = is ∙ interface_parts order plain in
     let link = word16_read order plain.link_type 0 body _ fits.link_type parts in
     let reserved = word16_read order plain.reserved 2 body _ fits.reserved link.1 in
@@ -215,7 +239,11 @@ interface_is_read order interfaces len plain body fits is =
     ap length parts ∙ length-append (word16 order plain.link_type) _
     ∙ ap (λ (n : ℕ). length (word16 order plain.link_type) + n) (length-append (word16 order plain.reserved) _
     ∙ ap (λ (n : ℕ). length (word16 order plain.reserved) + n) (length-append (word32 order plain.snap_len) _)) in (
-      ap first_row same_rows ∙ none,
+      row_pass (not (nat_lt (length section.interfaces) most_interfaces)) _ _
+          (not_from_true (nat_lt (length section.interfaces) most_interfaces)
+          (lt-ltb (length section.interfaces) most_interfaces fits.room))
+          ∙ ap first_row same_rows
+          ∙ none,
       λ i. record {
         link_type = link.0 i;
         reserved = reserved.0 i;

@@ -346,6 +346,8 @@ refused_answers reader next (refusal.UnsupportedResolution resolution) same goes
     final_answers reader next (refusal.UnsupportedResolution resolution) tt same goes_on refused
 refused_answers reader next (refusal.UndescribedInterface interface) same goes_on refused =
     final_answers reader next (refusal.UndescribedInterface interface) tt same goes_on refused
+refused_answers reader next refusal.TooManyInterfaces same goes_on refused =
+    final_answers reader next refusal.TooManyInterfaces tt same goes_on refused
 
 -- bytes in front of which a capture with a heading may not end
 pub some_left : (stage : Stage) (bytes : List ℕ) → 0 < length bytes → may_end stage bytes ≡ false

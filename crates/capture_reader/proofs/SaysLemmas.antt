@@ -1,23 +1,27 @@
 -- What blocks say, as it was read.
-use Rattle.std.proofs.Common.{◌≡◌, ℕ, ◌≤◌, List, [], ◌∷◌, ◌++◌}
+use Rattle.std.proofs.Common.{◌≡◌, ℕ, ◌<◌, ◌≤◌, not, nat_lt, List, [], ◌∷◌, ◌++◌}
 use Rattle.std.proofs.Common.{None, length, drop, refl, sym, ap, ◌∙◌, arith}
+use Rattle.std.proofs.lemmas.Bool.{lt-ltb, not_from_true}
 use Rattle.ep_base.specs.Tables.{first_row}
-use Rattle.capture_reader.specs.Blocks.{interface_of, interface_read, options_rows}
+use Rattle.capture_reader.specs.Blocks.{interface_of, interface_read, most_interfaces, options_rows}
 use Rattle.capture_reader.specs.Contents.{Says, section_of}
 use Rattle.capture_reader.specs.declared.block.BlockKind.TheVariants.{InterfaceDescription}
 use Rattle.capture_reader.specs.declared.block.BlockKind.TheVariants.{Other}
 use Rattle.capture_reader.specs.declared.block.Content.TheVariants as content
 use Rattle.capture_reader.specs.declared.byte_order.ByteOrder.{ByteOrder}
 use Rattle.capture_reader.specs.declared.interface.Interface.{Interface}
+use Rattle.capture_reader.proofs.BodyLemmas.{row_pass}
 
 pub says_interface : (interfaces : List Interface) (order : ByteOrder) (len : ℕ) (body : List ℕ) (about : Interface)
-    → 8 ≤ length body → first_row (options_rows order (drop 8 body)) ≡ None
+    → 8 ≤ length body → length interfaces < most_interfaces → first_row (options_rows order (drop 8 body)) ≡ None
     → about ≡ interface_of order (interface_read order body)
     → Says interfaces order InterfaceDescription len body (content.Interface about)
-says_interface interfaces order len body about long none is =
+says_interface interfaces order len body about long room none is =
     let plain = interface_read order body in
     record {
-      none = none;
+      none = row_pass (not (nat_lt (length interfaces) most_interfaces)) _ _ (not_from_true
+          (nat_lt (length interfaces) most_interfaces) (lt-ltb (length interfaces) most_interfaces room))
+          ∙ none;
       after = λ before number stands.
           let same : interface_of before plain ≡ about = ap (λ o. interface_of o plain) (sym stands) ∙ sym is in
           λ i. section_of (sym stands i) (interfaces ++ same i ∷ []);

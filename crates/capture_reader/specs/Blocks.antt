@@ -22,7 +22,7 @@ use Rattle.capture_reader.specs.declared.refusal.Refusal.TheVariants as refusal
 
 -- ---- what blocks hold
 
--- the header of a section (4.1): its byte order, minor version, length and options, of which nothing is read
+-- the header of a section (4.1): its byte order, minor version, and length and options, of which nothing is read
 pub record PlainHeader : Type 0 where
   pub order : ByteOrder
   pub minor : ℕ
@@ -162,6 +162,14 @@ block_bytes before block =
 abbrev pub most_block : ℕ
 most_block = 327680
 
+-- the greatest number of interfaces of a section
+abbrev pub most_interfaces : ℕ
+most_interfaces = 65536
+
+-- the minor versions of which all is known (4.1: 2 stands for 0)
+abbrev pub knows_minor : ℕ → Bool
+knows_minor minor = (minor == 0) || (minor == 2)
+
 -- how many bytes are kept where so many were to be at most: all, where that is 0
 abbrev pub kept_of : (most original : ℕ) → ℕ
 kept_of most original = if not (most == 0) && nat_lt most original then most else original
@@ -171,15 +179,16 @@ abbrev pub simple_kept : List Interface → ℕ → ℕ
 simple_kept interfaces original = kept_of (interface_at interfaces 0).snap_len original
 
 pub record FitsHeader (plain : PlainHeader) : Type 0 where
-  pub minor : plain.minor < 2 ^ 16
+  pub minor : knows_minor plain.minor ≡ true
   pub behind : 8 ≤ length plain.behind
 
-pub record FitsInterface (order : ByteOrder) (plain : PlainInterface) : Type 0 where
+pub record FitsInterface (section : Section) (plain : PlainInterface) : Type 0 where
+  pub room : length section.interfaces < most_interfaces
   pub link_type : plain.link_type < 2 ^ 16
   pub reserved : plain.reserved < 2 ^ 16
   pub snap_len : plain.snap_len < 2 ^ 32
   pub options : AreOptions plain.options
-  pub ending : ends_options order plain.ending ≡ true
+  pub ending : ends_options section.order plain.ending ≡ true
   pub resolution_len : has_len 1 (value_of 9 plain.options) ≡ true
   pub resolution : knows_resolution (resolution_said (value_of 9 plain.options)) ≡ true
   pub offset_len : has_len 8 (value_of 14 plain.options) ≡ true
@@ -206,7 +215,7 @@ pub record FitsOther (plain : PlainOther) : Type 0 where
 
 abbrev pub FitsContent : Section → PlainBlock → Type 0
 FitsContent section (header plain) = FitsHeader plain
-FitsContent section (interface plain) = FitsInterface section.order plain
+FitsContent section (interface plain) = FitsInterface section plain
 FitsContent section (enhanced plain) = FitsEnhanced section plain
 FitsContent section (simple plain) = FitsSimple section plain
 FitsContent section (other plain) = FitsOther plain
@@ -290,12 +299,16 @@ options_rows order bytes =
     let options = options_of order bytes in
     said_rows (ends_options order (options_end order bytes)) (value_of 9 options) (value_of 14 options)
 
+-- the rows of a section's version
+abbrev pub version_rows : (major minor : ℕ) → List (Bool × Refusal)
+version_rows major minor =
+    (not (major == 1) || not (knows_minor minor), refusal.UnsupportedVersion major minor) ∷ []
+
 -- the rows of what a block of a kind and a length holds
 abbrev pub body_rows : List Interface → ByteOrder → BlockKind → ℕ → List ℕ → List (Bool × Refusal)
-body_rows interfaces order SectionHeader len body =
-    (not (word16_at order body 4 == 1), refusal.UnsupportedVersion (word16_at order body 4) (word16_at order body 6))
-    ∷ []
-body_rows interfaces order InterfaceDescription len body = options_rows order (drop 8 body)
+body_rows interfaces order SectionHeader len body = version_rows (word16_at order body 4) (word16_at order body 6)
+body_rows interfaces order InterfaceDescription len body =
+    (not (nat_lt (length interfaces) most_interfaces), refusal.TooManyInterfaces) ∷ options_rows order (drop 8 body)
 body_rows interfaces order EnhancedPacket len body = (
   not (nat_lt (word32_at order body 0) (length interfaces)),
   refusal.UndescribedInterface (word32_at order body 0),

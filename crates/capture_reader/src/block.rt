@@ -3,7 +3,7 @@
 ghost use Rattle.std.specs.Prelude.{◌≡◌, ◌≤◌, ◌+◌, ◌-◌, List, None, IfErr, IfOk, drop, length, slice_range};
 ghost use Rattle.ep_base.specs.Tables.{Refuses, first_row};
 ghost use Rattle.capture_reader.specs.Blocks.{IsBlock, RefusesBlock, block_in, block_of, body_rows, kept_of, kept_rows};
-ghost use Rattle.capture_reader.specs.Blocks.{kind_of, known_order, least_len, order_said, section_after};
+ghost use Rattle.capture_reader.specs.Blocks.{kind_of, known_order, knows_minor, least_len, order_said, section_after};
 ghost use Rattle.capture_reader.specs.Captures.{block_shown};
 ghost use Rattle.capture_reader.specs.Contents.{FitsLen, IsFramed, Says, content_interfaces, content_shown, section_of};
 
@@ -18,6 +18,9 @@ pub(crate) const SECTION: u32 = 0x0a0d_0d0a;
 
 /// The greatest number of bytes of a block, 320 KiB.
 const MOST_BLOCK: u32 = 327_680;
+
+/// The greatest number of interfaces of a section.
+const MOST_INTERFACES: usize = 65_536;
 
 /// What a block is.
 #[derive(Clone, Copy, Debug, PartialEq, Eq)]
@@ -181,7 +184,7 @@ impl Frame {
     {
         let major = self.order.word16(body, 4);
         let minor = self.order.word16(body, 6);
-        if major != 1 {
+        if major != 1 || !knows_minor(minor) {
             return Err(Refusal::UnsupportedVersion { major, minor });
         }
         Ok(Content::Section)
@@ -195,6 +198,9 @@ impl Frame {
         ensures err { IfErr result (Refuses (body_rows interfaces.now self.now.order BlockKind.InterfaceDescription
             self.now.len body.now)) }
     {
+        if interfaces.len() >= MOST_INTERFACES {
+            return Err(Refusal::TooManyInterfaces);
+        }
         match Interface::from_body(self.order, body) {
             Ok(about) => Ok(Content::Interface(about)),
             Err(refusal) => Err(refusal),
@@ -278,6 +284,13 @@ fn simple_kept(most: u32, original_len: u32) -> u32
     } else {
         original_len
     }
+}
+
+/// Whether all is known of a minor version: of 0, for which 2 stands too.
+fn knows_minor(minor: u16) -> bool
+    ensures { result ≡ knows_minor minor }
+{
+    minor == 0 || minor == 2
 }
 
 /// What a number in front of a block stands for.

@@ -29,7 +29,7 @@ pub enum State {
 /// What a step of a reader came upon.
 #[derive(Clone, Copy, Debug, PartialEq, Eq)]
 pub enum Advance {
-    /// A packet, which the reader shows until its next step.
+    /// A packet, which the reader shows until it takes more or its next step.
     Packet,
     /// Something that is no packet.
     Other,
@@ -39,7 +39,8 @@ pub enum Advance {
     Cut(CaptureError),
 }
 
-/// Reads a capture that comes in pieces. It keeps what it took of the packet that is not there whole, and no more.
+/// Reads a capture that comes in pieces. It keeps the last piece, what it took before of the packet that was not there
+/// whole, and what is known of the section's interfaces.
 #[derive(Drop)]
 pub struct CaptureReader {
     state: State,

@@ -11,7 +11,7 @@ pub enum Refusal {
     /// The first four bytes begin no capture.
     #[error("no capture begins with {magic:08x}")]
     UnknownMagic { magic: u32 },
-    /// The version of the format is not 2.4, or of a section not 1.
+    /// The version of the format is not 2.4, or of a section neither 1.0 nor 1.2.
     #[error("version {major}.{minor} of the format is not known")]
     UnsupportedVersion { major: u16, minor: u16 },
     /// The packets begin with no header that is read.
@@ -41,6 +41,9 @@ pub enum Refusal {
     /// An interface's units of time are finer than 10^-19 or 2^-63 of a second.
     #[error("a time resolution {resolution} is not read")]
     UnsupportedResolution { resolution: u8 },
+    /// A section describes more than 65,536 interfaces.
+    #[error("more than 65536 interfaces in a section")]
+    TooManyInterfaces,
     /// A packet is of an interface that its section did not describe before.
     #[error("interface {interface} was not described")]
     UndescribedInterface { interface: u32 },

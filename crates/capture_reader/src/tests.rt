@@ -16,6 +16,9 @@ const BIG: &[u8] = b"\xa1\xb2\x3c\x4d\0\x02\0\x04\0\0\0\0\0\0\0\0\0\x04\0\0\x04\
 const LONG: &[u8] = b"\xd4\xc3\xb2\xa1\x02\x00\x04\x00\0\0\0\0\0\0\0\0\xff\xff\0\0\x65\0\0\0\
     \x10\0\0\0\x20\0\0\0\x01\0\x04\0\x01\0\x04\0";
 
+/// What is read of one whose packet has as many bytes as may be.
+const LONGEST: &str = "other; 16.32 16000032/1000000+0 link 1 ee 262144 of 262144; ";
+
 /// A section with the lowest byte first, an Ethernet interface, and an enhanced packet of 7 bytes, of which 3 were
 /// kept.
 const LITTLE_BLOCKS: &[u8] = b"\x0a\x0d\x0d\x0a\x1c\0\0\0\x4d\x3c\x2b\x1a\x01\0\0\0\xff\xff\xff\xff\
@@ -150,6 +153,21 @@ fn captures(rt: HostRuntime) -> Result<(), AllocError> {
     Ok(())
 }
 
+/// The longest packet, in one piece and in some: memory is there for all of them.
+#[test]
+fn longest_packet(rt: HostRuntime) -> Result<(), AllocError> {
+    let alloc = rt.alloc();
+    let mut bytes = Vec::new(alloc);
+    bytes.extend_from_slice(&LITTLE[..32])?;
+    bytes.extend_from_slice(b"\0\0\x04\0\0\0\x04\0")?;
+    bytes.resize(40 + 262_144, 0xee)?;
+    let text = text_of(alloc, bytes.as_slice(), 300_000)?;
+    assert_eq!(&rt; text.as_str(), LONGEST);
+    let text = text_of(alloc, bytes.as_slice(), 50_000)?;
+    assert_eq!(&rt; text.as_str(), LONGEST);
+    Ok(())
+}
+
 #[test]
 fn blocks(rt: HostRuntime) -> Result<(), AllocError> {
     let rows: [(&[u8], &str); 6] = [
@@ -200,7 +218,7 @@ fn changed(
 
 #[test]
 fn refused_blocks(rt: HostRuntime) -> Result<(), AllocError> {
-    let rows: [(usize, u8, &str); 9] = [
+    let rows: [(usize, u8, &str); 10] = [
         (
             8,
             0,
@@ -209,6 +227,7 @@ fn refused_blocks(rt: HostRuntime) -> Result<(), AllocError> {
         (4, 24, "at byte 0: no such block has 24 bytes"),
         (7, 1, "at byte 0: a block of 16777244 bytes is too long"),
         (12, 2, "at byte 0: version 2.0 of the format is not known"),
+        (14, 1, "at byte 0: version 1.1 of the format is not known"),
         (
             24,
             32,
