@@ -9,7 +9,7 @@ use Rattle.hex.proofs.HexLemmas.{decode_of-ok, decode_of-same}
 use Rattle.etherparse.specs.Bytes.{AreBytes}
 use Rattle.etherparse.specs.Types.Entry.{Entry}
 use Rattle.etherparse.specs.Types.Entry.TheVariants.{Ethernet, LinuxSll, EtherType, Ip}
-use Rattle.frame_bench.specs.Lines.{space, words}
+use Rattle.line_io.specs.Lines.{space, words}
 use Rattle.frame_bench.specs.Requests.{Asks, EntryAt, IsHex}
 use Rattle.frame_bench.specs.declared.requests.Request.{Request}
 use Rattle.frame_bench.specs.declared.requests.Request.TheVariants.{Slice, Fragment, Drop, Limit}

@@ -1,7 +1,5 @@
-pub mod LineLemmas
 pub mod TextLemmas
 pub mod SearchLemmas
-pub mod DecimalLemmas
 pub mod HexTextLemmas
 pub mod RequestLemmas
 pub mod PoolLemmas

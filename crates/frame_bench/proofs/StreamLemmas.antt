@@ -2,17 +2,17 @@
 use Rattle.std.proofs.Common.{◌≡◌, ◌≢◌, ℕ, ◌<◌, List, [], ◌∷◌, ◌++◌, Option, refl, sym, ap, ◌∙◌, subst}
 use Rattle.std.proofs.Common.{append_assoc, append-nil, length, arith}
 use Rattle.std.proofs.KnownBytes.{Appends-nil, Appends-trans, Consumes-kept, Consumes-nil, Consumes-trans}
-use Rattle.std.specs.Prelude.{Result, Ok, Err, OnErr}
 use Rattle.std.specs.Io.KnownBytes.{Appends, Consumes, Keeps}
 use Rattle.std.proofs.lemmas.List.Elements.{All-append, All-nil}
 use Rattle.etherparse.specs.Types.IpDefragPool.{IpDefragPool}
+use Rattle.line_io.specs.Lines.{IsWithinLine, line_feed, lines_of}
+use Rattle.line_io.specs.Transfers.{Moves}
+use Rattle.line_io.specs.WatchedWords.{AppendsFront}
+use Rattle.line_io.proofs.LineLemmas.{lines_of-ended, lines_of-within}
 use Rattle.frame_bench.specs.Answers.{AreAnswers, AnswersAfter, AnswersTo, BeginsAnswersAfter, BeginsAnswersTo}
 use Rattle.frame_bench.specs.Answers.{IsAnswer, IsAnswered}
-use Rattle.frame_bench.specs.Lines.{IsWithinLine, line_feed, lines_of}
 use Rattle.frame_bench.specs.PoolCalls.{HoldsLines}
-use Rattle.frame_bench.specs.Streams.{Advances, AdvancesTo, BeginsAnswers, Moves}
-use Rattle.frame_bench.specs.WatchedWords.{AppendsFront}
-use Rattle.frame_bench.proofs.LineLemmas.{lines_of-ended, lines_of-within}
+use Rattle.frame_bench.specs.Streams.{Advances, AdvancesTo, BeginsAnswers}
 
 -- what the lines before are called is no matter
 same_before : (before others more : List (List ℕ)) (text : List ℕ) → before ≡ others → AreAnswers before more text
@@ -161,11 +161,6 @@ Moves-then P R Q both had has left held holds then_holds (r, w, consumed, append
       Appends-trans held holds then_holds w v appended more_appended,
       both r s w v p q,
     )
-
--- what stands at the exit of a `?`
-pub at_exit : {T E P : Type 0} (r : Result T E) → P → OnErr r P
-at_exit (Ok x) p = tt
-at_exit (Err e) p = p
 
 module _ (answered : (before : List (List ℕ)) (input : List ℕ) → IsAnswered before input) where
   -- no text begins every answer

@@ -9,7 +9,7 @@ use Rattle.std.proofs.lemmas.List.Elements.{All-cons, All-head, All-nil, All-tai
 use Rattle.std.proofs.lemmas.Fmt.{IsAscii-from_digits}
 use Rattle.std.proofs.lemmas.Str.{IsUtf8-from_ascii}
 use Rattle.std.proofs.lemmas.Str.Parse.{digit_from_value}
-use Rattle.frame_bench.specs.Lines.{space}
+use Rattle.line_io.specs.Lines.{space}
 use Rattle.frame_bench.specs.Requests.{IsNumber, IsLimit}
 
 -- the byte is not in the text

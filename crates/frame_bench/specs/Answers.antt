@@ -1,6 +1,6 @@
 -- The answers to the lines of a text. A line is answered behind the lines before it.
 use Rattle.std.specs.Prelude.{◌≡◌, ℕ, ◌⊎◌, List, [], ◌∷◌, ◌++◌, codes}
-use Rattle.frame_bench.specs.Lines.{line_feed, lines_of}
+use Rattle.line_io.specs.Lines.{line_feed, lines_of}
 use Rattle.frame_bench.specs.PoolCalls.{PoolHistory, IsHistory}
 use Rattle.frame_bench.specs.Replies.{IsReply}
 use Rattle.frame_bench.specs.Requests.{Asks}

@@ -1,4 +1,3 @@
-pub mod Lines
 pub mod Requests
 pub mod SliceReplies
 pub mod PoolCalls
@@ -6,5 +5,4 @@ pub mod PoolReplies
 pub mod Replies
 pub mod Answers
 pub mod Streams
-pub mod WatchedWords
 pub mod Texts

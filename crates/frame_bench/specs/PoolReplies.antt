@@ -9,7 +9,7 @@ use Rattle.etherparse.specs.Frame.{IsFrame}
 use Rattle.etherparse.specs.Layers.{Layers}
 use Rattle.etherparse.specs.FrameRefusals.{RefusesFrame}
 use Rattle.etherparse.specs.Types.Entry.{Entry}
-use Rattle.frame_bench.specs.Lines.{words}
+use Rattle.line_io.specs.Lines.{words}
 use Rattle.frame_bench.specs.PoolCalls.{NumberCall, PoolHistory, frame_call, table_behind}
 use Rattle.frame_bench.specs.SliceReplies.{hex_text, refusal_text}
 

@@ -4,7 +4,7 @@ use Rattle.std.specs.Str.Parse.{IsNumeral, digits_value}
 use Rattle.hex.specs.Hex.{decode_of}
 use Rattle.etherparse.specs.Types.Entry.{Entry}
 use Rattle.etherparse.specs.Types.Entry.TheVariants.{Ethernet, LinuxSll, EtherType, Ip}
-use Rattle.frame_bench.specs.Lines.{space, words}
+use Rattle.line_io.specs.Lines.{space, words}
 use Rattle.frame_bench.specs.declared.requests.Request.{Request}
 use Rattle.frame_bench.specs.declared.requests.Request.TheVariants.{Slice, Fragment, Drop, Limit}
 

@@ -23,7 +23,7 @@ use Rattle.etherparse.specs.FrameBytes.{last_payload}
 use Rattle.etherparse.specs.Layers.{Layers, NetLayer, ipv4, ipv6, arp}
 use Rattle.etherparse.specs.FrameRefusals.{RefusesFrame}
 use Rattle.etherparse.specs.Types.Entry.{Entry}
-use Rattle.frame_bench.specs.Lines.{words}
+use Rattle.line_io.specs.Lines.{words}
 
 -- the word for what is not there
 abbrev pub absent : List ℕ

@@ -1,7 +1,7 @@
 -- How the program ends, and the texts of errors.
 use Rattle.std.specs.Prelude.{ℕ, List, Option, Some, None, Result, Ok, Err, codes}
-use Rattle.frame_bench.specs.declared.run_error.RunError.{RunError}
-use Rattle.frame_bench.specs.declared.run_error.RunError.TheVariants.{Read, Write, OutOfMemory}
+use Rattle.line_io.specs.declared.run_error.RunError.{RunError}
+use Rattle.line_io.specs.declared.run_error.RunError.TheVariants.{Read, Write, OutOfMemory}
 
 -- the line for standard error
 abbrev pub run_error_text : RunError → List ℕ

@@ -2,9 +2,9 @@
 
 ghost use Rattle.std.specs.Prelude.{◌≡◌};
 ghost use Rattle.std.specs.Option.{option_map};
-ghost use Rattle.frame_bench.specs.Texts.{complaint_of, status_of};
+ghost use Rattle.frame_bench.specs.Texts.{complaint_of, run_error_text, status_of};
 
-use crate::run_error::RunError;
+use line_io::RunError;
 
 /// How the program ends after a run.
 #[derive(Drop)]
@@ -28,8 +28,19 @@ impl Ending {
             },
             Err(error) => Ending {
                 status: 1,
-                complaint: Some(error.text()),
+                complaint: Some(error_text(&error)),
             },
         }
+    }
+}
+
+/// The line for standard error after an error, without its line feed.
+pub fn error_text(error: &RunError) -> &'static str
+    ensures { result.now ≡ run_error_text error.now }
+{
+    match error {
+        RunError::Read => "frame_bench: read failed",
+        RunError::Write => "frame_bench: write failed",
+        RunError::OutOfMemory => "frame_bench: out of memory",
     }
 }

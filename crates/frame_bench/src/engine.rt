@@ -3,18 +3,18 @@
 ghost use Rattle.std.specs.Prelude.{ℕ, List, ◌≡◌, ◌⊎◌, ◌<◌, ◌∷◌, ◌++◌, ◌+◌, ◌↔◌, [], false};
 ghost use Rattle.std.specs.Prelude.{true, length, IfOk, OnErr, OnOk};
 ghost use Rattle.std.specs.Io.KnownBytes.{IsAtEnd};
+ghost use Rattle.line_io.specs.Lines.{IsWithinLine, line_feed};
+ghost use Rattle.line_io.specs.Transfers.{Transfers};
+ghost use Rattle.line_io.specs.WatchedWords.{KeepsReads, has_ended, has_failed, inner_of, is_at_end, reads_left};
 ghost use Rattle.frame_bench.specs.Answers.{IsAnswer, AnswersAfter, AnswersTo, BeginsAnswersTo};
-ghost use Rattle.frame_bench.specs.Lines.{IsWithinLine, line_feed};
 ghost use Rattle.frame_bench.specs.PoolCalls.{HoldsLines};
-ghost use Rattle.frame_bench.specs.Streams.{AdvancesTo, BeginsAnswers, Transfers};
-ghost use Rattle.frame_bench.specs.WatchedWords.{KeepsReads, has_ended, has_failed, inner_of, is_at_end, reads_left};
+ghost use Rattle.frame_bench.specs.Streams.{AdvancesTo, BeginsAnswers};
 
 use crate::laws;
 use crate::replies::push_line;
-use crate::run_error::RunError;
 use crate::texts::split_at_first;
-use crate::watched::Watched;
 use etherparse::defrag::IpDefragPool;
+use line_io::{RunError, Watched, zeros};
 use std::alloc::{AllocError, Global};
 use std::io::{Read, Write};
 
@@ -24,8 +24,8 @@ const PIECE_LEN: usize = 65_536;
 /// Writes the answer to each line of the reader, in a line of its own, until the reader has ended. Neither may have
 /// failed before, nor the reader have ended.
 ///
-/// The reader is read in pieces of 64 KiB, at most `u64::MAX` times, and what answers the lines that ended in a piece
-/// is written before the next is read. The first failure of a read or a write ends the run.
+/// The reader is read in pieces of 64 KiB, at most as often as it may be, and what answers the lines that ended in a
+/// piece is written before the next is read. The first failure of a read or a write ends the run.
 pub fn run<R: Read, W: Write>(
     alloc: Global,
     reader: &mut Watched<R>,
@@ -62,13 +62,6 @@ pub fn run<R: Read, W: Write>(
     }
     session.finish()?;
     writer.write_all(session.output.as_slice())
-}
-
-/// A buffer of zeros. A proof about its caller sees its length alone, and not each zero.
-fn zeros(alloc: Global, len: usize) -> Result<Vec<u8>, AllocError>
-    ensures { IfOk result (λ bytes. length bytes.items ≡ len) }
-{
-    Ok(vec![in alloc; 0; len]?)
 }
 
 /// The pool after the lines that have ended, the line that has begun, and room for what its answer needs.

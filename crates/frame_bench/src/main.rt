@@ -18,7 +18,6 @@
 //! Any other line is answered `err line`.
 #![tactic(auto)]
 
-mod decimals;
 pub mod ending;
 pub mod engine;
 mod hex_text;
@@ -27,21 +26,19 @@ mod pool_replies;
 mod pool_requests;
 mod replies;
 mod requests;
-pub mod run_error;
 mod slice_replies;
 #[cfg(test)]
 mod tests;
 mod texts;
-pub mod watched;
 
 use crate::ending::Ending;
 use crate::engine::run;
-use crate::watched::Watched;
+use line_io::Watched;
 use std::process::ExitCode;
 
 fn main(rt: HostRuntime) -> ExitCode {
-    let mut reader = Watched::new(rt.stdin());
-    let mut writer = Watched::new(rt.stdout());
+    let mut reader = Watched::new(rt.stdin(), u64::MAX);
+    let mut writer = Watched::new(rt.stdout(), 0);
     let ending = Ending::after(run(rt.alloc(), &mut reader, &mut writer));
     if let Some(complaint) = ending.complaint {
         let _ = rt.eprintln(complaint);

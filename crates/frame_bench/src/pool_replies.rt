@@ -7,15 +7,16 @@ ghost use Rattle.etherparse.specs.Pools.{plain_frame_answer, plain_payload, want
 ghost use Rattle.etherparse.specs.DefragRefusals.{is_want_of_memory};
 ghost use Rattle.etherparse.specs.Types.IpDefragError.TheVariants.{SegmentTooBig};
 ghost use Rattle.etherparse.specs.Layers.{layers_of};
-ghost use Rattle.frame_bench.specs.Lines.{space};
+ghost use Rattle.line_io.specs.Lines.{space};
 ghost use Rattle.frame_bench.specs.PoolCalls.{PoolHistory, IsAfterRequest, HoldsHistory, frame_call, with_call};
 ghost use Rattle.frame_bench.specs.PoolReplies.{IsFragmentReply, call_reply, pool_answer_text, pool_error_text};
 ghost use Rattle.frame_bench.specs.declared.requests.Request.TheVariants as request;
 
+use crate::hex_text;
 use crate::slice_replies::push_refusal;
-use crate::{decimals, hex_text};
 use etherparse::defrag::{IpDefragError, IpDefragPayloadVec, IpDefragPool};
 use etherparse::{Entry, SlicedPacket};
+use line_io::decimals;
 use std::alloc::AllocError;
 
 /// Hands the frame to the pool and appends what it answers, or appends why the bytes are no frame. A payload that is

@@ -1,7 +1,7 @@
 //! What the lines `frag`, `drop` and `limit` ask.
 
 ghost use Rattle.std.specs.Prelude.{◌≡◌, ◌∷◌, ◌++◌, ℕ, List, IfNone, IfOk, IfSome, codes};
-ghost use Rattle.frame_bench.specs.Lines.{space};
+ghost use Rattle.line_io.specs.Lines.{space};
 ghost use Rattle.frame_bench.specs.Requests.{Asks, IsNumber, IsLimit};
 ghost use Rattle.frame_bench.specs.declared.requests.Request.{Request};
 

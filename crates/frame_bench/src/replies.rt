@@ -1,8 +1,8 @@
 //! The answer to a line.
 
 ghost use Rattle.std.specs.Prelude.{◌≡◌, ◌∷◌, ◌++◌, [], ℕ, List, OnOk};
+ghost use Rattle.line_io.specs.Lines.{line_feed};
 ghost use Rattle.frame_bench.specs.Answers.{IsAnswer};
-ghost use Rattle.frame_bench.specs.Lines.{line_feed};
 ghost use Rattle.frame_bench.specs.PoolCalls.{PoolHistory, IsAfterRequest, HoldsHistory, HoldsLines};
 ghost use Rattle.frame_bench.specs.Replies.{IsReply};
 

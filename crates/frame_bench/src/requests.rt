@@ -2,7 +2,7 @@
 
 ghost use Rattle.std.specs.Prelude.{◌∷◌, ◌++◌, ℕ, List, IfNone, IfOk, IfSome, codes};
 ghost use Rattle.etherparse.specs.Types.Entry.{Entry};
-ghost use Rattle.frame_bench.specs.Lines.{space};
+ghost use Rattle.line_io.specs.Lines.{space};
 ghost use Rattle.frame_bench.specs.Requests.{Asks, EntryAt};
 ghost use Rattle.frame_bench.specs.declared.requests.Request.{Request};
 

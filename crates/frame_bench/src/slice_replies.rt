@@ -6,14 +6,15 @@ ghost use Rattle.etherparse.specs.LinkExtensions.{link_extension_of};
 ghost use Rattle.etherparse.specs.LinkSlices.{link_layer_of};
 ghost use Rattle.etherparse.specs.Layers.{layers_of, net_layer_of};
 ghost use Rattle.etherparse.specs.TransportParts.{transport_layer_of};
-ghost use Rattle.frame_bench.specs.Lines.{space};
+ghost use Rattle.line_io.specs.Lines.{space};
 ghost use Rattle.frame_bench.specs.SliceReplies.{IsSliceReply, extension_text, extensions_word};
 ghost use Rattle.frame_bench.specs.SliceReplies.{layers_text, link_word, net_word, refusal_text, transport_word};
 
-use crate::{decimals, hex_text};
+use crate::hex_text;
 use etherparse::err::packet::SliceError;
 use etherparse::err::{LenError, ip, ip_auth, ipv4, ipv6, ipv6_exts, linux_sll, macsec, tcp};
 use etherparse::{Entry, LinkExtSlice, LinkSlice, NetSlice, SlicedPacket, TransportSlice};
+use line_io::decimals;
 use std::alloc::AllocError;
 
 /// Appends the text of the frame's layers, or why the bytes are no frame.

@@ -13,7 +13,7 @@ mod memory;
 mod streams;
 
 use crate::engine::run;
-use crate::watched::Watched;
+use line_io::Watched;
 use std::alloc::{AllocError, Global};
 use std::process::Abort;
 use std::test::Fail;
@@ -21,8 +21,8 @@ use std::test::Fail;
 /// Runs over memory, and compares what is written.
 fn assert_answers(rt: &impl Abort, alloc: Global, input: &[u8], wanted: &[u8]) -> Result<(), Fail> {
     let mut output = Vec::new(alloc);
-    let mut reader = Watched::new(input);
-    let mut writer = Watched::new(&mut output);
+    let mut reader = Watched::new(input, u64::MAX);
+    let mut writer = Watched::new(&mut output, 0);
     run(alloc, &mut reader, &mut writer)?;
     assert_eq!(rt; output.as_slice(), wanted);
     Ok(())

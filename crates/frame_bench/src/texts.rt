@@ -4,7 +4,7 @@ ghost use Rattle.std.specs.Prelude.{◌≡◌, ◌≢◌, ◌==◌, ◌<◌, ◌
 ghost use Rattle.std.specs.Prelude.{length, not, slice_index, take};
 ghost use Rattle.std.specs.List.{All, prefix_len};
 ghost use Rattle.std.specs.Simd.Lanes.{chunk};
-ghost use Rattle.frame_bench.specs.Lines.{space};
+ghost use Rattle.line_io.specs.Lines.{space};
 
 use std::simd::prelude::*;
 

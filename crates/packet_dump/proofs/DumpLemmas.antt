@@ -2,14 +2,14 @@
 use Rattle.std.proofs.Common.{◌≡◌, ◌≤◌, ℕ, List, [], ◌++◌, Option, refl, sym, ap, subst, ◌∙◌, append_assoc}
 use Rattle.std.proofs.KnownBytes.{Appends-nil, Appends-trans, Consumes-kept, Consumes-nil, Consumes-trans}
 use Rattle.std.proofs.lemmas.List.{append-nil}
-use Rattle.std.specs.Prelude.{Result, Ok, Err, OnErr}
 use Rattle.std.specs.Io.KnownBytes.{Appends, Consumes, Keeps}
 use Rattle.capture_reader.specs.Captures.{Item, at_start, items_bytes}
 use Rattle.capture_reader.specs.Readers.{reader_rest}
+use Rattle.line_io.specs.Transfers.{Moves}
+use Rattle.line_io.specs.WatchedWords.{AppendsFront}
 use Rattle.packet_dump.specs.Dumps.{AreAllTexts, AreShown, BeginsDump, IsDump}
 use Rattle.packet_dump.specs.PoolCalls.{PoolHistory, new_pool}
-use Rattle.packet_dump.specs.Sessions.{Drains, Moves, Stands, ending_of}
-use Rattle.packet_dump.specs.WatchedWords.{AppendsFront}
+use Rattle.packet_dump.specs.Sessions.{Drains, Stands, ending_of}
 use Rattle.packet_dump.specs.declared.session.Session.{Session}
 use Rattle.packet_dump.specs.declared.session.Standing.{Standing}
 use Rattle.packet_dump.specs.declared.session.Standing.TheVariants.{MayEnd, Enough, Cut, Refused}
@@ -81,11 +81,6 @@ abbrev pub Draining : Session → Session → Standing → Type 0
 Draining old new standing = (view : View) (read : List ℕ) (items : List Item) (text : List ℕ) (history : PoolHistory)
     → Stands view old read items history → AreAllTexts view items text history
     → Drains view new standing read items text
-
--- what stands at the exit of a `?`
-pub at_exit : {T E P : Type 0} (r : Result T E) → P → OnErr r P
-at_exit (Ok x) p = tt
-at_exit (Err e) p = p
 
 -- nothing was read or written
 pub Moves-new : (view : View) (session : Session) (had held : Option (List ℕ))

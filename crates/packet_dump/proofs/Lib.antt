@@ -1,4 +1,3 @@
-pub mod DecimalLemmas
 pub mod SessionLemmas
 pub mod DumpLemmas
 pub mod LineLemmas

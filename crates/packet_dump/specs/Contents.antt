@@ -12,9 +12,9 @@ use Rattle.ep_packet.specs.Refusals.{RefusesFrame}
 use Rattle.ep_transport.specs.declared.transport_header.TransportHeader.{TransportHeader}
 use Rattle.ep_transport.specs.declared.transport_header.TransportHeader.TheVariants as header
 use Rattle.ep_transport.specs.TransportParts.{TransportLayer}
+use Rattle.line_io.specs.Lines.{line_feed, space}
 use Rattle.packet_dump.specs.Addresses.{hex_pair}
 use Rattle.packet_dump.specs.Layers.{layers_text}
-use Rattle.packet_dump.specs.Lines.{line_feed, space}
 use Rattle.packet_dump.specs.Refusals.{refusal_text}
 use Rattle.packet_dump.specs.declared.view.Kind.{Kind}
 use Rattle.packet_dump.specs.declared.view.Kind.TheVariants.{Udp, Tcp, Icmp, Arp, Refused}

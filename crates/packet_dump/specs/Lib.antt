@@ -3,7 +3,6 @@ pub mod Contents
 pub mod Dumps
 pub mod Icmp
 pub mod Layers
-pub mod Lines
 pub mod Links
 pub mod Nets
 pub mod PacketLines
@@ -14,4 +13,3 @@ pub mod Sessions
 pub mod Shown
 pub mod Texts
 pub mod Transports
-pub mod WatchedWords

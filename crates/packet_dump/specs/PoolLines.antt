@@ -12,9 +12,9 @@ use Rattle.ep_packet.specs.declared.err.slice_error.SliceError.{SliceError}
 use Rattle.ep_packet.specs.declared.err.slice_error.SliceError.TheVariants as slice_error
 use Rattle.ep_packet.specs.Layers.{Layers}
 use Rattle.ep_transport.specs.TransportParts.{TransportLayer, IsTransportPart, RefusesTransportPart, payload_in}
+use Rattle.line_io.specs.Lines.{line_feed}
 use Rattle.packet_dump.specs.Contents.{Content, frame, refusal, other_link, bytes_text, header_kind, shows_kind}
 use Rattle.packet_dump.specs.Layers.{outer_text}
-use Rattle.packet_dump.specs.Lines.{line_feed}
 use Rattle.packet_dump.specs.PoolCalls.{PoolHistory, frame_call, table_behind, with_call, with_sweep}
 use Rattle.packet_dump.specs.Refusals.{refusal_text}
 use Rattle.packet_dump.specs.Transports.{len_text, transport_text}

@@ -1,13 +1,11 @@
 -- What is known between two pieces of a capture.
-use Rattle.std.specs.Prelude.{◌≡◌, ℕ, ◌+◌, ◌≤◌, List, ◌++◌, Option}
-use Rattle.std.specs.Io.KnownBytes.{Appends, Consumes}
+use Rattle.std.specs.Prelude.{◌≡◌, ℕ, ◌+◌, ◌≤◌, List, ◌++◌}
 use Rattle.capture_reader.specs.Captures.{Item, IsCapture, PlainShown, RefusesCapture}
 use Rattle.capture_reader.specs.Readers.{Reads, reader_left, reader_offset}
 use Rattle.capture_reader.specs.declared.refusal.CaptureError.{CaptureError}
 use Rattle.packet_dump.specs.Dumps.{AreAllTexts, Begin, IsLine, none_read, packets_in, progress_behind}
 use Rattle.packet_dump.specs.PoolCalls.{HoldsHistory, PoolHistory}
 use Rattle.packet_dump.specs.Shown.{first_after, instant_in, latest_after}
-use Rattle.packet_dump.specs.WatchedWords.{inner_of}
 use Rattle.packet_dump.specs.declared.ending.Ending.{Ending}
 use Rattle.packet_dump.specs.declared.ending.Ending.TheVariants as ending
 use Rattle.packet_dump.specs.declared.pooling.Pooling.{Pooling}
@@ -15,7 +13,6 @@ use Rattle.packet_dump.specs.declared.session.Session.{Session}
 use Rattle.packet_dump.specs.declared.session.Standing.{Standing}
 use Rattle.packet_dump.specs.declared.session.Standing.TheVariants.{MayEnd, Enough, Cut, Refused}
 use Rattle.packet_dump.specs.declared.view.View.{View}
-use Rattle.packet_dump.specs.declared.watched.Watched.{Watched}
 
 -- this became of the pool
 pub record HoldsPooling (history : PoolHistory) (pooling : Pooling) : Type 0 where
@@ -80,16 +77,3 @@ ending_of MayEnd packets = ending.Whole
 ending_of Enough packets = ending.Enough
 ending_of (Cut error) packets = ending.Broken packets error
 ending_of (Refused error) packets = ending.Broken packets error
-
--- A reader that had some bytes left has others left now, and a writer that held some bytes holds others now: what was
--- read and what was written are so related. Of a reader or a writer that does not tell its bytes, any may have moved.
-abbrev pub Moves : (List ℕ → List ℕ → Type 0) → (had has held holds : Option (List ℕ)) → Type 0
-Moves Related had has held holds =
-    (read written : List ℕ) × Consumes had has read × Appends held holds written × Related read written
-
--- between two states of a reader and of a writer, what was read and what was written are so related
-abbrev pub Transfers : {R W : Type 0} → (List ℕ → List ℕ → Type 0) → (R → Option (List ℕ)) → Watched R → Watched R
-    → (W → Option (List ℕ)) → Watched W → Watched W → Type 0
-Transfers Related remaining reader next_reader contents writer next_writer =
-    Moves Related (remaining (inner_of reader)) (remaining (inner_of next_reader))
-    (contents (inner_of writer)) (contents (inner_of next_writer))

@@ -1,7 +1,7 @@
 -- The texts of errors.
 use Rattle.std.specs.Prelude.{ℕ, List, codes}
-use Rattle.packet_dump.specs.declared.run_error.RunError.{RunError}
-use Rattle.packet_dump.specs.declared.run_error.RunError.TheVariants.{Read, Write, OutOfMemory}
+use Rattle.line_io.specs.declared.run_error.RunError.{RunError}
+use Rattle.line_io.specs.declared.run_error.RunError.TheVariants.{Read, Write, OutOfMemory}
 
 -- the line for standard error
 abbrev pub run_error_text : RunError → List ℕ

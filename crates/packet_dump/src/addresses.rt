@@ -4,7 +4,7 @@ ghost use Rattle.std.specs.Prelude.{◌≡◌, ◌<◌, ◌++◌, OnOk};
 ghost use Rattle.packet_dump.specs.Addresses.{further_octets_text, hex_digit, hex_pair, hex_text, ipv4_text, ipv6_text};
 ghost use Rattle.packet_dump.specs.Addresses.{mac_text, octets_text};
 
-use crate::decimals;
+use line_io::decimals;
 use std::alloc::AllocError;
 use std::net::Ipv6Addr;
 

@@ -1,6 +1,10 @@
-//! How a run ends that wrote all it had to write.
+//! How a run ends.
+
+ghost use Rattle.std.specs.Prelude.{◌≡◌};
+ghost use Rattle.packet_dump.specs.Texts.{run_error_text};
 
 use capture_reader::CaptureError;
+use line_io::RunError;
 
 /// How a run ends that wrote all it had to write.
 #[derive(Clone, Copy, Debug)]
@@ -16,4 +20,15 @@ pub enum Ending {
         /// What is wrong, and where.
         error: CaptureError,
     },
+}
+
+/// The line for standard error after an error, without its line feed.
+pub fn error_text(error: &RunError) -> &'static str
+    ensures { result.now ≡ run_error_text error.now }
+{
+    match error {
+        RunError::Read => "packet_dump: read failed",
+        RunError::Write => "packet_dump: write failed",
+        RunError::OutOfMemory => "packet_dump: out of memory",
+    }
 }

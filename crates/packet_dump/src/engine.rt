@@ -1,21 +1,23 @@
 //! From a capture in a reader to lines in a writer.
 
 ghost use Rattle.std.specs.Prelude.{◌≡◌, ◌≤◌, ◌<◌, ◌*◌, ◌+◌, ◌^◌, ◌↔◌, false, true, length, IfOk, OnErr};
+ghost use Rattle.line_io.specs.Transfers.{Transfers};
+ghost use Rattle.line_io.specs.WatchedWords.{has_ended, has_failed, reads_left};
 ghost use Rattle.packet_dump.specs.Dumps.{BeginsDump, IsDump};
-ghost use Rattle.packet_dump.specs.Sessions.{Transfers};
-ghost use Rattle.packet_dump.specs.WatchedWords.{has_ended, has_failed, reads_left};
 
 use crate::ending::Ending;
-use crate::run_error::RunError;
 use crate::session::{Session, Standing};
 use crate::summary::Summary;
 use crate::view::View;
-use crate::watched::Watched;
-use std::alloc::{AllocError, Global};
+use line_io::{RunError, Watched, zeros};
+use std::alloc::Global;
 use std::io::{Read, Write};
 
 /// How many bytes are read at a time, at most.
 const PIECE_LEN: usize = 65_536;
+
+/// How many reads are made at most: of 64 KiB each, so that the number of bytes fits in 64 bits.
+pub const MOST_READS: u64 = 0x8000_0000_0000;
 
 /// Writes the lines of the packets of the capture that the reader gives, until it has ended, as many packets were read
 /// as are wanted, or what it gave is refused, and says which. Neither may have failed before, nor the reader have ended.
@@ -58,11 +60,4 @@ pub fn run<R: Read, W: Write>(
         let count = reader.read(piece)?;
         session.take(&piece[..count])?;
     }
-}
-
-/// A buffer of zeros. A proof about its caller sees its length alone, and not each zero.
-fn zeros(alloc: Global, len: usize) -> Result<Vec<u8>, AllocError>
-    ensures { IfOk result (λ bytes. length bytes.items ≡ len) }
-{
-    Ok(vec![in alloc; 0; len]?)
 }

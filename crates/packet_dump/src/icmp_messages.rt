@@ -8,8 +8,8 @@ ghost use Rattle.packet_dump.specs.Icmp.{icmpv6_code_name, icmpv6_content_text, 
 ghost use Rattle.packet_dump.specs.Icmp.{icmpv6_unreachable_name, type_text};
 
 use crate::addresses::push_ipv4;
-use crate::decimals;
 use ep_transport::{IcmpEchoHeader, Icmpv4Type, Icmpv6Type};
+use line_io::decimals;
 use std::alloc::AllocError;
 
 /// Appends the text of a message of ICMP: its type, its code, and what it says beside them.

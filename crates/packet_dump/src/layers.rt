@@ -9,12 +9,12 @@ ghost use Rattle.ep_packet.specs.Payloads.{payload_ether_type_in};
 ghost use Rattle.packet_dump.specs.Layers.{ether_type_text, ip_payload_text, layers_text, outer_text, unread_text};
 
 use crate::addresses::push_hex;
-use crate::decimals;
 use crate::links::{push_extensions, push_link};
 use crate::nets::push_net;
 use crate::transports::{push_len, push_transport};
 use ep_base::{EtherType, IpPayloadSlice};
 use ep_packet::SlicedPacket;
+use line_io::decimals;
 use std::alloc::AllocError;
 
 /// Appends the text of each layer, from the outside in, a space before each.

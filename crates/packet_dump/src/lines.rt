@@ -14,7 +14,6 @@ ghost use Rattle.packet_dump.specs.PoolLines.{IsPooled};
 ghost use Rattle.packet_dump.specs.Sessions.{HoldsPooling};
 
 use crate::addresses::push_pair;
-use crate::decimals;
 use crate::layers::push_layers;
 use crate::pooling::Pooling;
 use crate::refusals::push_refusal;
@@ -24,6 +23,7 @@ use crate::view::{Kind, View};
 use capture_reader::{Shown, Time, knows_link};
 use ep_packet::err::SliceError;
 use ep_packet::{Entry, SlicedPacket};
+use line_io::decimals;
 use std::alloc::AllocError;
 
 /// Appends the line of a packet, whose time is counted from the first one's, where it is of a kind that is shown, and

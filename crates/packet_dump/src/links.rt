@@ -10,8 +10,8 @@ ghost use Rattle.packet_dump.specs.Links.{change_text, channel_text, extension_t
 ghost use Rattle.packet_dump.specs.Links.{macsec_text, sender_text, sll_text, way_name};
 
 use crate::addresses::{push_hex, push_mac, push_octets};
-use crate::decimals;
 use ep_link::{LinkExtSlice, LinkSlice, LinuxSllSlice, MacsecPType, MacsecSlice};
+use line_io::decimals;
 use std::alloc::AllocError;
 
 /// Appends the text of a link layer: of Ethernet with its addresses, of a Linux cooked capture with the sender's.

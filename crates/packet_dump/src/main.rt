@@ -6,7 +6,6 @@
 #![tactic(auto)]
 
 mod addresses;
-mod decimals;
 pub mod ending;
 pub mod engine;
 mod icmp_messages;
@@ -19,7 +18,6 @@ mod pool_lines;
 mod pooling;
 mod progress;
 mod refusals;
-pub mod run_error;
 mod session;
 mod shown;
 pub mod summary;
@@ -27,17 +25,15 @@ pub mod summary;
 mod tests;
 mod transports;
 pub mod view;
-pub mod watched;
 
-use crate::ending::Ending;
-use crate::engine::run;
+use crate::ending::{Ending, error_text};
+use crate::engine::{MOST_READS, run};
 use crate::options::{Request, UsageError, parse};
 use crate::progress::{LONG, Progress};
-use crate::run_error::RunError;
 use crate::summary::Summary;
 use crate::view::View;
-use crate::watched::Watched;
 use capture_reader::Refusal;
+use line_io::{RunError, Watched};
 use std::io::{IsTerminal, Read};
 use std::process::ExitCode;
 use std::rt::{Env, Files};
@@ -144,7 +140,7 @@ fn dump(rt: &HostRuntime, view: View, path: Option<&str>, wanted: bool) -> ExitC
         None => dump_reader(rt, view, &mut summary, rt.stdin()),
     };
     if wanted && outcome.is_ok() && !summarized(rt, &summary) {
-        return said(rt, RunError::Write.text(), 1);
+        return said(rt, error_text(&RunError::Write), 1);
     }
     ended(rt, outcome)
 }
@@ -171,8 +167,8 @@ fn dump_reader(
     summary: &mut Summary,
     reader: impl Read + Drop,
 ) -> Result<Ending, RunError> {
-    let mut reader = Watched::new(reader);
-    let mut writer = Watched::new(rt.stdout());
+    let mut reader = Watched::new(reader, MOST_READS);
+    let mut writer = Watched::new(rt.stdout(), 0);
     run(rt.alloc(), view, summary, &mut reader, &mut writer)
 }
 
@@ -195,7 +191,7 @@ fn ended(rt: &impl Eprint, outcome: Result<Ending, RunError>) -> ExitCode {
             }
             ExitCode::from(1)
         }
-        Err(error) => said(rt, error.text(), 1),
+        Err(error) => said(rt, error_text(&error), 1),
     }
 }
 

@@ -13,11 +13,11 @@ ghost use Rattle.packet_dump.specs.Nets.{more_text, net_text, part_text, parts_t
 ghost use Rattle.packet_dump.specs.Nets.{operation_text, reply_text, who_has_text};
 
 use crate::addresses::{push_ipv4, push_ipv6, push_octets};
-use crate::decimals;
 use ep_ext::{Ipv4ExtensionsSlice, Ipv6ExtensionSlice, Ipv6ExtensionsSlice};
 use ep_ip::{Ipv4HeaderSlice, Ipv4Slice, Ipv6HeaderSlice, Ipv6Slice};
 use ep_link::ArpPacketSlice;
 use ep_packet::NetSlice;
+use line_io::decimals;
 use std::alloc::AllocError;
 
 /// Appends the text of a net layer: of IP with its addresses, what it says of fragments, and its extension headers.

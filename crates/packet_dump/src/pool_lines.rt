@@ -13,7 +13,6 @@ ghost use Rattle.packet_dump.specs.PoolLines.{Inner, IsAnswerText, IsInner, clos
 ghost use Rattle.packet_dump.specs.PoolLines.{opening_text, part, payload_line, payload_text, pool_refusal_text};
 ghost use Rattle.packet_dump.specs.PoolLines.{refused_line, unread, unread_text};
 
-use crate::decimals;
 use crate::layers::push_outer;
 use crate::lines::{push_rows, push_start};
 use crate::refusals::push_refusal;
@@ -26,6 +25,7 @@ use ep_defrag::{IpDefragError, IpDefragPayloadVec};
 use ep_packet::SlicedPacket;
 use ep_packet::err::SliceError;
 use ep_transport::TransportSlice;
+use line_io::decimals;
 use std::alloc::{AllocError, Global};
 
 /// Appends what the pool answered to a frame: the line of a payload that was put together, or of a fragment that is

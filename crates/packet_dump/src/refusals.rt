@@ -3,9 +3,9 @@
 ghost use Rattle.std.specs.Prelude.{◌≡◌, ◌++◌, OnOk};
 ghost use Rattle.packet_dump.specs.Refusals.{len_error_text, limit_text, needed_text, reason_text, refusal_text};
 
-use crate::decimals;
 use ep_base::err::{LenError, ip, ip_auth, ipv4, ipv6, ipv6_exts, linux_sll, macsec, tcp};
 use ep_packet::err::SliceError;
+use line_io::decimals;
 use std::alloc::AllocError;
 
 /// Appends the text of a refusal, a space before it.

@@ -4,11 +4,10 @@
 ghost use Rattle.std.specs.Prelude.{◌≤◌, IfOk};
 
 use crate::ending::Ending;
-use crate::engine::run;
-use crate::run_error::RunError;
+use crate::engine::{MOST_READS, run};
 use crate::summary::Summary;
 use crate::view::View;
-use crate::watched::Watched;
+use line_io::{RunError, Watched};
 use std::alloc::Global;
 use std::io;
 use std::io::{ErrorKind, Read, Write};
@@ -97,8 +96,8 @@ fn run_between(
         room,
     };
     let mut summary = Summary::new(alloc, true);
-    let mut reader = Watched::new(source);
-    let mut writer = Watched::new(&mut target);
+    let mut reader = Watched::new(source, MOST_READS);
+    let mut writer = Watched::new(&mut target, 0);
     let outcome = run(alloc, VIEW, &mut summary, &mut reader, &mut writer);
     (outcome, target.bytes)
 }

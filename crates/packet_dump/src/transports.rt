@@ -6,9 +6,9 @@ ghost use Rattle.ep_transport.specs.TransportParts.{transport_layer_of};
 ghost use Rattle.packet_dump.specs.Transports.{acknowledgment_text, flag_text, flags_text, len_text, ports_text};
 ghost use Rattle.packet_dump.specs.Transports.{state_text, tcp_text, transport_text};
 
-use crate::decimals;
 use crate::icmp_messages::{push_icmpv4, push_icmpv6};
 use ep_transport::{TcpSlice, TransportSlice};
+use line_io::decimals;
 use std::alloc::AllocError;
 
 /// Appends the text of a transport layer, and the length of its payload.

@@ -1,6 +1,6 @@
 //! Numbers as decimal digits, to the greatest.
 
-use crate::decimals::push;
+use line_io::decimals::push;
 use std::test::Fail;
 
 const ROWS: [(u64, &[u8]); 6] = [

@@ -4,7 +4,7 @@
 use super::cuts::{CUTS, push_refusal};
 use super::streams::{SINGLE, Turn, WHOLE, ending_of};
 use super::{fragments, frames, limits, texts_of};
-use crate::run_error::RunError;
+use line_io::RunError;
 use std::alloc::{AllocError, Global};
 use std::io::ErrorKind;
 use std::process::Abort;

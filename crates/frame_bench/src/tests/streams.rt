@@ -3,9 +3,9 @@
 ghost use Rattle.std.specs.Prelude.{◌≤◌, IfOk};
 
 use super::{fragments, frames, texts_of};
+use crate::ending::error_text;
 use crate::engine::run;
-use crate::run_error::RunError;
-use crate::watched::Watched;
+use line_io::{RunError, Watched};
 use std::alloc::Global;
 use std::io;
 use std::io::{ErrorKind, Read, Write};
@@ -103,8 +103,8 @@ pub(super) fn ending_of(
             calls: 0,
         },
     };
-    let mut reader = Watched::new(&mut source);
-    let mut writer = Watched::new(&mut target);
+    let mut reader = Watched::new(&mut source, u64::MAX);
+    let mut writer = Watched::new(&mut target, 0);
     let error = run(alloc, &mut reader, &mut writer).err();
     let calls = (source.turns.calls, target.turns.calls);
     (error, calls, target.bytes)
@@ -279,7 +279,7 @@ fn assert_single(rt: &impl Abort, alloc: Global, input: &[u8], wanted: &[u8]) {
 
 #[test]
 fn tells_each_failure(rt: HostRuntime) {
-    assert!(rt; RunError::Read.text() == "frame_bench: read failed");
-    assert!(rt; RunError::Write.text() == "frame_bench: write failed");
-    assert!(rt; RunError::OutOfMemory.text() == "frame_bench: out of memory");
+    assert!(rt; error_text(&RunError::Read) == "frame_bench: read failed");
+    assert!(rt; error_text(&RunError::Write) == "frame_bench: write failed");
+    assert!(rt; error_text(&RunError::OutOfMemory) == "frame_bench: out of memory");
 }

@@ -3,9 +3,10 @@ use Rattle.std.proofs.lemmas.Result.{on_err_weaker, on_ok_weaker}
 use Rattle.std.proofs.KnownBytes.{Appends-nil, Consumes-nil}
 use Rattle.std.proofs.lemmas.List.Elements.{All-nil}
 use Rattle.std.specs.Io.KnownBytes.{Appends}
-use Rattle.frame_bench.specs.Lines.{line_feed}
-use Rattle.frame_bench.specs.WatchedWords.{AppendsFront, inner_of}
-use Rattle.frame_bench.proofs.StreamLemmas.{at_exit, AdvancesTo-none, Moves-advanced, Moves-begun}
+use Rattle.line_io.specs.Lines.{line_feed}
+use Rattle.line_io.specs.WatchedWords.{AppendsFront, has_failed, inner_of}
+use Rattle.line_io.proofs.ResultLemmas.{at_exit}
+use Rattle.frame_bench.proofs.StreamLemmas.{AdvancesTo-none, Moves-advanced, Moves-begun}
 use Rattle.frame_bench.proofs.StreamLemmas.{Moves-ended, Moves-ended_front, Moves-part}
 use Rattle.frame_bench.proofs.engine.run.Goals as goal
 
@@ -45,8 +46,8 @@ pieces-preserved g c =
           (contents (inner_of c.pieces.writer)) (contents (inner_of c.step.new.writer))
           c.pieces.invariant.0 c.in_ok-step.ensures.ok,
       (c.in_ok-step.ensures.ok c.pieces.invariant.0.4.0.ended c.pieces.invariant.0.4.1).4.0.within,
-      false_from c.step.new.reader.failed (λ t. cc (c.in_ok-step.ensures.read.1 t)),
-      false_from c.step.new.writer.failed (λ t. cc (c.in_ok-step.ensures.write.1 t)),
+      false_from (has_failed c.step.new.reader) (λ t. cc (c.in_ok-step.ensures.read.1 t)),
+      false_from (has_failed c.step.new.writer) (λ t. cc (c.in_ok-step.ensures.write.1 t)),
       search rules,
       c.in_ok-step.ensures.end,
       (kept.0 ∙ c.pieces.invariant.6.0, kept.1 ∙ c.pieces.invariant.6.1),

@@ -1,8 +1,8 @@
 use Rattle.std.proofs.Common.{◌∷◌, ◌++◌, ap, append_assoc}
 use Rattle.std.specs.Prelude.{codes}
 use Rattle.std.specs.Fmt.{decimal}
-use Rattle.frame_bench.specs.Lines.{space}
-use Rattle.frame_bench.proofs.DecimalLemmas.{OnOk-appended_two}
+use Rattle.line_io.specs.Lines.{space}
+use Rattle.line_io.proofs.ResultLemmas.{OnOk-appended_two}
 use Rattle.frame_bench.proofs.pool_replies.push_too_big.Goals as goal
 
 pub returns : goal.returns

@@ -1,5 +1,5 @@
 use Rattle.std.proofs.Common.{◌∙◌, sym, subst}
-use Rattle.frame_bench.specs.Lines.{space}
+use Rattle.line_io.specs.Lines.{space}
 use Rattle.frame_bench.specs.Requests.{IsNumber}
 use Rattle.frame_bench.proofs.TextLemmas.{no_split, number_without, same_split}
 use Rattle.frame_bench.proofs.pool_requests.number_at.Goals as goal

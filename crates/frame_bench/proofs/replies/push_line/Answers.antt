@@ -1,5 +1,5 @@
 use Rattle.std.proofs.Common.{◌∷◌, ◌++◌, ◌∙◌, [], ap, append_assoc}
-use Rattle.frame_bench.specs.Lines.{line_feed}
+use Rattle.line_io.specs.Lines.{line_feed}
 use Rattle.frame_bench.proofs.replies.push_line.Goals as goal
 
 pub returns-clause-answer : goal.returns-clause-answer

@@ -1,7 +1,7 @@
 use Rattle.std.proofs.Common.{◌∷◌, [], Some, None}
 use Rattle.std.proofs.lemmas.Bool.Decides.{Decides-eqb}
 use Rattle.std.proofs.lemmas.Slice.Eq.{strip_prefix_is}
-use Rattle.frame_bench.specs.Lines.{space}
+use Rattle.line_io.specs.Lines.{space}
 use Rattle.frame_bench.proofs.RequestLemmas.{behind_word}
 use Rattle.frame_bench.proofs.texts.behind.Goals as goal
 

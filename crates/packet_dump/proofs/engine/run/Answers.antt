@@ -1,11 +1,12 @@
 use Rattle.std.proofs.Common.{subst, sym, take, arith}
 use Rattle.std.proofs.lemmas.Grind.{common_steps}
 use Rattle.std.specs.Io.KnownBytes.{Appends}
+use Rattle.line_io.specs.Transfers.{Moves}
+use Rattle.line_io.specs.WatchedWords.{AppendsFront, inner_of}
+use Rattle.line_io.proofs.ResultLemmas.{at_exit}
 use Rattle.packet_dump.specs.Dumps.{IsDump}
-use Rattle.packet_dump.specs.Sessions.{Moves}
-use Rattle.packet_dump.specs.WatchedWords.{AppendsFront, inner_of}
 use Rattle.packet_dump.proofs.DumpLemmas.{Moves-begun, Moves-drained, Moves-ended, Moves-front, Moves-kept, Moves-piece}
-use Rattle.packet_dump.proofs.DumpLemmas.{Moves-new, Moves-taken, at_exit}
+use Rattle.packet_dump.proofs.DumpLemmas.{Moves-new, Moves-taken}
 use Rattle.packet_dump.proofs.engine.run.Goals as goal
 
 pub pieces-init : goal.pieces-init

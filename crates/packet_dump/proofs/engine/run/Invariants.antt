@@ -1,6 +1,7 @@
 use Rattle.std.proofs.Common.{◌≡◌, ◌≤◌, ◌*◌, ◌+◌, ◌^◌, false, length}
-use Rattle.packet_dump.specs.Sessions.{Counts, Moves, taken_by}
-use Rattle.packet_dump.specs.WatchedWords.{has_failed, inner_of, reads_left}
+use Rattle.line_io.specs.Transfers.{Moves}
+use Rattle.line_io.specs.WatchedWords.{has_failed, inner_of, reads_left}
+use Rattle.packet_dump.specs.Sessions.{Counts, taken_by}
 use Rattle.packet_dump.proofs.DumpLemmas.{Told}
 use Rattle.packet_dump.proofs.engine.run.Given as goal
 

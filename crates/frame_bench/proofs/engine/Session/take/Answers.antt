@@ -1,5 +1,5 @@
 use Rattle.std.proofs.Common.{◌≡◌, ◌∷◌, ◌++◌, ◌∙◌, [], ap, refl, sym, append_assoc}
-use Rattle.frame_bench.specs.Lines.{line_feed}
+use Rattle.line_io.specs.Lines.{line_feed}
 use Rattle.frame_bench.proofs.StreamLemmas.{AdvancesTo-line, AdvancesTo-none, AdvancesTo-rest}
 use Rattle.frame_bench.proofs.engine.Session.take.Goals as goal
 

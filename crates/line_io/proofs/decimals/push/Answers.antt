@@ -1,7 +1,8 @@
 use Rattle.std.proofs.Common.{◌≡◌, ◌+◌, ◌-◌, ◌%◌, ◌∙◌, drop, take, set, arith}
 use Rattle.std.proofs.lemmas.List.{length-drop, length-set, take_all}
-use Rattle.packet_dump.proofs.DecimalLemmas.{AreLastDigits-first, AreLastDigits-more, HasRoom-front, HasRoom-more, OnOk-appended}
-use Rattle.packet_dump.proofs.decimals.push.Goals as goal
+use Rattle.line_io.proofs.DecimalLemmas.{AreLastDigits-first, AreLastDigits-more, HasRoom-front, HasRoom-more}
+use Rattle.line_io.proofs.ResultLemmas.{OnOk-appended}
+use Rattle.line_io.proofs.decimals.push.Goals as goal
 
 pub digits-preserved : goal.digits-preserved
 digits-preserved c =

@@ -1,7 +1,7 @@
 -- The lines of a text, where it is put together from parts.
 use Rattle.std.proofs.Common.{◌≡◌, ◌≢◌, ℕ, ◌==◌, false, List, [], ◌∷◌, ◌++◌, refl, ap, ◌∙◌, arith}
 use Rattle.std.proofs.lemmas.List.Elements.{All-head, All-tail}
-use Rattle.frame_bench.specs.Lines.{IsWithinLine, line_feed, lines_of, onto_first}
+use Rattle.line_io.specs.Lines.{IsWithinLine, line_feed, lines_of, onto_first}
 
 -- the test for a line feed fails
 not_ended : (byte : ℕ) → byte ≢ line_feed → (byte == line_feed) ≡ false

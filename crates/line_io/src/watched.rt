@@ -1,10 +1,10 @@
 //! A reader or a writer that remembers how its calls went.
 
-ghost use Rattle.std.specs.Prelude.{◌≡◌, ◌==◌, ◌+◌, ◌-◌, ◌^◌, ◌<◌, ◌≤◌, length, true};
+ghost use Rattle.std.specs.Prelude.{◌≡◌, ◌==◌, ◌+◌, ◌-◌, ◌<◌, ◌≤◌, length, true};
 ghost use Rattle.std.specs.Prelude.{false, is_err, IfOk, IfErr, MatchResult, OnOk, OnErr};
 ghost use Rattle.std.specs.Io.KnownBytes.{Appends, IsAtEnd, ReadConsumes, WriteAppends};
-ghost use Rattle.frame_bench.specs.WatchedWords.{AppendsFront, KeepsReads, has_ended};
-ghost use Rattle.frame_bench.specs.WatchedWords.{has_failed, inner_of, is_at_end, reads_left};
+ghost use Rattle.line_io.specs.WatchedWords.{AppendsFront, KeepsReads, has_ended};
+ghost use Rattle.line_io.specs.WatchedWords.{has_failed, inner_of, is_at_end, reads_left};
 
 use crate::run_error::RunError;
 use std::io::{Read, Write};
@@ -22,18 +22,18 @@ pub struct Watched<T> {
 }
 
 impl<T> Watched<T> {
-    /// Watches a reader or a writer from here on.
-    pub fn new(inner: T) -> Watched<T>
+    /// Watches a reader or a writer from here on. A reader is read so often at most.
+    pub fn new(inner: T, reads: u64) -> Watched<T>
         ensures inner { inner_of result ≡ inner }
         ensures failed { has_failed result ≡ false }
         ensures at_end { is_at_end result ≡ false }
-        ensures reads_left { reads_left result ≡ 2 ^ 64 - 1 }
+        ensures reads_left { reads_left result ≡ reads }
     {
         Watched {
             inner,
             failed: false,
             at_end: false,
-            reads_left: u64::MAX,
+            reads_left: reads,
         }
     }
 
@@ -46,7 +46,7 @@ impl<T> Watched<T> {
 }
 
 impl<R: Read> Watched<R> {
-    /// Whether a read into a nonempty part gave no byte, or `u64::MAX` reads were made. Nothing more is read then.
+    /// Whether a read into a nonempty part gave no byte, or no more reads may be made. Nothing more is read then.
     pub fn ended(&self) -> bool
         ensures { result ≡ has_ended self.now }
     {
@@ -54,7 +54,7 @@ impl<R: Read> Watched<R> {
     }
 
     /// Reads once, and tells how many bytes came to the front of `piece`.
-    pub(crate) fn read(&mut self, piece: &mut [u8]) -> Result<usize, RunError>
+    pub fn read(&mut self, piece: &mut [u8]) -> Result<usize, RunError>
         requires sound { has_failed self.old ≡ false }
         requires open { has_ended self.old ≡ false }
         requires room { 0 < length piece.old }
@@ -104,7 +104,7 @@ impl<W: Write> Watched<W> {
     }
 
     /// Writes all bytes, in as many writes as it takes. At an error a front of them was written.
-    pub(crate) fn write_all(&mut self, bytes: &[u8]) -> Result<(), RunError>
+    pub fn write_all(&mut self, bytes: &[u8]) -> Result<(), RunError>
         requires { has_failed self.old ≡ false }
         ensures all { OnOk result (Appends (W.contents (inner_of self.old)) (W.contents (inner_of self.new))
             bytes.now) }

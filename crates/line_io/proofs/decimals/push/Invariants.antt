@@ -1,6 +1,6 @@
 use Rattle.std.proofs.Common.{◌≡◌, ◌<◌, length}
-use Rattle.packet_dump.proofs.DecimalLemmas.{AreLastDigits, HasRoom}
-use Rattle.packet_dump.proofs.decimals.push.Given as goal
+use Rattle.line_io.proofs.DecimalLemmas.{AreLastDigits, HasRoom}
+use Rattle.line_io.proofs.decimals.push.Given as goal
 
 abbrev pub invariant-digits : goal.invariant-digits
 invariant-digits l =

@@ -1,7 +1,7 @@
 use Rattle.std.proofs.Common.{◌≡◌, ◌++◌, ◌∙◌, ap, sym, take, drop, append_assoc, take-append-drop, arith}
 use Rattle.std.proofs.KnownBytes.{Appends-trans}
 use Rattle.std.proofs.lemmas.Grind.{common_steps}
-use Rattle.frame_bench.proofs.watched.Watched.write_all.Goals as goal
+use Rattle.line_io.proofs.watched.Watched.write_all.Goals as goal
 
 pub parts-preserved : goal.parts-preserved
 parts-preserved g c =

@@ -1,7 +1,7 @@
 -- What a contract sees of a reader or a writer that is watched.
 use Rattle.std.specs.Prelude.{◌≡◌, ℕ, Bool, ◌||◌, ◌==◌, List, ◌++◌, Option}
 use Rattle.std.specs.Io.KnownBytes.{Appends}
-use Rattle.packet_dump.specs.declared.watched.Watched.{Watched}
+use Rattle.line_io.specs.declared.watched.Watched.{Watched}
 
 -- the reader or writer itself
 abbrev pub inner_of : {T : Type 0} → Watched T → T

@@ -1,8 +1,7 @@
 //! Why a run ended early.
 
 ghost use Rattle.std.specs.Prelude.{◌≡◌};
-ghost use Rattle.frame_bench.specs.Texts.{run_error_text};
-ghost use Rattle.frame_bench.specs.declared.run_error.RunError.TheVariants.{OutOfMemory};
+ghost use Rattle.line_io.specs.declared.run_error.RunError.TheVariants.{OutOfMemory};
 
 use std::alloc::AllocError;
 
@@ -15,19 +14,6 @@ pub enum RunError {
     Write,
     /// There was no memory.
     OutOfMemory,
-}
-
-impl RunError {
-    /// The line for standard error, without its line feed.
-    pub fn text(&self) -> &'static str
-        ensures { result.now ≡ run_error_text self.now }
-    {
-        match self {
-            RunError::Read => "frame_bench: read failed",
-            RunError::Write => "frame_bench: write failed",
-            RunError::OutOfMemory => "frame_bench: out of memory",
-        }
-    }
 }
 
 impl From<AllocError> for RunError {

@@ -1,7 +1,6 @@
 -- The digits of a number, the last one first.
 use Rattle.std.proofs.Common.{◌≡◌, ℕ, zero, suc, ◌+◌, ◌-◌, ◌*◌, ◌/◌, ◌%◌, ◌^◌, ◌<◌, ◌≤◌, List, [], ◌∷◌, ◌++◌, length, drop, set}
-use Rattle.std.proofs.Common.{Result, Ok, Err, if◌then◌else◌, sym, ap, ◌∙◌, subst, arith, append_assoc}
-use Rattle.std.specs.Prelude.{OnOk, is_ok}
+use Rattle.std.proofs.Common.{sym, ap, ◌∙◌, subst, arith, append_assoc}
 use Rattle.std.specs.Fmt.{decimal}
 use Rattle.std.proofs.Math.Nat.{pow-succ'}
 use Rattle.std.proofs.lemmas.Fmt.{decimal_digit, decimal_step}
@@ -51,17 +50,3 @@ pub AreLastDigits-first : (number rest start : ℕ) (digits : List ℕ) → AreL
 AreLastDigits-first number rest start digits last within one =
     drop-set digits start (48 + rest) within
     ∙ ap (λ t. t ++ drop (start + 1) digits) (sym (decimal_digit rest one)) ∙ sym last
-
--- what was appended is known by another name
-pub OnOk-appended : {A E : Type 0} (done : Result A E) (old new text other : List ℕ)
-    → new ≡ (if is_ok done then old ++ text else old) → text ≡ other → OnOk done (new ≡ old ++ other)
-OnOk-appended (Ok unit) old new text other items same = items ∙ ap (λ t. old ++ t) same
-OnOk-appended (Err error) old new text other items same = tt
-
--- one text was appended and then, where there was memory, another one
-pub OnOk-appended_two : {A E : Type 0} (done : Result A E) (old middle new first second both : List ℕ)
-    → middle ≡ old ++ first → OnOk done (new ≡ middle ++ second) → first ++ second ≡ both
-    → OnOk done (new ≡ old ++ both)
-OnOk-appended_two (Ok unit) old middle new first second both before items same =
-    items ∙ ap (λ t. t ++ second) before ∙ append_assoc old first second ∙ ap (λ t. old ++ t) same
-OnOk-appended_two (Err error) old middle new first second both before items same = tt

@@ -1,7 +1,7 @@
 use Rattle.std.proofs.Common.{◌≡◌, ◌++◌, List, ℕ, length, false}
 use Rattle.std.specs.Io.KnownBytes.{Appends}
-use Rattle.packet_dump.specs.WatchedWords.{KeepsReads, has_failed, inner_of}
-use Rattle.packet_dump.proofs.watched.Watched.write_all.Given as goal
+use Rattle.line_io.specs.WatchedWords.{KeepsReads, has_failed, inner_of}
+use Rattle.line_io.proofs.watched.Watched.write_all.Given as goal
 
 abbrev pub invariant-parts : goal.invariant-parts
 invariant-parts g l =
