@@ -2,9 +2,9 @@
 """Compares packet_dump with tshark and tcpdump: python3 compare.py PROGRAM CAPTURE..
 
 PROGRAM is the built program, as out/packet_dump, and each CAPTURE a file, or a folder with files. Of each packet the
-time, addresses, ports, lengths, flags and sequence numbers, fragments, VLANs, and types and codes of ICMP are compared
-with tshark's, and times, addresses, ports, lengths and fragments with tcpdump's, where both tell them, and the numbers
-of packets. It prints what differs, and at the end how much was compared, and what only one of them tells, by what
+time, addresses, ports, lengths, flags and sequence numbers, fragments, VLANs, and types of ICMP are compared with
+tshark's, and times, addresses, ports, lengths and fragments with tcpdump's, where both tell them, and the numbers of
+packets. It prints what differs, and at the end how much was compared, and what only one of them tells, by what
 stands around it. It needs tshark, tcpdump and editcap, and is no part of the gate.
 
 python3 compare.py --forms PROGRAM CAPTURE.. compares each capture in other forms too, as editcap writes them: pcap in
@@ -139,7 +139,7 @@ def around(name, other):
 
 
 def damaged_times(path):
-    """Which records of a classic capture have a fraction of a second that is more than a second."""
+    """Which records of a classic capture have a fraction of a second that is more than one, or a time behind 2038."""
     data, at, index, found = open(path, "rb").read(), 24, 0, set()
     order = "<" if data[:4] in (b"\xd4\xc3\xb2\xa1", b"\x4d\x3c\xb2\xa1") else ">"
     units = {b"\xd4\xc3": 10**6, b"\xa1\xb2": 10**6 if data[2:4] == b"\xc3\xd4" else 10**9}.get(data[:2], 10**9)
