@@ -1,8 +1,8 @@
 /* etherparse: takes network frames apart, from C and C++.
  *
  * The library behind these calls is written in Rattle, where every function is proved against its contract before it is
- * built: whatever the bytes, a call returns, reads no byte outside of them, writes none outside of what it is given, and
- * answers by the written grammar of the protocols alone (docs/PROVED.md says what that is).
+ * built: whatever the bytes, a call returns, reads no byte outside of them, writes none outside of what it is given,
+ * and answers by the written grammar of the protocols alone (docs/PROVED.md says what that is).
  *
  * For all calls:
  * - A pointer is never null, also where the length beside it is 0, and no two pointers of a call overlap. A pointer to
@@ -90,7 +90,7 @@ struct etherparse_ip {
     uint8_t fragmented;       /* 1 if the payload is one fragment of a longer one */
     uint8_t more_fragments;   /* 1 if the header says that more fragments follow */
     uint16_t fragment_offset; /* where the fragment lies in the whole payload, in bytes */
-    uint32_t identification;  /* what the fragments of one payload have in common; 0 in IPv6 without a fragment header */
+    uint32_t identification;  /* what fragments of one payload have in common; 0 in IPv6 without a fragment header */
     size_t header_len;        /* the IP header's bytes, without extension headers */
 };
 
@@ -296,8 +296,8 @@ struct etherparse_pool_answer {
 /* Gives a frame to a pool, which came at `timestamp` on `channel`, both numbers of the caller's own. `entry` and
  * `ether_type` are those of etherparse_slice. Answers
  * - ETHERPARSE_COMPLETE: with it a payload is complete; it stands at the front of `buffer`, and its stream ends;
- * - ETHERPARSE_TOO_SMALL: one is complete that is longer than `buffer`: `answer->len` bytes. It is not lost: it waits in
- *   the pool until etherparse_pool_take hands it out;
+ * - ETHERPARSE_TOO_SMALL: one is complete that is longer than `buffer`: `answer->len` bytes. It is not lost: it waits
+ *   in the pool until etherparse_pool_take hands it out;
  * - ETHERPARSE_OK: none is complete with it; it carries a fragment that is now held, or none;
  * - ETHERPARSE_REFUSED, ETHERPARSE_FRAGMENT_REFUSED, ETHERPARSE_OUT_OF_MEMORY (for the fragment),
  *   ETHERPARSE_UNKNOWN_CHOICE (of the entry): the streams are as they were;

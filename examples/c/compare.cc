@@ -1,9 +1,9 @@
 /* Times this library by its C interface beside others that read the same frames, in one process and in turns:
  *     compare FILE ROUNDS
- * FILE is a corpus of crates/slice_bench/corpora.py: frames, each its length in four bytes, the lowest first, and its bytes.
- * The walk by hand is crates/slice_bench/compare/walk.c. Where they are installed, libtins (-DWITH_TINS -ltins) and the
- * filter of libpcap (-DWITH_PCAP -lpcap: "udp", compiled once and run over each frame) are measured too. Says nanoseconds
- * a frame, the fastest of the rounds, and how that relates to the walk. */
+ * FILE is a corpus of crates/slice_bench/corpora.py: frames, each its length in four bytes, the lowest first, and its
+ * bytes. The walk by hand is crates/slice_bench/compare/walk.c. Where they are installed, libtins (-DWITH_TINS -ltins)
+ * and the filter of libpcap (-DWITH_PCAP -lpcap: "udp", compiled once and run over each frame) are measured too. Says
+ * nanoseconds a frame, the fastest of the rounds, and how that relates to the walk. */
 #include "../../include/etherparse.h"
 #include <cstdio>
 #include <cstdlib>

@@ -1,5 +1,5 @@
-/* Asks each call for each of its statuses, and looks at what it leaves: the buffer, the number that is told, and memory.
- * The memory is this program's own, in place of etherparse_heap.c: it counts the blocks that are out, and refuses one
+/* Asks each call for each of its statuses, and looks at what it leaves: the buffer, the number that is told, memory. The
+ * memory is this program's own, in place of etherparse_heap.c: it counts the blocks that are out, and refuses one
  * request. Says what held; its status is 1 where something did not. */
 #include <etherparse.h>
 #include <stdbool.h>
@@ -181,7 +181,7 @@ static uint32_t push(struct etherparse_pool *pool, uint8_t stream, size_t from, 
     return etherparse_pool_push(pool, ETHERPARSE_ENTRY_IP, 0, frame, len, time, 0, buffer, room, told);
 }
 
-/* The same, with each request for memory refused in turn before it is granted. The pool may keep what it was granted. */
+/* The same, with each request for memory refused in turn before it is granted. The pool may keep what was granted. */
 static uint32_t pushed(struct etherparse_pool *pool, uint8_t stream, size_t from, size_t to, bool more, size_t room,
                        struct etherparse_pool_answer *told) {
     for (unsigned long i = 1;; i++) {
@@ -225,7 +225,8 @@ static void pools(void) {
     WANT(etherparse_pool_push(pool, 4, 0, payload, 9, 1, 0, buffer, 40, &told) == ETHERPARSE_UNKNOWN_CHOICE);
     etherparse_pool_drop_older(pool, 1);
     WANT(etherparse_pool_take(pool, buffer, 39, &told) == ETHERPARSE_TOO_SMALL && told.len == 40 && is_untouched(0));
-    WANT(etherparse_pool_take(pool, buffer, 40, &told) == ETHERPARSE_COMPLETE && told.len == 40 && told.ip_number == 17);
+    WANT(etherparse_pool_take(pool, buffer, 40, &told) == ETHERPARSE_COMPLETE);
+    WANT(told.len == 40 && told.ip_number == 17 && told.len_source == ETHERPARSE_END_IPV4);
     for (size_t i = 0; i < 40; i++) WANT(buffer[i] == i);
     WANT(is_untouched(40));
     memcpy(buffer, untouched, ROOM);

@@ -1,5 +1,6 @@
-//! Times the wrappers beside the call that they make: compare FILE ROUNDS, where FILE is a corpus of
-//! crates/slice_bench/corpora.py, as examples/c/compare.cc reads it. Says nanoseconds a frame, the fastest of the rounds.
+//! Times the wrapper beside the call that it makes: compare FILE ROUNDS, where FILE is a corpus of
+//! crates/slice_bench/corpora.py, as examples/c/compare.cc reads it. Says nanoseconds a frame, the fastest of the
+//! rounds.
 use etherparse_c::{declared, slice};
 use std::{env, error::Error, fs, hint::black_box, time::Instant};
 

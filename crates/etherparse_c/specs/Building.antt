@@ -38,10 +38,10 @@ abbrev pub udp_between : ℕ → ℕ → TransportHeader
 udp_between source_port destination_port = transport.Udp
     (record { source_port = source_port; destination_port = destination_port; length = 0; checksum = 0 })
 
--- What a call answers that builds the frame of these headers and a payload. The status is 0, and the frame is written to
--- the front of the buffer; 3, and the buffer has too few bytes for it; 4, and the headers' length fields have no room for
--- the payload; or 5, and there was no memory. Only at 0 is the buffer changed, and at 0 and 3 the number of the frame's
--- bytes is told.
+-- What a call answers that builds the frame of these headers and a payload. The status is 0, and the frame is written
+-- to the front of the buffer; 3, and the buffer has too few bytes for it; 4, and the headers' length fields have no room
+-- for the payload; or 5, and there was no memory. Only at 0 is the buffer changed, and at 0 and 3 the number of the
+-- frame's bytes is told.
 abbrev pub IsBuilt : Held → List ℕ → List ℕ → List ℕ → ℕ → ℕ → Type 0
 IsBuilt held payload old new written status =
     let frame = built_frame held payload in

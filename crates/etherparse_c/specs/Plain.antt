@@ -18,8 +18,8 @@ use Rattle.etherparse_c.specs.Description.{header_destination_port, header_end, 
 
 -- ---- tags
 
--- Bytes of a type, the payload of an Ethernet II header, begin with these tags, which cut nothing, and behind them is the
--- net part, where its type begins no further one.
+-- Bytes of a type, the payload of an Ethernet II header, begin with these tags, which cut nothing, and behind them is
+-- the net part, where its type begins no further one.
 pub record HasVlans (type : EtherType) (bytes : List ℕ) (tags : List LinkExtension) (behind : Behind) : Type 0 where
   pub place : behind.offset ≡ 14 + tags_len tags
   pub few : behind.offset ≤ 64

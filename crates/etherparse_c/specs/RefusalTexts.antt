@@ -131,8 +131,8 @@ text_told refusal =
     else kind_text_told (numbered_kind_name refusal.kind) (kind_text refusal.kind) refusal.number
 
 -- What a call answers that writes a text, if there is one, with a zero byte behind it: the status is 0 or 3, and it is
--- placed or has no room (`IsPlaced`); or it is 5, and there was no memory. Where there is none, the status is 2. At 2 and
--- 5 the buffer is as it was.
+-- placed or has no room (`IsPlaced`); or it is 5, and there was no memory. Where there is none, the status is 2. At 2
+-- and 5 the buffer is as it was.
 abbrev pub IsTextAnswer : Option (List ℕ) → List ℕ → List ℕ → ℕ → ℕ → Type 0
 IsTextAnswer None old new written status = (status ≡ 2) × (new ≡ old) × (written ≡ 0)
 IsTextAnswer (Some text) old new written status =

@@ -1,5 +1,5 @@
-//! Plain frames, as most are: IP without extension headers, behind Ethernet II and at most two VLAN tags or alone, and UDP
-//! or TCP. They are described without a packet in between.
+//! Plain frames, as most are: IP without extension headers, behind Ethernet II and at most two VLAN tags or alone, and
+//! UDP or TCP. They are described without a packet in between.
 //!
 //! Each call here may give up, by the answer false or none, where the bytes are another frame or no frame: what is said
 //! then is of no use.

@@ -15,8 +15,8 @@ use etherparse::{Entry, EtherType, SlicedPacket};
 
 /// Slices a frame into its layers. `entry` says what it begins with: 0 an Ethernet II header, 1 the header of a Linux
 /// cooked capture, 2 what an ether type says, 3 an IP header of either version; `ether_type` is read for 2 alone. The
-/// status is 0 where the bytes are a frame, which `packet` then describes, 1 where they are none, and `packet` says why,
-/// and 2 where `entry` is another number. Whatever `packet` held is overwritten.
+/// status is 0 where the bytes are a frame, which `packet` then describes, 1 where they are none, and `packet` says
+/// why, and 2 where `entry` is another number. Whatever `packet` held is overwritten.
 #[unsafe(no_mangle)]
 pub extern "C" fn etherparse_slice(
     entry: u32,
