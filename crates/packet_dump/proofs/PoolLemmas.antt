@@ -1,6 +1,6 @@
 -- The program's pool after the calls that packets make.
 use Rattle.std.proofs.Common.{◌≡◌, ℕ, Bool, true, false, cond, if◌then◌else◌, nat_eq, nat_le, nat_lt, ◌/◌, List, [], ◌∷◌, ◌++◌, Option, Some, None, refl, sym, ap, ◌∙◌, subst}
-use Rattle.std.specs.Prelude.{IsFalse, Result, Ok, Err, OnOk}
+use Rattle.std.specs.Prelude.{IsFalse, Result}
 use Rattle.std.proofs.lemmas.List.{append-nil}
 use Rattle.std.proofs.lemmas.List.Elements.{filter-append}
 use Rattle.ep_defrag.specs.declared.ip_defrag_error.IpDefragError.{IpDefragError}
@@ -11,7 +11,7 @@ use Rattle.ep_defrag.specs.Calls.{gives_frame, drops_streams, returns_buffer, Ke
 use Rattle.ep_defrag.specs.Pools.{limit_of, HoldsEntry, HoldsTable, TakesFrame, plain_frame_answer, stream_named, wants_memory}
 use Rattle.ep_defrag.specs.Streams.{PacketFragment, name_of, same_stream}
 use Rattle.ep_packet.specs.Layers.{Layers}
-use Rattle.packet_dump.specs.PoolCalls.{NumberCall, PoolHistory, new_pool, frame_call, with_call, with_sweep, HoldsHistory, table_behind}
+use Rattle.packet_dump.specs.PoolCalls.{NumberCall, PoolHistory, frame_call, with_call, with_sweep, HoldsHistory, table_behind}
 use Rattle.packet_dump.specs.PoolLines.{GivesFrame, GivesWhere, IsCallText, oldest_from, swept_at}
 use Rattle.packet_dump.specs.Sessions.{HoldsPooling}
 use Rattle.packet_dump.specs.declared.pooling.Pooling.{Pooling}

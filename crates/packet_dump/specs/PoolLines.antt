@@ -6,7 +6,7 @@ use Rattle.ep_base.specs.declared.err.tcp.HeaderSliceError.{HeaderSliceError}
 use Rattle.ep_base.specs.declared.err.tcp.HeaderSliceError.TheVariants as header_error
 use Rattle.ep_defrag.specs.declared.ip_defrag_error.IpDefragError.{IpDefragError}
 use Rattle.ep_defrag.specs.Calls.{Answer, fragment_refused, payload_handed_out, nothing_handed_out, streams_dropped}
-use Rattle.ep_defrag.specs.Calls.{Payload, buffer_returned, answer_to}
+use Rattle.ep_defrag.specs.Calls.{buffer_returned, answer_to}
 use Rattle.ep_defrag.specs.Texts.{error_text}
 use Rattle.ep_packet.specs.declared.err.slice_error.SliceError.{SliceError}
 use Rattle.ep_packet.specs.declared.err.slice_error.SliceError.TheVariants as slice_error

@@ -2,7 +2,6 @@
 use Rattle.std.specs.Prelude.{◌≡◌, ℕ, ◌+◌, ◌≤◌, List, ◌++◌}
 use Rattle.capture_reader.specs.Captures.{Item, IsCapture, PlainShown, RefusesCapture}
 use Rattle.capture_reader.specs.Readers.{Reads, reader_left, reader_offset}
-use Rattle.capture_reader.specs.declared.refusal.CaptureError.{CaptureError}
 use Rattle.packet_dump.specs.Dumps.{AreAllTexts, Begin, IsLine, none_read, packets_in, progress_behind}
 use Rattle.packet_dump.specs.PoolCalls.{HoldsHistory, PoolHistory}
 use Rattle.packet_dump.specs.Shown.{first_after, instant_in, latest_after}

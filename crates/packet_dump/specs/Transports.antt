@@ -1,5 +1,5 @@
 -- The text of transport layers, a space before each.
-use Rattle.std.specs.Prelude.{ℕ, Bool, true, false, if◌then◌else◌, List, [], ◌∷◌, ◌++◌, length, codes}
+use Rattle.std.specs.Prelude.{ℕ, Bool, if◌then◌else◌, List, [], ◌∷◌, ◌++◌, length, codes}
 use Rattle.std.specs.Fmt.{decimal}
 use Rattle.ep_transport.specs.declared.tcp_header.TcpHeader.{TcpHeader}
 use Rattle.ep_transport.specs.declared.transport_header.TransportHeader.{TransportHeader}

@@ -1,4 +1,4 @@
-use Rattle.std.proofs.Common.{ℕ, ◌/◌}
+use Rattle.std.proofs.Common.{◌/◌}
 use Rattle.std.proofs.lemmas.Result.{on_ok_weaker}
 use Rattle.capture_reader.specs.Readers.{shown_of}
 use Rattle.ep_packet.specs.Layers.{layers_of}
