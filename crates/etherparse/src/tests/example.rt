@@ -1,4 +1,4 @@
-//! The example of the README.
+//! An example with a contract, as a user writes it.
 
 ghost use Rattle.std.specs.Prelude.{◌≡◌, IfSome, IfNone, Some, None};
 ghost use Rattle.etherparse.specs.Types.Entry.TheVariants.{Ethernet as ethernet};
