@@ -3,7 +3,8 @@
     python3 compare/hostile.py out/frame_bench [--lines 1000000] [--seed 1] [--batch 20000] [--jobs 2]
 
 The lines of a batch depend on the seed and the batch's number alone, and each batch is one run of the program. The last
-lines of output count the answers by what they say, and the differences, of which the first are shown.
+lines of output count the answers by what they say (the kinds, and how often the least of them came), and the
+differences, of which the first are shown.
 """
 
 import argparse
@@ -34,7 +35,9 @@ class Frames:
 
     def some_bytes(self):
         lengths = [0, 1, 2, 3, 4, 7, 8, 9, 12, 16, 20, 24, 40, self.chance.randrange(120)]
-        length = 1500 if self.seldom(0.003) else self.chance.choice(lengths)
+        if self.seldom(0.003):
+            lengths = [1500, 1500, 1500, 9000, 65495, 65507, 65535, 70000]
+        length = self.chance.choice(lengths)
         return self.chance.randbytes(length)
 
     def length_near(self, length, most):
@@ -94,9 +97,9 @@ class Frames:
         eights = self.chance.choice([0, 0, 0, 1, 2, 5])
         return bytes([number, self.length_near(eights, 0xFF)]) + self.chance.randbytes(6 + 8 * eights)
 
-    def ipv4(self, number, data, fragment=None, names=None):
+    def ipv4(self, number, data, fragment=None, names=None, authenticated=False):
         """An IPv4 packet: its fragment is an offset and a bit, its names are addresses and an identification."""
-        if number == 51 or (fragment is None and self.seldom(0.08)):
+        if authenticated or number == 51 or (fragment is None and self.seldom(0.08)):
             data = self.extension(51, number) + data
             number = 51
         options = self.chance.randbytes(4 * self.chance.randrange(1, 11)) if self.seldom(0.15) else b""
@@ -127,7 +130,10 @@ class Frames:
         return 0x86DD, front + bytes([number, self.chance.randrange(256)]) + (names or self.chance.randbytes(32)) + data
 
     def arp(self):
-        lengths = (6, 4) if not self.seldom(0.3) else (self.chance.randrange(20), self.chance.randrange(20))
+        lengths = (6, 4)
+        if self.seldom(0.3):
+            most = 256 if self.seldom(0.1) else 20
+            lengths = (self.chance.randrange(most), self.chance.randrange(most))
         data = self.chance.randbytes(4) + bytes(lengths) + self.chance.randbytes(2)
         return 0x0806, data + self.chance.randbytes(2 * sum(lengths))
 
@@ -231,20 +237,30 @@ class Lines:
         return self.chance.randrange(2) if not self.frames.seldom(0.03) else self.chance.choice([2**64 - 1, 2**64])
 
     def stream(self, identification):
-        """What names a stream but for its channel: the version, tags, addresses, identification and number."""
+        """What names a stream but for its channel, and what stands in front of each fragment's bytes.
+
+        These are the version, tags, addresses, identification and number, and the kinds of the extension headers behind
+        an IPv6 fragment header, or whether an IPv4 header is authenticated.
+        """
         version = self.chance.choice([4, 4, 6])
         tags = self.chance.choice([[], [], [], [1], [1], [2], [1, 2], [None, 1]])
         address = int(self.frames.seldom(0.2))
         number = self.chance.choice([17, 17, 17, 253, 6])
-        return version, tags, address, identification, number
+        behind = []
+        if self.frames.seldom(0.15):
+            behind = [51] if version == 4 else self.chance.choice([[60], [43], [44], [51], [60, 44], [51, 60]])
+        return version, tags, address, identification, number, behind
 
     def fragment(self, stream, offset, more, data):
         """A frame that carries a fragment."""
-        version, tags, address, identification, number = stream
+        version, tags, address, identification, number, behind = stream
         if version == 4:
             names = (bytes([192, 168, 1, 1, 192, 168, 1, 2 + address]), identification)
-            kind, packet = self.frames.ipv4(number, data, (offset, int(more)), names)
+            kind, packet = self.frames.ipv4(number, data, (offset, int(more)), names, bool(behind))
         else:
+            for kind in reversed(behind):
+                data = self.frames.extension(kind, number) + data
+                number = kind
             header = bytes([number, self.chance.randrange(256)])
             header += struct.pack(">H", offset << 3 | self.chance.randrange(4) << 1 | int(more))
             header += struct.pack(">I", identification)
@@ -273,7 +289,7 @@ class Lines:
         if self.frames.seldom(0.01):
             whole = self.chance.randbytes(self.chance.choice([65527, 65528, 65535]))
         parts, at = [], 0
-        step = max(1, len(whole) // 32)
+        step = max(1, len(whole) // self.chance.choice([8, 16, 32]))
         while at < len(whole):
             end = at + 8 * self.chance.randrange(1, 1 + step)
             parts.append((at // 8, end < len(whole), whole[at:end]))
@@ -305,7 +321,7 @@ class Lines:
     def limit_line(self):
         """Mostly a limit of a lasting pool, and else one that leaves out some fragments, or that is none."""
         limit = 65535
-        if self.frames.seldom(0.5):
+        if self.frames.seldom(0.25):
             limit = self.chance.choice([0, 7, 8, 9, 16, 24, 40, 64, 200, 1000, 3000, self.chance.randrange(65536)])
         text = str(limit)
         if self.frames.seldom(0.2):
@@ -351,7 +367,7 @@ class Lines:
             line = self.pool_line()
         elif what < 0.99:
             line = f"drop {self.number(max(0, self.time() - self.chance.randrange(60)))}"
-        elif what < 0.992:
+        elif what < 0.9915:
             line = self.limit_line()
         else:
             return self.chance.randbytes(self.chance.randrange(30)).replace(b"\n", b"")
@@ -364,7 +380,7 @@ def kind_of(answer):
     """What an answer says, without its numbers and bytes."""
     words = answer.split(" ")
     if words[0] == "ok" and len(words) > 1:
-        tags = "-" if words[2] == "-" else "tags"
+        tags = "+".join(sorted({tag.partition(":")[0] for tag in words[2].split(",")}))
         return " ".join(["ok", words[1], tags, words[3], words[4]])
     if words[:2] == ["err", "len"]:
         return " ".join(["err len", words[4], words[5]])
@@ -411,6 +427,7 @@ def main():
         print("difference:", line, "wanted:", wanted, "given:", given)
     for kind, count in sorted(kinds.items()):
         print(f"{count:8} {kind}")
+    print(f"kinds={len(kinds)} least={min(kinds.values())}")
     print(f"lines={lines} runs={len(sizes)} seed={options.seed} differences={len(differences)}")
     return 1 if differences else 0
 
