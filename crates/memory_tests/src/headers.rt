@@ -3,6 +3,7 @@
 
 use crate::checks::*;
 use crate::samples::*;
+use etherparse::icmpv4::TimestampMessage;
 use etherparse::*;
 use std::alloc::Global;
 use std::process::Abort;
@@ -181,6 +182,16 @@ fn ethernet2() -> Ethernet2Header {
     }
 }
 
+fn linux_sll() -> LinuxSllHeader {
+    LinuxSllHeader {
+        packet_type: LinuxSllPacketType::HOST,
+        arp_hrd_type: ArpHardwareId::ETHERNET,
+        sender_address_valid_length: 6,
+        sender_address: [1; 8],
+        protocol_type: LinuxSllProtocolType::EtherType(EtherType::IPV4),
+    }
+}
+
 fn tag() -> SingleVlanHeader {
     SingleVlanHeader {
         pcp: VlanPcp::ZERO,
@@ -212,16 +223,9 @@ fn macsec() -> MacsecHeader {
 #[test]
 fn links(rt: HostRuntime) {
     writes_alone(&rt, rt.alloc(), "Ethernet2Header::write", &ethernet2(), 14);
-    let sll = LinuxSllHeader {
-        packet_type: LinuxSllPacketType::HOST,
-        arp_hrd_type: ArpHardwareId::ETHERNET,
-        sender_address_valid_length: 6,
-        sender_address: [1; 8],
-        protocol_type: LinuxSllProtocolType::EtherType(EtherType::IPV4),
-    };
-    writes_alone(&rt, rt.alloc(), "LinuxSllHeader::write", &sll, 16);
-    let link = LinkHeader::Ethernet2(ethernet2());
-    writes_alone(&rt, rt.alloc(), "LinkHeader::write", &link, 14);
+    writes_alone(&rt, rt.alloc(), "LinuxSllHeader::write", &linux_sll(), 16);
+    let link = LinkHeader::LinuxSll(linux_sll());
+    writes_alone(&rt, rt.alloc(), "LinkHeader::write", &link, 16);
     writes_alone(&rt, rt.alloc(), "ArpPacket::write", &longest_arp(&rt), 1028);
 }
 
@@ -315,10 +319,20 @@ fn echo() -> IcmpEchoHeader {
     IcmpEchoHeader { id: 1, seq: 2 }
 }
 
+fn times() -> TimestampMessage {
+    TimestampMessage {
+        id: 1,
+        seq: 2,
+        originate_timestamp: 3,
+        receive_timestamp: 4,
+        transmit_timestamp: 5,
+    }
+}
+
 #[test]
 fn icmp(rt: HostRuntime) {
-    let icmpv4 = Icmpv4Header::new(Icmpv4Type::EchoRequest(echo()));
-    writes_alone(&rt, rt.alloc(), "Icmpv4Header::write", &icmpv4, 8);
+    let icmpv4 = Icmpv4Header::new(Icmpv4Type::TimestampReply(times()));
+    writes_alone(&rt, rt.alloc(), "Icmpv4Header::write", &icmpv4, 20);
     let icmpv6 = Icmpv6Header::new(Icmpv6Type::EchoRequest(echo()));
     writes_alone(&rt, rt.alloc(), "Icmpv6Header::write", &icmpv6, 8);
 }

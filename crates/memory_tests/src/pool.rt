@@ -71,6 +71,17 @@ fn first_frame(rt: HostRuntime) {
     same(&rt, &streams(&mut pool), &1);
 }
 
+/// A frame that carries the first 2,000 bytes of a payload, and one that carries none of another.
+#[test]
+fn large_and_empty(rt: HostRuntime) {
+    let mut pool = IpDefragPool::new(rt.alloc());
+    let mut large = [7; 2034];
+    large[..34].copy_from_slice(&LARGE_FRONT);
+    answers(&rt, &mut pool, FIRST, (&large, 1), 2000, b"");
+    answers(&rt, &mut pool, FIRST, (EMPTY_FIRST, 1), 0, b"");
+    same(&rt, &streams(&mut pool), &2);
+}
+
 /// A frame is refused with this error.
 fn refuses(
     rt: &impl Abort,
