@@ -308,7 +308,8 @@ uint32_t etherparse_pool_push(struct etherparse_pool *pool, uint32_t entry, uint
                               struct etherparse_pool_answer *answer);
 
 /* Hands out the payload that waits in a pool. Answers ETHERPARSE_COMPLETE; ETHERPARSE_TOO_SMALL, and it still waits; or
- * ETHERPARSE_OK where none waits. The last two leave the buffer as it was. */
+ * ETHERPARSE_OK where none waits. The last two leave the buffer as it was. Once handed out, a payload's memory is given
+ * back; one that waits is given back with its pool, and etherparse_pool_drop_older leaves it. */
 uint32_t etherparse_pool_take(struct etherparse_pool *pool, uint8_t *buffer, size_t buffer_len,
                               struct etherparse_pool_answer *answer);
 
