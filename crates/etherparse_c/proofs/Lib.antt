@@ -1,5 +1,4 @@
 pub mod HeldStepLemmas
-pub mod LenLemmas
 pub mod PlaceLemmas
 pub mod PlainLemmas
 pub mod TagLemmas

@@ -13,7 +13,7 @@ use Rattle.ep_packet.proofs.LayerLawLemmas.{layer_laws}
 use Rattle.etherparse_c.specs.declared.packet.Packet.{Packet}
 use Rattle.etherparse_c.specs.Description.{description, link_len, net_len, net_offset, payload_offset, tag_len, transport_len, transport_offset}
 use Rattle.etherparse_c.specs.Places.{AreTagsAt, Describes, bytes_at}
-use Rattle.etherparse_c.proofs.LenLemmas.{link_encoded, net_encoded, tag_encoded, tags_encoded, transport_encoded}
+use Rattle.ep_packet.proofs.OffsetLemmas.{link_encoded, net_encoded, tag_encoded, tags_encoded, transport_encoded}
 
 -- bytes behind so many others
 pub bytes_behind : (bytes front part behind : List ℕ) (offset len : ℕ) → bytes ≡ front ++ (part ++ behind)

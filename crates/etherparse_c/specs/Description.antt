@@ -7,19 +7,17 @@ use Rattle.ep_base.specs.Layer.{cut_by}
 use Rattle.ep_base.specs.declared.len_source.LenSource.{LenSource}
 use Rattle.ep_base.specs.declared.len_source.LenSource.TheVariants as source
 use Rattle.ep_ext.specs.declared.ipv6_fragment_header.Ipv6FragmentHeader.{Ipv6FragmentHeader}
-use Rattle.ep_ext.specs.ExtensionParts.{ExtensionPart, part_len}
 use Rattle.ep_ip.specs.Ipv4.{ipv4_header_len}
 use Rattle.ep_ip.specs.declared.ipv4_header.Ipv4Header.{Ipv4Header}
-use Rattle.ep_link.specs.Arp.{arp_len}
-use Rattle.ep_link.specs.LinkExtensions.{LinkExtension, vlan, macsec, extension_header, link_ext_header_len}
-use Rattle.ep_link.specs.LinkSlices.{LinkLayer, ethernet2, linux_sll, ether_payload, linux_sll_payload, link_layer_header_len}
-use Rattle.ep_transport.specs.TransportHeaders.{transport_header_len}
+use Rattle.ep_link.specs.LinkExtensions.{LinkExtension, vlan, macsec}
+use Rattle.ep_link.specs.LinkSlices.{LinkLayer, ethernet2, linux_sll, ether_payload, linux_sll_payload}
 use Rattle.ep_transport.specs.TransportParts.{TransportLayer}
 use Rattle.ep_transport.specs.declared.transport_header.TransportHeader.{TransportHeader}
 use Rattle.ep_transport.specs.declared.transport_header.TransportHeader.TheVariants as transport
 use Rattle.ep_packet.specs.Fragments.{first_fragment}
 use Rattle.ep_packet.specs.FrameBytes.{last_payload}
 use Rattle.ep_packet.specs.Layers.{Layers, NetLayer, ipv4, ipv6, arp}
+pub use Rattle.ep_packet.specs.Offsets.{link_len, tag_len, tags_len, parts_len, net_len, transport_len, payload_offset}
 use Rattle.ep_packet.specs.Payloads.{extensions_len_source}
 use Rattle.etherparse_c.specs.declared.packet.Part.{Part}
 use Rattle.etherparse_c.specs.declared.packet.LinkExt.{LinkExt}
@@ -42,25 +40,11 @@ link_kind (Some (linux_sll header payload)) = 2
 link_kind (Some (ether_payload type source payload)) = 0
 link_kind (Some (linux_sll_payload protocol payload)) = 0
 
--- the number of its bytes
-abbrev pub link_len : Option LinkLayer → ℕ
-link_len None = 0
-link_len (Some layer) = link_layer_header_len layer
-
 -- the link header, with which a frame begins
 abbrev pub link_part : Option LinkLayer → Part
 link_part link = part (link_kind link) 0 (link_len link)
 
 -- ---- the tags of link extensions
-
--- the number of bytes of a tag
-abbrev pub tag_len : LinkExtension → ℕ
-tag_len extension = link_ext_header_len (extension_header extension)
-
--- the number of bytes of some tags
-abbrev pub tags_len : List LinkExtension → ℕ
-tags_len [] = 0
-tags_len (extension ∷ others) = tag_len extension + tags_len others
 
 -- what a tag is: 1 of VLAN, 2 of MACsec
 abbrev pub tag_kind : LinkExtension → ℕ
@@ -102,18 +86,6 @@ net_kind None = 0
 net_kind (Some (ipv4 header extensions payload)) = 4
 net_kind (Some (ipv6 header extensions payload)) = 6
 net_kind (Some (arp packet)) = 1
-
--- the number of bytes of extension headers
-abbrev pub parts_len : List ExtensionPart → ℕ
-parts_len [] = 0
-parts_len (extension ∷ others) = part_len extension + parts_len others
-
--- the number of bytes of an IP header with its extension headers, or of an ARP packet
-abbrev pub net_len : Option NetLayer → ℕ
-net_len None = 0
-net_len (Some (ipv4 header extensions payload)) = ipv4_header_len header + parts_len extensions
-net_len (Some (ipv6 header extensions payload)) = 40 + parts_len extensions
-net_len (Some (arp packet)) = arp_len packet
 
 -- nothing is said of IP
 abbrev pub no_ip : Ip
@@ -180,11 +152,6 @@ abbrev pub transport_kind : Option TransportLayer → ℕ
 transport_kind None = 0
 transport_kind (Some layer) = header_kind layer.header
 
--- the number of its bytes
-abbrev pub transport_len : Option TransportLayer → ℕ
-transport_len None = 0
-transport_len (Some layer) = transport_header_len layer.header
-
 -- the sender's port, where the transport header has ports
 abbrev pub header_source_port : TransportHeader → ℕ
 header_source_port (transport.Udp header) = header.source_port
@@ -250,10 +217,6 @@ net_offset layers = link_len layers.link + tags_len layers.link_exts
 -- the transport layer
 abbrev pub transport_offset : Layers → ℕ
 transport_offset layers = net_offset layers + net_len layers.net
-
--- and the payload of the last layer
-abbrev pub payload_offset : Layers → ℕ
-payload_offset layers = transport_offset layers + transport_len layers.transport
 
 -- nothing is refused
 abbrev pub no_refusal : Refusal
