@@ -14,7 +14,7 @@ use Rattle.ep_base.specs.declared.len_source.LenSource.{LenSource}
 use Rattle.ep_base.specs.declared.len_source.LenSource.TheVariants as source
 use Rattle.ep_packet.specs.declared.err.slice_error.SliceError.TheVariants.{Len, LinuxSll, Macsec, Ip, Ipv4, Ipv6, Ipv4Exts, Ipv6Exts, Tcp}
 use Rattle.etherparse_c.specs.Description.{source_number}
-use Rattle.etherparse_c.specs.Refusals.{layer_number, refusal_part}
+use Rattle.etherparse_c.specs.RefusalNumbers.{layer_number, refusal_part}
 use Rattle.etherparse_c.specs.RefusalTexts.{AreTextsOfRefusals, layer_told, len_text_told, source_told}
 
 -- the number of a layer is its own

@@ -1,11 +1,11 @@
 pub mod Description
 pub mod Places
-pub mod Refusals
-pub mod Answers
+pub mod RefusalNumbers
+pub mod SliceAnswers
 pub mod Building
 pub mod Holding
 pub mod Placing
 pub mod Plain
 pub mod Pointing
-pub mod Pools
+pub mod PoolAnswers
 pub mod RefusalTexts

@@ -19,7 +19,7 @@ use Rattle.ep_packet.specs.declared.err.slice_error.SliceError.{SliceError}
 use Rattle.ep_packet.specs.declared.err.slice_error.SliceError.TheVariants.{Len, LinuxSll, Macsec, Ip, Ipv4, Ipv6, Ipv4Exts, Ipv6Exts, Tcp}
 use Rattle.etherparse_c.specs.declared.packet.Refusal.{Refusal}
 use Rattle.etherparse_c.specs.Placing.{IsPlaced}
-use Rattle.etherparse_c.specs.Refusals.{refusal_part}
+use Rattle.etherparse_c.specs.RefusalNumbers.{refusal_part}
 
 -- the text of a refusal for want of bytes
 abbrev pub len_text : Refusal → Layer → LenSource → List ℕ

@@ -1,10 +1,10 @@
 //! Putting fragmented payloads together, in a pool that C points to.
 
 ghost use Rattle.std.specs.Prelude.{◌≡◌, None, Ok, Some, is_some, nat_le, true};
-ghost use Rattle.etherparse_c.specs.Answers.{entry_of};
-ghost use Rattle.etherparse_c.specs.Pools.{Changes, DropsOlder, IsFresh, IsHandedOut, IsNewPool, IsPushAnswer};
-ghost use Rattle.etherparse_c.specs.Pools.{IsPushed, IsTakeAnswer, IsTakenWith, nothing_told, payload_told};
-ghost use Rattle.etherparse_c.specs.Pools.{refusal_told, refused_status};
+ghost use Rattle.etherparse_c.specs.SliceAnswers.{entry_of};
+ghost use Rattle.etherparse_c.specs.PoolAnswers.{Changes, DropsOlder, IsFresh, IsHandedOut, IsNewPool, IsPushAnswer};
+ghost use Rattle.etherparse_c.specs.PoolAnswers.{IsPushed, IsTakeAnswer, IsTakenWith, nothing_told, payload_told};
+ghost use Rattle.etherparse_c.specs.PoolAnswers.{refusal_told, refused_status};
 
 use crate::describing::{no_refusal, source_number};
 use crate::handle::Handle;

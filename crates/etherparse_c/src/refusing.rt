@@ -1,7 +1,7 @@
 //! What C is told of a refusal.
 
 ghost use Rattle.std.specs.Prelude.{◌≡◌};
-ghost use Rattle.etherparse_c.specs.Refusals.{content_part, layer_number, len_part, refusal_part};
+ghost use Rattle.etherparse_c.specs.RefusalNumbers.{content_part, layer_number, len_part, refusal_part};
 
 use crate::describing::source_number;
 use crate::packet::Refusal;

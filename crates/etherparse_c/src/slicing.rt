@@ -3,7 +3,7 @@
 ghost use Rattle.std.specs.Prelude.{◌≡◌, IfOk, IfErr, MatchOption};
 ghost use Rattle.ep_packet.specs.Layers.{Layers, layers_of, no_layers};
 ghost use Rattle.ep_packet.specs.Frame.{IsFrame};
-ghost use Rattle.etherparse_c.specs.Answers.{IsSliceAnswer, entry_of, nothing_said, refused_packet};
+ghost use Rattle.etherparse_c.specs.SliceAnswers.{IsSliceAnswer, entry_of, nothing_said, refused_packet};
 
 use crate::describing::describe;
 use crate::numbers;

@@ -12,7 +12,7 @@ use Rattle.line_io.proofs.LineLemmas.{lines_of-ended, lines_of-within}
 use Rattle.frame_bench.specs.Answers.{AreAnswers, AnswersAfter, AnswersTo, BeginsAnswersAfter, BeginsAnswersTo}
 use Rattle.frame_bench.specs.Answers.{IsAnswer, IsAnswered}
 use Rattle.frame_bench.specs.PoolCalls.{HoldsLines}
-use Rattle.frame_bench.specs.Streams.{Advances, AdvancesTo, BeginsAnswers}
+use Rattle.frame_bench.specs.Advances.{Advances, AdvancesTo, BeginsAnswers}
 
 -- what the lines before are called is no matter
 same_before : (before others more : List (List ℕ)) (text : List ℕ) → before ≡ others → AreAnswers before more text

@@ -4,5 +4,5 @@ pub mod PoolCalls
 pub mod PoolReplies
 pub mod Replies
 pub mod Answers
-pub mod Streams
+pub mod Advances
 pub mod Texts

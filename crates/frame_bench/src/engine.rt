@@ -8,7 +8,7 @@ ghost use Rattle.line_io.specs.Transfers.{Transfers};
 ghost use Rattle.line_io.specs.WatchedWords.{KeepsReads, has_ended, has_failed, inner_of, is_at_end, reads_left};
 ghost use Rattle.frame_bench.specs.Answers.{IsAnswer, AnswersAfter, AnswersTo, BeginsAnswersTo};
 ghost use Rattle.frame_bench.specs.PoolCalls.{HoldsLines};
-ghost use Rattle.frame_bench.specs.Streams.{AdvancesTo, BeginsAnswers};
+ghost use Rattle.frame_bench.specs.Advances.{AdvancesTo, BeginsAnswers};
 
 use crate::laws;
 use crate::replies::push_line;

@@ -1,7 +1,7 @@
 use Rattle.std.proofs.Common.{rules, ◌≡◌, ℕ, Option, Some, inl, refl, ap, subst, sym}
 use Rattle.ep_packet.specs.declared.entry.Entry.{Entry}
 use Rattle.ep_packet.specs.declared.entry.Entry.TheVariants.{Ethernet as ethernet, Ip as ip}
-use Rattle.etherparse_c.specs.Answers.{IsSliceAnswer, entry_of}
+use Rattle.etherparse_c.specs.SliceAnswers.{IsSliceAnswer, entry_of}
 use Rattle.etherparse_c.proofs.PlaceLemmas.{frame_describes}
 use Rattle.etherparse_c.proofs.slicing.etherparse_slice.Goals as goal
 

@@ -1,7 +1,7 @@
 use Rattle.std.proofs.Common.{◌<◌, ◌^◌, ◌≡◌, length, Option, Some, inl, refl, rules, subst, sym, ◌∙◌}
 use Rattle.ep_packet.specs.declared.entry.Entry.{Entry}
 use Rattle.ep_packet.specs.Layers.{layers_of}
-use Rattle.etherparse_c.specs.Answers.{IsSliceAnswer, entry_of}
+use Rattle.etherparse_c.specs.SliceAnswers.{IsSliceAnswer, entry_of}
 use Rattle.etherparse_c.proofs.PlaceLemmas.{frame_describes, offsets_fit}
 use Rattle.etherparse_c.proofs.slicing.slice_any.Goals as goal
 

@@ -3,7 +3,7 @@ use Rattle.std.specs.Io.KnownBytes.{IsAtEnd}
 use Rattle.line_io.specs.Lines.{IsWithinLine}
 use Rattle.line_io.specs.Transfers.{Moves}
 use Rattle.line_io.specs.WatchedWords.{KeepsReads, has_failed, inner_of, is_at_end, reads_left}
-use Rattle.frame_bench.specs.Streams.{AdvancesTo}
+use Rattle.frame_bench.specs.Advances.{AdvancesTo}
 use Rattle.frame_bench.proofs.engine.run.Given as goal
 
 abbrev pub invariant-pieces : goal.invariant-pieces

@@ -1,6 +1,6 @@
 use Rattle.std.proofs.Common.{◌≡◌, ◌++◌, List, ℕ, length}
 use Rattle.frame_bench.specs.PoolCalls.{HoldsLines}
-use Rattle.frame_bench.specs.Streams.{AdvancesTo}
+use Rattle.frame_bench.specs.Advances.{AdvancesTo}
 use Rattle.frame_bench.proofs.engine.Session.take.Given as goal
 
 abbrev pub invariant-lines : goal.invariant-lines

@@ -18,7 +18,7 @@ use Rattle.etherparse_c.specs.declared.pool.Pool.{Pool}
 use Rattle.etherparse_c.specs.declared.pool_answer.PoolAnswer.{PoolAnswer}
 use Rattle.etherparse_c.specs.declared.state.State.{State}
 use Rattle.etherparse_c.specs.Description.{no_refusal, source_number}
-use Rattle.etherparse_c.specs.Refusals.{refusal_part}
+use Rattle.etherparse_c.specs.RefusalNumbers.{refusal_part}
 
 -- ---- the pool that C points to
 

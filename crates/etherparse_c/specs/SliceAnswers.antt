@@ -8,7 +8,7 @@ use Rattle.ep_packet.specs.Refusals.{RefusesFrame}
 use Rattle.etherparse_c.specs.declared.packet.Packet.{Packet}
 use Rattle.etherparse_c.specs.Description.{description}
 use Rattle.etherparse_c.specs.Places.{Describes}
-use Rattle.etherparse_c.specs.Refusals.{refusal_part}
+use Rattle.etherparse_c.specs.RefusalNumbers.{refusal_part}
 
 -- what a frame begins with, by the number that C says it by
 abbrev pub entry_of : ℕ → ℕ → Option Entry
