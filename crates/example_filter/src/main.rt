@@ -11,9 +11,7 @@ use etherparse::{SlicedPacket, TransportSlice, VlanId};
 use std::io;
 
 fn main(rt: HostRuntime) -> io::Result<()> {
-    let Ok(vlan) = VlanId::try_new(5) else {
-        return rt.eprintln("no VLAN identifier");
-    };
+    let vlan = VlanId::try_new(5).unwrap();
     for line in rt.lines(rt.alloc()) {
         let line = line?;
         match hex::decode(rt.alloc(), line.as_str()) {

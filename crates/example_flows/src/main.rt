@@ -1,30 +1,80 @@
 //! Counts the TCP segments of each flow among Ethernet frames, which stand in lines of hexadecimal.
 #![tactic(auto)]
 
-mod flow;
+ghost use Rattle.std.specs.Prelude.{◌≡◌};
+ghost use Rattle.etherparse.specs.Types.Entry.TheVariants.{Ethernet as ethernet};
+ghost use Rattle.etherparse.specs.Frame.{IsFrame};
+ghost use Rattle.etherparse.specs.Layers.{Layers, layers_of};
+ghost use Rattle.example_flows.specs.Flows.{Counts};
 
-use crate::flow::{Count, Flow, add_segment};
+use etherparse::{NetSlice, SlicedPacket, TransportSlice};
+use std::alloc::AllocError;
 use std::collections::BTreeMap;
 use std::io;
+use std::net::SocketAddr;
+
+/// What was seen of each flow: from this address and port to that one.
+pub type Flows = BTreeMap<(SocketAddr, SocketAddr), Count>;
+
+/// What was seen of a flow: segments, those that open and those that close it, and bytes of payload.
+#[derive(Clone, Copy, Debug, Default)]
+pub struct Count {
+    pub segments: u64,
+    pub syn: u64,
+    pub fin: u64,
+    pub bytes: u64,
+}
 
 fn main(rt: HostRuntime) -> io::Result<()> {
-    let mut flows: BTreeMap<Flow, Count> = BTreeMap::new(rt.alloc());
+    let mut flows = BTreeMap::new(rt.alloc());
     for line in rt.lines(rt.alloc()) {
-        let line = line?;
-        if let Ok(frame) = hex::decode(rt.alloc(), line.as_str()) {
+        if let Ok(frame) = hex::decode(rt.alloc(), line?.as_str()) {
             add_segment(&mut flows, frame.as_slice())?;
         }
     }
-    for (flow, seen) in flows.iter() {
-        let (source, destination) = flow.addresses();
-        print!(rt;
-            "{source} {} > {destination} {}: ",
-            flow.source_port, flow.destination_port
-        )?;
-        println!(rt;
-            "{} segments, {} SYN, {} FIN, {} bytes",
-            seen.segments, seen.syn, seen.fin, seen.bytes
-        )?;
+    for ((source, destination), seen) in flows.iter() {
+        println!(rt; "{source} > {destination}: {seen:?}")?;
     }
+    Ok(())
+}
+
+/// Counts the TCP segment that an Ethernet frame carries, if it carries one.
+pub fn add_segment(flows: &mut Flows, frame: &[u8]) -> Result<(), AllocError>
+    ensures frames { (layers : Layers) → IsFrame ethernet frame.now layers
+        → Counts ⟦<(SocketAddr, SocketAddr) as Ord>⟧.cmp layers flows.old flows.new result }
+    ensures others { ((layers : Layers) → ¬ IsFrame ethernet frame.now layers) → flows.new ≡ flows.old }
+{
+    match SlicedPacket::from_ethernet(frame) {
+        Ok(packet) => add_packet(flows, &packet),
+        Err(_) => Ok(()),
+    }
+}
+
+/// Counts the TCP segment of a packet, if it is one.
+fn add_packet(flows: &mut Flows, packet: &SlicedPacket<'_>) -> Result<(), AllocError>
+    ensures { Counts ⟦<(SocketAddr, SocketAddr) as Ord>⟧.cmp (layers_of packet.now) flows.old flows.new result }
+{
+    let Some(TransportSlice::Tcp(tcp)) = &packet.transport else {
+        return Ok(());
+    };
+    let flow = match &packet.net {
+        Some(NetSlice::Ipv4(ip)) => (
+            SocketAddr::from((ip.header().source(), tcp.source_port())),
+            SocketAddr::from((ip.header().destination(), tcp.destination_port())),
+        ),
+        Some(NetSlice::Ipv6(ip)) => (
+            SocketAddr::from((ip.header().source(), tcp.source_port())),
+            SocketAddr::from((ip.header().destination(), tcp.destination_port())),
+        ),
+        _ => return Ok(()),
+    };
+    let before = flows.get(&flow).copied().unwrap_or_default();
+    let seen = Count {
+        segments: before.segments.saturating_add(1),
+        syn: before.syn.saturating_add(u64::from(tcp.syn())),
+        fin: before.fin.saturating_add(u64::from(tcp.fin())),
+        bytes: before.bytes.saturating_add(tcp.payload().len() as u64),
+    };
+    flows.insert(flow, seen)?;
     Ok(())
 }

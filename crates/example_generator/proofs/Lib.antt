@@ -1,1 +1,1 @@
-pub mod AppendingLemmas
+mod BuildingLemmas

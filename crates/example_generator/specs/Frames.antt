@@ -1,97 +1,60 @@
--- The headers of the frames that are generated.
-use Rattle.std.specs.Prelude.{◌≡◌, ℕ, ◌+◌, ◌<◌, Bool, true, false, List, [], ◌∷◌, ◌++◌, length, Option, Some, None, Result, Ok, Err}
-use Rattle.etherparse.specs.BuildErrors.{IsBuildError}
-use Rattle.etherparse.specs.BuiltFrames.{Held, held_ip, held_transport, built_frame, built_size}
-use Rattle.etherparse.specs.Ipv4.{default_ipv4_header}
-use Rattle.etherparse.specs.Ipv6.{default_ipv6_header}
-use Rattle.etherparse.specs.Ipv6Chains.{no_ipv6_extensions}
-use Rattle.etherparse.specs.RawExtension.{raw_extension_with}
+-- The frames of a request and of its answer.
+use Rattle.std.specs.Prelude.{◌≡◌, ℕ, ◌+◌, ◌<◌, List, [], ◌∷◌, ◌++◌, length, Option, Some, None, Result, Err, OnOk, OnErr, IfErr, Vec, vec_len, vec_capacity}
+use Rattle.std.specs.Option.{option_and_then}
+use Rattle.etherparse.specs.BuildErrors.{IsBuildable, IsBuildError}
+use Rattle.etherparse.specs.BuiltFrames.{Held, held_transport, built_frame, built_size}
+use Rattle.etherparse.specs.Layers.{Layers, NetLayer, ipv4}
+use Rattle.etherparse.specs.LinkSlices.{LinkLayer, ethernet2}
 use Rattle.etherparse.specs.Steps.{ipv4_headers_between, no_type}
-use Rattle.etherparse.specs.Tcp.{default_tcp_header}
+use Rattle.etherparse.specs.TransportHeaders.{udp_header_in}
+use Rattle.etherparse.specs.TransportParts.{TransportLayer}
 use Rattle.etherparse.specs.Types.BuildWriteError.{BuildWriteError}
 use Rattle.etherparse.specs.Types.BuildWriteError.TheVariants.{OutOfMemory}
-use Rattle.etherparse.specs.Types.IpHeaders.{IpHeaders}
-use Rattle.etherparse.specs.Types.IpHeaders.TheVariants as version
-use Rattle.etherparse.specs.Types.LinkPart.{LinkPart}
 use Rattle.etherparse.specs.Types.LinkPart.TheVariants as link
-use Rattle.etherparse.specs.Types.TcpHeader.{TcpHeader}
-use Rattle.etherparse.specs.Types.TransportHeader.{TransportHeader}
 use Rattle.etherparse.specs.Types.TransportHeader.TheVariants as header
-use Rattle.example_generator.specs.Ends.{mapped_address}
-use Rattle.example_generator.specs.declared.end.End.{End}
+use Rattle.etherparse.specs.Types.UdpHeader.{UdpHeader}
 
--- the link part between two ends
-abbrev pub link_between : End → End → LinkPart
-link_between from to =
-    link.Ethernet2 (record { source = from.hardware; destination = to.hardware; ether_type = no_type })
+-- the headers of a datagram of UDP over IPv4 between these hardware addresses, addresses and ports, each the sender's
+-- and the receiver's
+abbrev pub datagram : List ℕ × List ℕ → List ℕ × List ℕ → ℕ × ℕ → Held
+datagram hardware addresses ports = held_transport
+    (link.Ethernet2 (record { source = hardware.0; destination = hardware.1; ether_type = no_type }))
+    (ipv4_headers_between addresses.0 addresses.1 64)
+    (header.Udp (record { source_port = ports.0; destination_port = ports.1; length = 0; checksum = 0 }))
 
--- the IPv4 headers between two ends
-abbrev pub ipv4_between : End → End → IpHeaders
-ipv4_between from to = ipv4_headers_between from.address to.address 64
+-- the headers of the request
+abbrev pub request_headers : Held
+request_headers = datagram
+    (2 ∷ 0 ∷ 0 ∷ 0 ∷ 0 ∷ 1 ∷ [], 2 ∷ 0 ∷ 0 ∷ 0 ∷ 0 ∷ 2 ∷ [])
+    (192 ∷ 0 ∷ 2 ∷ 1 ∷ [], 192 ∷ 0 ∷ 2 ∷ 2 ∷ [])
+    (4000, 53)
 
--- the IPv6 headers between two ends, with hop by hop options and destination options
-abbrev pub ipv6_between : End → End → IpHeaders
-ipv6_between from to = version.Ipv6
-    (record default_ipv6_header {
-      hop_limit = 64;
-      source = mapped_address from.address;
-      destination = mapped_address to.address;
-    })
-    (record no_ipv6_extensions {
-      hop_by_hop_options = Some (raw_extension_with (record { 0 = 0 }) (5 ∷ 2 ∷ 0 ∷ 0 ∷ 1 ∷ 0 ∷ []));
-      destination_options = Some (raw_extension_with (record { 0 = 0 }) (1 ∷ 4 ∷ 0 ∷ 0 ∷ 0 ∷ 0 ∷ []));
-    })
+-- the headers of the answer to a datagram of UDP over IPv4, from its receiver to its sender; nothing else has one
+abbrev pub answer_between : Option LinkLayer → Option NetLayer → Option UdpHeader → Option Held
+answer_between (Some (ethernet2 frame payload)) (Some (ipv4 ip extensions inside)) (Some udp) = Some (datagram
+    (frame.destination, frame.source)
+    (ip.destination, ip.source)
+    (udp.destination_port, udp.source_port))
+answer_between frame ip udp = None
 
--- the header of a datagram
-abbrev pub udp_between : End → End → TransportHeader
-udp_between from to =
-    header.Udp (record { source_port = from.port; destination_port = to.port; length = 0; checksum = 0 })
+abbrev pub answer_to : Layers → Option Held
+answer_to layers = answer_between
+    layers.link
+    layers.net
+    (option_and_then (λ (layer : TransportLayer). udp_header_in layer.header) layers.transport)
 
--- the header of the first segment of a connection, with the greatest segment 1460, nothing, and the window scale 7
-abbrev pub syn_between : End → End → ℕ → TcpHeader
-syn_between from to sequence_number = record default_tcp_header {
-  source_port = from.port;
-  destination_port = to.port;
-  sequence_number = sequence_number;
-  window_size = 65535;
-  syn = true;
-  options = 2 ∷ 4 ∷ 5 ∷ 180 ∷ 1 ∷ 3 ∷ 3 ∷ 7 ∷ [];
-}
+-- The frame of these headers and this payload is appended to a buffer. An error is of the builder's table, or there is
+-- no memory, which comes only where the buffer has too little room; the buffer is then as it was.
+pub record Appends {Z : Type 0} (held : Held) (payload : List ℕ) (old new : Vec ℕ Z)
+    (result : Result (Unit {0}) BuildWriteError) : Type 0 where
+  pub ok : OnOk result (IsBuildable held (length payload) × (new.items ≡ old.items ++ built_frame held payload))
+  pub err : OnErr result (new.items ≡ old.items)
+  pub refused : IfErr result (IsBuildError held (length payload))
+  pub full : result ≡ Err OutOfMemory → vec_capacity old < vec_len old + built_size held (length payload)
 
--- the frames: a datagram over IPv4 and over IPv6, and such a segment
-abbrev pub datagram : End → End → Held
-datagram from to = held_transport (link_between from to) (ipv4_between from to) (udp_between from to)
-
-abbrev pub datagram_v6 : End → End → Held
-datagram_v6 from to = held_transport (link_between from to) (ipv6_between from to) (udp_between from to)
-
-abbrev pub syn : End → End → ℕ → Held
-syn from to sequence_number =
-    held_transport (link_between from to) (ipv4_between from to) (header.Tcp (syn_between from to sequence_number))
-
--- the headers of a fragment of a payload
-abbrev pub fragment_between : End → End → ℕ → Bool → IpHeaders
-fragment_between from to place more = version.Ipv4
-    (record default_ipv4_header {
-      identification = 1;
-      dont_fragment = false;
-      more_fragments = more;
-      fragment_offset = place;
-      time_to_live = 64;
-      source = from.address;
-      destination = to.address;
-    })
-    (record { auth = None })
-
--- a fragment of a payload of UDP
-abbrev pub fragment : End → End → ℕ → Bool → Held
-fragment from to place more =
-    held_ip (link_between from to) (fragment_between from to place more) (record { 0 = 17 })
-
--- The frame of headers and a payload was appended to a buffer with so many bytes and so much room. Or nothing was: the
--- builder's table refuses it, or there is no memory, which comes only where the buffer has too little room.
-abbrev pub Appends : Held → List ℕ → List ℕ → List ℕ → ℕ → ℕ → Result (Unit {0}) BuildWriteError → Type 0
-Appends held payload old new len room (Ok done) = new ≡ old ++ built_frame held payload
-Appends held payload old new len room (Err error) =
-    (new ≡ old) × IsBuildError held (length payload) error
-    × (error ≡ OutOfMemory → room < len + built_size held (length payload))
+-- that of the headers is appended, where there are some; the buffer is else as it was, and there is no result
+abbrev pub AppendsWhere : {Z : Type 0} → Option Held → List ℕ → Vec ℕ Z → Vec ℕ Z
+    → Option (Result (Unit {0}) BuildWriteError) → Type 0
+AppendsWhere (Some held) payload old new (Some result) = Appends held payload old new result
+AppendsWhere None payload old new None = new ≡ old
+AppendsWhere held payload old new result = ⊥

@@ -1,76 +1,77 @@
-//! Prints frames in lines of hexadecimal: a request and its answer, the first segment of a TCP connection with options,
-//! a datagram over IPv6 with extension headers, and the fragments of a long payload.
+//! Prints a request and its answer, datagrams of UDP over IPv4, as Ethernet frames in lines of hexadecimal.
 #![tactic(auto)]
 
-mod cuts;
-mod end;
-mod frames;
+ghost use Rattle.std.specs.Prelude.{◌≡◌, None, option_map};
+ghost use Rattle.etherparse.specs.Frame.{IsFrame};
+ghost use Rattle.etherparse.specs.Layers.{Layers, layers_of};
+ghost use Rattle.etherparse.specs.Steps.{transport_held};
+ghost use Rattle.etherparse.specs.Types.Entry.TheVariants.{Ethernet as ethernet};
+ghost use Rattle.etherparse.specs.Types.TransportHeader.TheVariants.{Udp};
+ghost use Rattle.example_generator.specs.Frames.{Appends, AppendsWhere, answer_to, request_headers};
 
-use crate::cuts::{cut_at, write_fragment};
-use crate::end::{End, ends_of};
-use crate::frames::{write_datagram, write_datagram_v6, write_syn};
-use etherparse::IpFragOffset;
-use std::alloc::Global;
+use etherparse::err::packet::BuildWriteError;
+use etherparse::{
+    LinkSlice, NetSlice, PacketBuilder, PacketBuilderStep, SlicedPacket, TransportSlice, UdpHeader,
+};
 use std::io;
-
-const CLIENT: End = End {
-    hardware: [2, 0, 0, 0, 0, 1],
-    address: [192, 0, 2, 1],
-    port: 4000,
-};
-
-const SERVER: End = End {
-    hardware: [2, 0, 0, 0, 0, 2],
-    address: [192, 0, 2, 2],
-    port: 53,
-};
 
 fn main(rt: HostRuntime) -> io::Result<()> {
     let alloc = rt.alloc();
-    let mut frame = Vec::new(alloc);
-    let written = write_datagram(CLIENT, SERVER, b"request", &mut frame);
-    print_if(&rt, alloc, written.is_ok(), frame.as_slice())?;
-    if let Some((from, to)) = ends_of(frame.as_slice()) {
-        frame.clear();
-        let written = write_datagram(to, from, b"answer", &mut frame);
-        print_if(&rt, alloc, written.is_ok(), frame.as_slice())?;
-    }
-    frame.clear();
-    let written = write_syn(CLIENT, SERVER, 1000, &mut frame);
-    print_if(&rt, alloc, written.is_ok(), frame.as_slice())?;
-    frame.clear();
-    let written = write_datagram_v6(CLIENT, SERVER, b"report", &mut frame);
-    print_if(&rt, alloc, written.is_ok(), frame.as_slice())?;
-    print_fragments(&rt, alloc, &[7; 40])
+    let mut request = Vec::new(alloc);
+    let Ok(()) = write_request(b"request", &mut request) else {
+        return rt.eprintln("the request could not be written");
+    };
+    println!(rt; "{}", hex::encode(alloc, request.as_slice())?)?;
+    let mut answer = Vec::new(alloc);
+    let Some(Ok(())) = write_answer(request.as_slice(), b"answer", &mut answer) else {
+        return rt.eprintln("the answer could not be written");
+    };
+    println!(rt; "{}", hex::encode(alloc, answer.as_slice())?)
 }
 
-/// Prints the fragments of a payload.
-fn print_fragments(rt: &(impl Print + Eprint), alloc: Global, payload: &[u8]) -> io::Result<()> {
-    let mut frame = Vec::new(alloc);
-    for index in 0..4096 {
-        let Ok(place) = IpFragOffset::try_new(2 * index) else {
-            break;
-        };
-        let Some((cut, more)) = cut_at(payload, place) else {
-            break;
-        };
-        frame.clear();
-        let written = write_fragment(CLIENT, SERVER, place, cut, more, &mut frame);
-        print_if(rt, alloc, written.is_ok(), frame.as_slice())?;
-    }
-    Ok(())
+/// Appends a request with this payload.
+pub fn write_request(payload: &[u8], buf: &mut Vec<u8>) -> Result<(), BuildWriteError>
+    ensures { Appends request_headers payload.now buf.old buf.new result }
+{
+    PacketBuilder::ethernet2([2, 0, 0, 0, 0, 1], [2, 0, 0, 0, 0, 2])
+        .ipv4([192, 0, 2, 1], [192, 0, 2, 2], 64)
+        .udp(4000, 53)
+        .write(buf, payload)
 }
 
-/// Prints a frame, if it was written.
-fn print_if(
-    rt: &(impl Print + Eprint),
-    alloc: Global,
-    written: bool,
-    frame: &[u8],
-) -> io::Result<()> {
-    if !written {
-        return rt.eprintln("a frame could not be written");
+/// Appends the answer to a request, from its receiver to its sender. Only an Ethernet frame of a datagram of UDP over
+/// IPv4 has one.
+pub fn write_answer(
+    request: &[u8],
+    payload: &[u8],
+    buf: &mut Vec<u8>,
+) -> Option<Result<(), BuildWriteError>>
+    ensures frames { (layers : Layers) → IsFrame ethernet request.now layers
+        → AppendsWhere (answer_to layers) payload.now buf.old buf.new result }
+    ensures others { ((layers : Layers) → ¬ IsFrame ethernet request.now layers)
+        → AppendsWhere None payload.now buf.old buf.new result }
+{
+    match SlicedPacket::from_ethernet(request) {
+        Ok(packet) => Some(answer_to(&packet)?.write(buf, payload)),
+        Err(_) => None,
     }
-    let text = hex::encode(alloc, frame)?;
-    println!(rt; "{text}")
+}
+
+/// The headers of the answer to a packet.
+fn answer_to(packet: &SlicedPacket<'_>) -> Option<PacketBuilderStep<UdpHeader>>
+    ensures { option_map (transport_held Udp) result ≡ answer_to (layers_of packet.now) }
+{
+    let Some(LinkSlice::Ethernet2(link)) = &packet.link else {
+        return None;
+    };
+    let Some(NetSlice::Ipv4(ip)) = &packet.net else {
+        return None;
+    };
+    let Some(TransportSlice::Udp(udp)) = &packet.transport else {
+        return None;
+    };
+    let answer = PacketBuilder::ethernet2(link.destination(), link.source())
+        .ipv4(ip.header().destination(), ip.header().source(), 64)
+        .udp(udp.destination_port(), udp.source_port());
+    Some(answer)
 }

@@ -1,31 +1,23 @@
--- What becomes of a frame that is given to the pool.
-use Rattle.std.specs.Prelude.{◌≡◌, ℕ, Bool, Option, Result, Ok, Err}
+-- What becomes of a pool with a frame that is given to it, and with a drop by time.
+use Rattle.std.specs.Prelude.{ℕ, Bool, Option, Result, nat_le}
 use Rattle.std.specs.Option.{option_map}
+use Rattle.etherparse.specs.Calls.{Kept, kept_by}
 use Rattle.etherparse.specs.Layers.{Layers}
 use Rattle.etherparse.specs.PacketFragments.{fragment_of}
-use Rattle.etherparse.specs.Pools.{TakesFrame}
+use Rattle.etherparse.specs.Pools.{HoldsTable, TakesFrame}
 use Rattle.etherparse.specs.Streams.{packet_fragment}
 use Rattle.etherparse.specs.Types.IpDefragError.{IpDefragError}
 use Rattle.etherparse.specs.Types.IpDefragPayloadVec.{IpDefragPayloadVec}
 use Rattle.etherparse.specs.Types.IpDefragPool.{IpDefragPool}
-use Rattle.etherparse.specs.Types.SliceError.{SliceError}
-use Rattle.example_reader.specs.declared.reader.ReadError.{ReadError}
-use Rattle.example_reader.specs.declared.reader.ReadError.TheVariants.{Frame, Fragment}
-
--- the pool's answer, as the reader's
-abbrev pub of_pool : Result (Option IpDefragPayloadVec) IpDefragError → Result (Option IpDefragPayloadVec) ReadError
-of_pool (Ok payload) = Ok payload
-of_pool (Err error) = Err (Fragment error)
+use Rattle.etherparse.specs.Types.IpFragId.{IpFragId}
 
 -- the pool takes the frame of these layers, and its answer is this
 abbrev pub Takes : (Unit {0} → Unit {0} → Bool) → Layers → ℕ → IpDefragPool ℕ (Unit {0}) → IpDefragPool ℕ (Unit {0})
-    → Result (Option IpDefragPayloadVec) ReadError → Type 0
-Takes eq layers time old new result = (answer : Result (Option IpDefragPayloadVec) IpDefragError)
-    × (result ≡ of_pool answer)
-    × TakesFrame eq old new (option_map packet_fragment (fragment_of layers)) time tt answer
+    → Result (Option IpDefragPayloadVec) IpDefragError → Type 0
+Takes eq layers time old new answer =
+    TakesFrame eq old new (option_map packet_fragment (fragment_of layers)) time tt answer
 
--- the answer is that the bytes are no frame, with such an error
-abbrev pub IsRefused : (SliceError → Type 0) → Result (Option IpDefragPayloadVec) ReadError → Type 0
-IsRefused refuses (Ok payload) = ⊥
-IsRefused refuses (Err (Frame error)) = refuses error
-IsRefused refuses (Err (Fragment error)) = ⊥
+-- the pool keeps of each stream what it held, where the last accepted fragment came at this time or later
+abbrev pub DropsBefore : (Unit {0} → Unit {0} → Bool) → ℕ → IpDefragPool ℕ (Unit {0}) → IpDefragPool ℕ (Unit {0}) → Type 0
+DropsBefore eq oldest old new = (table : IpFragId (Unit {0}) → Option (Kept ℕ)) → HoldsTable eq old table
+    → HoldsTable eq new (λ name. kept_by (nat_le oldest) (table name))

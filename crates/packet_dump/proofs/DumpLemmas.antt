@@ -1,19 +1,21 @@
 -- What was read and written of a capture, and where it stops.
-use Rattle.std.proofs.Common.{◌≡◌, ◌≤◌, ℕ, List, [], ◌++◌, Option, refl, sym, ap, subst, ◌∙◌, append_assoc}
+use Rattle.std.proofs.Common.{◌≡◌, ◌≤◌, ℕ, Bool, true, false, List, [], ◌++◌, Option, refl, sym, ap, subst, ◌∙◌, append_assoc}
 use Rattle.std.proofs.KnownBytes.{Appends-nil, Appends-trans, Consumes-kept, Consumes-nil, Consumes-trans}
 use Rattle.std.proofs.lemmas.List.{append-nil}
 use Rattle.std.specs.Io.KnownBytes.{Appends, Consumes, Keeps}
-use Rattle.capture_reader.specs.Captures.{Item, at_start, items_bytes}
+use Rattle.capture_reader.specs.Captures.{Item, RefusesCapture, at_start, items_bytes}
 use Rattle.capture_reader.specs.Readers.{reader_rest}
 use Rattle.line_io.specs.Transfers.{Moves}
 use Rattle.line_io.specs.WatchedWords.{AppendsFront}
-use Rattle.packet_dump.specs.Dumps.{AreAllTexts, AreShown, BeginsDump, IsDump}
+use Rattle.capture_reader.specs.declared.refusal.CaptureError.{CaptureError}
+use Rattle.packet_dump.specs.Dumps.{AreAllTexts, AreShown, BeginsDump, IsDump, IsRefused}
 use Rattle.packet_dump.specs.PoolCalls.{PoolHistory, new_pool}
-use Rattle.packet_dump.specs.Sessions.{Drains, Stands, ending_of}
+use Rattle.packet_dump.specs.Sessions.{Drains, Stands, ending_of, ends_run}
 use Rattle.packet_dump.specs.declared.session.Session.{Session}
 use Rattle.packet_dump.specs.declared.session.Standing.{Standing}
 use Rattle.packet_dump.specs.declared.session.Standing.TheVariants.{MayEnd, Enough, Cut, Refused}
 use Rattle.packet_dump.specs.declared.view.View.{View}
+use Rattle.packet_dump.proofs.SessionLemmas.{refused_here}
 
 -- no more packets were read than are wanted
 are_shown : (view : View) (session : Session) (read : List ℕ) (items : List Item) (text : List ℕ) (history : PoolHistory)
@@ -21,33 +23,43 @@ are_shown : (view : View) (session : Session) (read : List ℕ) (items : List It
 are_shown view session read items text history stands texts =
     (subst (λ n. n ≤ view.most) stands.number stands.within, history, texts)
 
--- where the capture stands so, this is its dump
-dump_of : (view : View) (standing : Standing) (session : Session) (read : List ℕ) (items : List Item) (text : List ℕ)
-    → Drains view session standing read items text
-    → IsDump view (ending_of standing session.number) read (text ++ session.output.items)
-dump_of view MayEnd session read items text drains = (
+-- what is refused whatever follows is so where the reader has ended, and where it has not
+is_refused : (ended : Bool) (read : List ℕ) (found : List Item × CaptureError)
+    → ((more : List ℕ) → RefusesCapture (read ++ more) found) → IsRefused ended read found
+is_refused true read found refused = refused_here read found refused
+is_refused false read found refused = refused
+
+-- where the capture stands so, and a run ends there, this is its dump
+dump_of : (view : View) (ended : Bool) (standing : Standing) (session : Session) (read : List ℕ) (items : List Item)
+    (text : List ℕ) → ends_run standing ended ≡ true → Drains view session standing read items text
+    → IsDump view ended (ending_of standing session.number) read (text ++ session.output.items)
+dump_of view ended MayEnd session read items text ends drains = (
+  ends,
   items ++ drains.0.more,
-  drains.1,
+  drains.1.1,
+  drains.1.0,
   are_shown view session read (items ++ drains.0.more) (text ++ session.output.items) drains.0.after drains.0.stands
       drains.0.texts,
 )
-dump_of view Enough session read items text drains = (
+dump_of view ended Enough session read items text ends drains = (
   items ++ drains.0.more,
   drains.1.0,
   drains.1.1,
   are_shown view session read (items ++ drains.0.more) (text ++ session.output.items) drains.0.after drains.0.stands
       drains.0.texts,
 )
-dump_of view (Cut error) session read items text drains = (
+dump_of view ended (Cut error) session read items text ends drains = (
   items ++ drains.0.more,
-  drains.1,
+  subst (λ e. IsRefused e read (items ++ drains.0.more, error)) (sym ends) drains.1.1,
+  drains.1.0,
   drains.0.stands.number,
   are_shown view session read (items ++ drains.0.more) (text ++ session.output.items) drains.0.after drains.0.stands
       drains.0.texts,
 )
-dump_of view (Refused error) session read items text drains = (
+dump_of view ended (Refused error) session read items text ends drains = (
   items ++ drains.0.more,
-  drains.1,
+  is_refused ended read (items ++ drains.0.more, error) drains.1.1,
+  drains.1.0,
   drains.0.stands.number,
   are_shown view session read (items ++ drains.0.more) (text ++ session.output.items) drains.0.after drains.0.stands
       drains.0.texts,
@@ -135,17 +147,18 @@ Moves-drained view old new standing had has held holds then_holds (read, written
     )
 
 -- and the capture stands so
-pub Moves-ended : (view : View) (old new : Session) (standing : Standing) (had has held holds then_holds : Option (List ℕ))
-    → Moves (Told view old) had has held holds
-    → Draining old new standing
-    → Appends holds then_holds new.output.items → Moves (IsDump view (ending_of standing new.number)) had has held then_holds
-Moves-ended view old new standing had has held holds then_holds (read, written, consumed, appended, (items, history, stands, texts))
-    drain more = (
+pub Moves-ended : (view : View) (ended : Bool) (old new : Session) (standing : Standing)
+    (had has held holds then_holds : Option (List ℕ)) → Moves (Told view old) had has held holds
+    → Draining old new standing → ends_run standing ended ≡ true
+    → Appends holds then_holds new.output.items
+    → Moves (IsDump view ended (ending_of standing new.number)) had has held then_holds
+Moves-ended view ended old new standing had has held holds then_holds
+    (read, written, consumed, appended, (items, history, stands, texts)) drain ends more = (
       read,
       written ++ new.output.items,
       consumed,
       Appends-trans held holds then_holds written new.output.items appended more,
-      dump_of view standing new read items written (drain view read items written history stands texts),
+      dump_of view ended standing new read items written ends (drain view read items written history stands texts),
     )
 
 -- no more was read

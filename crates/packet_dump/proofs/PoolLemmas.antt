@@ -3,14 +3,14 @@ use Rattle.std.proofs.Common.{◌≡◌, ℕ, Bool, true, false, cond, if◌then
 use Rattle.std.specs.Prelude.{IsFalse, Result}
 use Rattle.std.proofs.lemmas.List.{append-nil}
 use Rattle.std.proofs.lemmas.List.Elements.{filter-append}
-use Rattle.ep_defrag.specs.declared.ip_defrag_error.IpDefragError.{IpDefragError}
-use Rattle.ep_defrag.specs.declared.ip_defrag_payload_vec.IpDefragPayloadVec.{IpDefragPayloadVec}
-use Rattle.ep_defrag.specs.declared.ip_defrag_pool.IpDefragPool.{IpDefragPool}
-use Rattle.ep_defrag.specs.declared.ip_frag_id.IpFragId.{IpFragId}
-use Rattle.ep_defrag.specs.Calls.{gives_frame, drops_streams, returns_buffer, Kept, kept_after, kept_after_all, concerns, calls_of, table_after, answer_to, table_with}
-use Rattle.ep_defrag.specs.Pools.{limit_of, HoldsEntry, HoldsTable, TakesFrame, plain_frame_answer, stream_named, wants_memory}
-use Rattle.ep_defrag.specs.Streams.{PacketFragment, name_of, same_stream}
-use Rattle.ep_packet.specs.Layers.{Layers}
+use Rattle.etherparse.specs.Types.IpDefragError.{IpDefragError}
+use Rattle.etherparse.specs.Types.IpDefragPayloadVec.{IpDefragPayloadVec}
+use Rattle.etherparse.specs.Types.IpDefragPool.{IpDefragPool}
+use Rattle.etherparse.specs.Types.IpFragId.{IpFragId}
+use Rattle.etherparse.specs.Calls.{gives_frame, drops_streams, returns_buffer, Kept, kept_after, kept_after_all, concerns, calls_of, table_after, answer_to, table_with}
+use Rattle.etherparse.specs.Pools.{limit_of, HoldsEntry, HoldsTable, TakesFrame, plain_frame_answer, stream_named, wants_memory}
+use Rattle.etherparse.specs.Streams.{PacketFragment, name_of, same_stream}
+use Rattle.etherparse.specs.Layers.{Layers}
 use Rattle.packet_dump.specs.PoolCalls.{NumberCall, PoolHistory, frame_call, with_call, with_sweep, HoldsHistory, table_behind}
 use Rattle.packet_dump.specs.PoolLines.{GivesFrame, GivesWhere, IsCallText, oldest_from, swept_at}
 use Rattle.packet_dump.specs.Sessions.{HoldsPooling}

@@ -7,8 +7,8 @@ use Rattle.capture_reader.specs.Readers.{IsOther, Reads, ReadsMore, ShowsItem, r
 use Rattle.capture_reader.specs.Readers.{reader_rest, reader_shown}
 use Rattle.capture_reader.specs.declared.reader.CaptureReader.{CaptureReader}
 use Rattle.capture_reader.specs.declared.refusal.CaptureError.{CaptureError}
-use Rattle.packet_dump.specs.Dumps.{AreAllTexts, AreTexts, IsItemText, IsLine, IsShownText, Progress, none_read}
-use Rattle.packet_dump.specs.Dumps.{progress_after, progress_behind, progress_with}
+use Rattle.packet_dump.specs.Dumps.{AreAllTexts, AreFewer, AreTexts, IsItemText, IsLine, IsShownText, Progress, none_read}
+use Rattle.packet_dump.specs.Dumps.{packets_in, progress_after, progress_behind, progress_with}
 use Rattle.packet_dump.specs.PoolCalls.{PoolHistory, new_pool}
 use Rattle.packet_dump.specs.Sessions.{Counts, Drained, Drains, HoldsPooling, PushesLine, Stands, StandsSo}
 use Rattle.packet_dump.specs.Shown.{first_after, instant_in, latest_after}
@@ -249,6 +249,17 @@ enough_read view session read items history stands all = (
   (reader_rest session.capture, stands.reads.fits, stands.reads.parts),
   sym stands.number ∙ all ∙ ap (λ v. v.most) stands.view_is,
 )
+
+-- fewer were read
+fewer : (number most wanted packets : ℕ) → number ≢ most → number ≤ wanted → most ≡ wanted → number ≡ packets
+    → packets < wanted
+fewer number most wanted packets not_all within same count = omega (arith, not_all, within, same, count)
+
+pub fewer_read : (view : View) (session : Session) (read : List ℕ) (items : List Item) (history : PoolHistory)
+    → Stands view session read items history → session.number ≢ session.view.most → AreFewer view items
+fewer_read view session read items history stands not_all =
+    fewer session.number session.view.most view.most (packets_in items) not_all stands.within
+    (ap (λ v. v.most) stands.view_is) stands.number
 
 -- a capture that is refused whatever follows is refused where nothing does
 pub refused_here : (read : List ℕ) (found : List Item × CaptureError)

@@ -2,20 +2,20 @@
 use Rattle.std.specs.Prelude.{◌≡◌, ℕ, ◌+◌, ◌/◌, ◌%◌, ◌==◌, if◌then◌else◌, Bool, true, false, IsTrue, IsFalse, List, [], ◌∷◌, ◌++◌, Option, Some, None, codes}
 use Rattle.std.specs.Fmt.{decimal}
 use Rattle.capture_reader.specs.Classic.{knows_link}
-use Rattle.ep_packet.specs.declared.entry.Entry.{Entry}
-use Rattle.ep_packet.specs.declared.entry.Entry.TheVariants.{Ethernet, LinuxSll, Ip}
-use Rattle.ep_packet.specs.declared.err.slice_error.SliceError.{SliceError}
-use Rattle.ep_packet.specs.Frame.{IsFrame}
-use Rattle.ep_packet.specs.FrameBytes.{last_payload}
-use Rattle.ep_packet.specs.Layers.{Layers, NetLayer, ipv4, ipv6, arp}
-use Rattle.ep_packet.specs.Refusals.{RefusesFrame}
-use Rattle.ep_transport.specs.declared.transport_header.TransportHeader.{TransportHeader}
-use Rattle.ep_transport.specs.declared.transport_header.TransportHeader.TheVariants as header
-use Rattle.ep_transport.specs.TransportParts.{TransportLayer}
+use Rattle.etherparse.specs.Types.Entry.{Entry}
+use Rattle.etherparse.specs.Types.Entry.TheVariants.{Ethernet, LinuxSll, Ip}
+use Rattle.etherparse.specs.Types.SliceError.{SliceError}
+use Rattle.etherparse.specs.Frame.{IsFrame}
+use Rattle.etherparse.specs.FrameBytes.{last_payload}
+use Rattle.etherparse.specs.Layers.{Layers, NetLayer, ipv4, ipv6, arp}
+use Rattle.etherparse.specs.FrameRefusals.{RefusesFrame}
+use Rattle.etherparse.specs.Types.TransportHeader.{TransportHeader}
+use Rattle.etherparse.specs.Types.TransportHeader.TheVariants as header
+use Rattle.etherparse.specs.TransportParts.{TransportLayer}
 use Rattle.line_io.specs.Lines.{line_feed, space}
 use Rattle.packet_dump.specs.Addresses.{hex_pair}
-use Rattle.packet_dump.specs.Layers.{layers_text}
-use Rattle.packet_dump.specs.Refusals.{refusal_text}
+use Rattle.packet_dump.specs.LayerTexts.{layers_text}
+use Rattle.packet_dump.specs.RefusalTexts.{refusal_text}
 use Rattle.packet_dump.specs.declared.view.Kind.{Kind}
 use Rattle.packet_dump.specs.declared.view.Kind.TheVariants.{Udp, Tcp, Icmp, Arp, Refused}
 

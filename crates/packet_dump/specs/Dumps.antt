@@ -1,5 +1,5 @@
 -- The lines of a capture's packets.
-use Rattle.std.specs.Prelude.{◌≡◌, ℕ, ◌+◌, ◌≤◌, List, [], ◌∷◌, ◌++◌, Option, Some, None}
+use Rattle.std.specs.Prelude.{◌≡◌, ℕ, ◌+◌, ◌<◌, ◌≤◌, Bool, true, false, List, [], ◌∷◌, ◌++◌, Option, Some, None}
 use Rattle.capture_reader.specs.Captures.{Item, PlainShown, Stage, at_start, shown_in, stage_after}
 use Rattle.capture_reader.specs.Captures.{AreItems, IsCapture, RefusesCapture, items_bytes}
 use Rattle.packet_dump.specs.Contents.{Content, Holds}
@@ -7,6 +7,7 @@ use Rattle.packet_dump.specs.PacketLines.{shown_text, start_text}
 use Rattle.packet_dump.specs.PoolCalls.{PoolHistory, new_pool}
 use Rattle.packet_dump.specs.PoolLines.{IsPooled}
 use Rattle.packet_dump.specs.Shown.{first_after, instant_in, latest_after}
+use Rattle.capture_reader.specs.declared.refusal.CaptureError.{CaptureError}
 use Rattle.packet_dump.specs.declared.ending.Ending.{Ending}
 use Rattle.packet_dump.specs.declared.ending.Ending.TheVariants.{Whole, Enough, Broken}
 use Rattle.packet_dump.specs.declared.view.View.{View}
@@ -83,21 +84,32 @@ AreAllTexts view items text after = AreTexts view none_read (new_pool view.limit
 abbrev pub AreShown : View → List Item → List ℕ → Type 0
 AreShown view items text = (packets_in items ≤ view.most) × (after : PoolHistory) × AreAllTexts view items text after
 
+-- these items have fewer packets than are wanted
+abbrev pub AreFewer : View → List Item → Type 0
+AreFewer view items = packets_in items < view.most
+
 -- ---- whole runs
 
 -- the bytes begin with these items
 abbrev pub Begin : List ℕ → List Item → Type 0
 Begin bytes items = (behind : List ℕ) × AreItems at_start items × (bytes ≡ items_bytes at_start items ++ behind)
 
--- What was read is a capture and what was written its packets' lines; or it begins with as many packets as are wanted,
--- and what was written is their lines; or it is refused with this error, and what was written is the lines of the
--- packets in front of it, of which there are so many.
-abbrev pub IsDump : View → Ending → List ℕ → List ℕ → Type 0
-IsDump view Whole read written = (items : List Item) × IsCapture read items × AreShown view items written
-IsDump view Enough read written =
+-- what was read is refused so: as all that there is to be read, or whatever follows it
+abbrev pub IsRefused : Bool → List ℕ → List Item × CaptureError → Type 0
+IsRefused true read found = RefusesCapture read found
+IsRefused false read found = (more : List ℕ) → RefusesCapture (read ++ more) found
+
+-- What was read, to the reader's end, is a capture of fewer packets than are wanted and what was written their lines; or
+-- it begins with as many as are wanted, and what was written is their lines; or it is refused with this error behind
+-- fewer, which are so many, and what was written is their lines. Only where as many were read as are wanted, or it is
+-- refused whatever follows, need the reader not have ended.
+abbrev pub IsDump : View → Bool → Ending → List ℕ → List ℕ → Type 0
+IsDump view ended Whole read written =
+    (ended ≡ true) × (items : List Item) × IsCapture read items × AreFewer view items × AreShown view items written
+IsDump view ended Enough read written =
     (items : List Item) × Begin read items × (packets_in items ≡ view.most) × AreShown view items written
-IsDump view (Broken packets error) read written =
-    (items : List Item) × RefusesCapture read (items, error) × (packets ≡ packets_in items)
+IsDump view ended (Broken packets error) read written =
+    (items : List Item) × IsRefused ended read (items, error) × AreFewer view items × (packets ≡ packets_in items)
     × AreShown view items written
 
 -- what was written begins the lines of the packets at the front of what was read

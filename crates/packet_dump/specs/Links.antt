@@ -2,12 +2,12 @@
 use Rattle.std.specs.Prelude.{ℕ, ◌==◌, min, if◌then◌else◌, List, [], ◌∷◌, ◌++◌, take, Option, Some, None, codes}
 use Rattle.std.specs.Fmt.{decimal}
 use Rattle.std.specs.Int.{w64, to_be_bytes}
-use Rattle.ep_link.specs.LinkExtensions.{LinkExtension, vlan, macsec}
-use Rattle.ep_link.specs.LinkSlices.{LinkLayer, ethernet2, linux_sll, ether_payload, linux_sll_payload}
-use Rattle.ep_link.specs.declared.link.linux_sll_header.LinuxSllHeader.{LinuxSllHeader}
-use Rattle.ep_link.specs.declared.link_ext.macsec_header.MacsecHeader.{MacsecHeader}
-use Rattle.ep_link.specs.declared.link_ext.macsec_ptype.MacsecPType.{MacsecPType}
-use Rattle.ep_link.specs.declared.link_ext.macsec_ptype.MacsecPType.TheVariants.{Unmodified, Modified, Encrypted, EncryptedUnmodified}
+use Rattle.etherparse.specs.LinkExtensions.{LinkExtension, vlan, macsec}
+use Rattle.etherparse.specs.LinkSlices.{LinkLayer, ethernet2, linux_sll, ether_payload, linux_sll_payload}
+use Rattle.etherparse.specs.Types.LinuxSllHeader.{LinuxSllHeader}
+use Rattle.etherparse.specs.Types.MacsecHeader.{MacsecHeader}
+use Rattle.etherparse.specs.Types.MacsecPType.{MacsecPType}
+use Rattle.etherparse.specs.Types.MacsecPType.TheVariants.{Unmodified, Modified, Encrypted, EncryptedUnmodified}
 use Rattle.packet_dump.specs.Addresses.{hex_text, mac_text, octets_text}
 
 -- which way a packet of a Linux cooked capture went

@@ -1,12 +1,12 @@
 -- The text of net layers, a space before each.
 use Rattle.std.specs.Prelude.{ℕ, ◌*◌, ◌==◌, ◌&&◌, Bool, if◌then◌else◌, List, [], ◌∷◌, ◌++◌, length, Option, Some, None, codes}
 use Rattle.std.specs.Fmt.{decimal}
-use Rattle.ep_ext.specs.ExtensionParts.{ExtensionPart, hop_by_hop, destination_options, routing, fragment, authentication}
-use Rattle.ep_ip.specs.Ipv4.{is_ipv4_fragment}
-use Rattle.ep_ip.specs.declared.ipv4_header.Ipv4Header.{Ipv4Header}
-use Rattle.ep_ip.specs.declared.ipv6_header.Ipv6Header.{Ipv6Header}
-use Rattle.ep_link.specs.Arp.{Arp}
-use Rattle.ep_packet.specs.Layers.{NetLayer, ipv4, ipv6, arp}
+use Rattle.etherparse.specs.ExtensionParts.{ExtensionPart, hop_by_hop, destination_options, routing, fragment, authentication}
+use Rattle.etherparse.specs.Ipv4.{is_ipv4_fragment}
+use Rattle.etherparse.specs.Types.Ipv4Header.{Ipv4Header}
+use Rattle.etherparse.specs.Types.Ipv6Header.{Ipv6Header}
+use Rattle.etherparse.specs.Arp.{Arp}
+use Rattle.etherparse.specs.Layers.{NetLayer, ipv4, ipv6, arp}
 use Rattle.packet_dump.specs.Addresses.{ipv4_text, ipv6_text, octets_text}
 
 -- that more fragments follow, where they do

@@ -1,13 +1,13 @@
 -- The calls that packets make on the program's pool, whose timestamps, channels and values of drops are numbers.
 use Rattle.std.specs.Prelude.{◌≡◌, ℕ, nat_eq, nat_le, nat_lt, if◌then◌else◌, List, [], ◌∷◌, ◌++◌, Option}
 use Rattle.std.specs.Option.{option_map}
-use Rattle.ep_defrag.specs.declared.ip_defrag_pool.IpDefragPool.{IpDefragPool}
-use Rattle.ep_defrag.specs.declared.ip_frag_id.IpFragId.{IpFragId}
-use Rattle.ep_defrag.specs.Calls.{Call, gives_frame, drops_streams, Kept, table_after}
-use Rattle.ep_defrag.specs.Pools.{limit_of, HoldsTable}
-use Rattle.ep_defrag.specs.Streams.{packet_fragment}
-use Rattle.ep_packet.specs.Fragments.{fragment_of}
-use Rattle.ep_packet.specs.Layers.{Layers}
+use Rattle.etherparse.specs.Types.IpDefragPool.{IpDefragPool}
+use Rattle.etherparse.specs.Types.IpFragId.{IpFragId}
+use Rattle.etherparse.specs.Calls.{Call, gives_frame, drops_streams, Kept, table_after}
+use Rattle.etherparse.specs.Pools.{limit_of, HoldsTable}
+use Rattle.etherparse.specs.Streams.{packet_fragment}
+use Rattle.etherparse.specs.PacketFragments.{fragment_of}
+use Rattle.etherparse.specs.Layers.{Layers}
 
 -- a call of the program's pool
 abbrev pub NumberCall : Type 0

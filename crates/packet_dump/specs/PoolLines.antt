@@ -1,22 +1,21 @@
 -- What is written of payloads that are put together from fragments, and of fragments that the pool refuses.
 use Rattle.std.specs.Prelude.{◌≡◌, ℕ, ◌-◌, ◌*◌, ◌/◌, if◌then◌else◌, Bool, true, false, List, [], ◌∷◌, ◌++◌, Option, Some, None, codes}
-use Rattle.std.specs.Fmt.{decimal}
-use Rattle.ep_base.specs.Layer.{slices}
-use Rattle.ep_base.specs.declared.err.tcp.HeaderSliceError.{HeaderSliceError}
-use Rattle.ep_base.specs.declared.err.tcp.HeaderSliceError.TheVariants as header_error
-use Rattle.ep_defrag.specs.declared.ip_defrag_error.IpDefragError.{IpDefragError}
-use Rattle.ep_defrag.specs.Calls.{Answer, fragment_refused, payload_handed_out, nothing_handed_out, streams_dropped}
-use Rattle.ep_defrag.specs.Calls.{buffer_returned, answer_to}
-use Rattle.ep_defrag.specs.Texts.{error_text}
-use Rattle.ep_packet.specs.declared.err.slice_error.SliceError.{SliceError}
-use Rattle.ep_packet.specs.declared.err.slice_error.SliceError.TheVariants as slice_error
-use Rattle.ep_packet.specs.Layers.{Layers}
-use Rattle.ep_transport.specs.TransportParts.{TransportLayer, IsTransportPart, RefusesTransportPart, payload_in}
+use Rattle.etherparse.specs.Layer.{slices}
+use Rattle.etherparse.specs.Types.TcpHeaderSliceError.{HeaderSliceError}
+use Rattle.etherparse.specs.Types.TcpHeaderSliceError.TheVariants as header_error
+use Rattle.etherparse.specs.Types.IpDefragError.{IpDefragError}
+use Rattle.etherparse.specs.Calls.{Answer, fragment_refused, payload_handed_out, nothing_handed_out, streams_dropped}
+use Rattle.etherparse.specs.Calls.{buffer_returned, answer_to}
+use Rattle.etherparse.specs.Texts.{error_text}
+use Rattle.etherparse.specs.Types.SliceError.{SliceError}
+use Rattle.etherparse.specs.Types.SliceError.TheVariants as slice_error
+use Rattle.etherparse.specs.Layers.{Layers}
+use Rattle.etherparse.specs.TransportParts.{TransportLayer, IsTransportPart, RefusesTransportPart, payload_in}
 use Rattle.line_io.specs.Lines.{line_feed}
 use Rattle.packet_dump.specs.Contents.{Content, frame, refusal, other_link, bytes_text, header_kind, shows_kind}
-use Rattle.packet_dump.specs.Layers.{outer_text}
+use Rattle.packet_dump.specs.LayerTexts.{outer_text, protocol_text}
 use Rattle.packet_dump.specs.PoolCalls.{PoolHistory, frame_call, table_behind, with_call, with_sweep}
-use Rattle.packet_dump.specs.Refusals.{refusal_text}
+use Rattle.packet_dump.specs.RefusalTexts.{refusal_text}
 use Rattle.packet_dump.specs.Transports.{len_text, transport_text}
 use Rattle.packet_dump.specs.declared.view.Kind.{Kind}
 use Rattle.packet_dump.specs.declared.view.Kind.TheVariants.{Refused}
@@ -42,7 +41,7 @@ frame_error (header_error.Content error) = slice_error.Tcp error
 -- its text
 abbrev pub inner_text : ℕ → List ℕ → Inner → List ℕ
 inner_text number bytes (part (Some layer)) = transport_text layer
-inner_text number bytes (part None) = codes " protocol " ++ decimal number ++ len_text bytes
+inner_text number bytes (part None) = protocol_text number ++ len_text bytes
 inner_text number bytes (unread error) = refusal_text (frame_error error)
 
 -- its kind, where it is of one

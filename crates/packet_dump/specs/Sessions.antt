@@ -1,8 +1,8 @@
 -- What is known between two pieces of a capture.
-use Rattle.std.specs.Prelude.{◌≡◌, ℕ, ◌+◌, ◌≤◌, List, ◌++◌}
+use Rattle.std.specs.Prelude.{◌≡◌, ℕ, ◌+◌, ◌≤◌, Bool, true, List, ◌++◌}
 use Rattle.capture_reader.specs.Captures.{Item, IsCapture, PlainShown, RefusesCapture}
 use Rattle.capture_reader.specs.Readers.{Reads, reader_left, reader_offset}
-use Rattle.packet_dump.specs.Dumps.{AreAllTexts, Begin, IsLine, none_read, packets_in, progress_behind}
+use Rattle.packet_dump.specs.Dumps.{AreAllTexts, AreFewer, Begin, IsLine, none_read, packets_in, progress_behind}
 use Rattle.packet_dump.specs.PoolCalls.{HoldsHistory, PoolHistory}
 use Rattle.packet_dump.specs.Shown.{first_after, instant_in, latest_after}
 use Rattle.packet_dump.specs.declared.ending.Ending.{Ending}
@@ -38,12 +38,13 @@ taken_by session = reader_offset session.capture + reader_left session.capture
 abbrev pub Counts : Session → Type 0
 Counts session = session.number ≤ reader_offset session.capture
 
--- how a capture stands that ends behind these bytes, of which these items were read
+-- how a capture stands behind these bytes, of which these items were read
 abbrev pub StandsSo : View → Standing → List ℕ → List Item → Type 0
-StandsSo view MayEnd read items = IsCapture read items
+StandsSo view MayEnd read items = AreFewer view items × IsCapture read items
 StandsSo view Enough read items = Begin read items × (packets_in items ≡ view.most)
-StandsSo view (Cut error) read items = RefusesCapture read (items, error)
-StandsSo view (Refused error) read items = RefusesCapture read (items, error)
+StandsSo view (Cut error) read items = AreFewer view items × RefusesCapture read (items, error)
+StandsSo view (Refused error) read items =
+    AreFewer view items × ((more : List ℕ) → RefusesCapture (read ++ more) (items, error))
 
 -- more items were read, and their text was put together
 pub record Drained (view : View) (session : Session) (read : List ℕ) (items : List Item) (text : List ℕ) : Type 0 where
@@ -69,6 +70,13 @@ pub record PushesLine (old new : Session) (before : PoolHistory) (shown : PlainS
   pub number : new.number ≡ old.number + 1
   pub first : new.first ≡ first_after old.first (instant_in shown)
   pub latest : new.latest ≡ latest_after old.latest (instant_in shown)
+
+-- whether a run ends where the capture stands so, and its reader has ended or has not
+abbrev pub ends_run : Standing → Bool → Bool
+ends_run MayEnd ended = ended
+ends_run Enough ended = true
+ends_run (Cut error) ended = ended
+ends_run (Refused error) ended = true
 
 -- how a run ends where the capture stands so and so many packets were read
 abbrev pub ending_of : Standing → ℕ → Ending

@@ -1,11 +1,11 @@
 -- The text of transport layers, a space before each.
 use Rattle.std.specs.Prelude.{ℕ, Bool, if◌then◌else◌, List, [], ◌∷◌, ◌++◌, length, codes}
 use Rattle.std.specs.Fmt.{decimal}
-use Rattle.ep_transport.specs.declared.tcp_header.TcpHeader.{TcpHeader}
-use Rattle.ep_transport.specs.declared.transport_header.TransportHeader.{TransportHeader}
-use Rattle.ep_transport.specs.declared.transport_header.TransportHeader.TheVariants as header
-use Rattle.ep_transport.specs.TransportParts.{TransportLayer}
-use Rattle.packet_dump.specs.Icmp.{icmpv4_text, icmpv6_text}
+use Rattle.etherparse.specs.Types.TcpHeader.{TcpHeader}
+use Rattle.etherparse.specs.Types.TransportHeader.{TransportHeader}
+use Rattle.etherparse.specs.Types.TransportHeader.TheVariants as header
+use Rattle.etherparse.specs.TransportParts.{TransportLayer}
+use Rattle.packet_dump.specs.IcmpTexts.{icmpv4_text, icmpv6_text}
 
 -- the length of a payload
 abbrev pub len_text : List ℕ → List ℕ

@@ -1,7 +1,7 @@
 //! How a run ends.
 
 ghost use Rattle.std.specs.Prelude.{◌≡◌};
-ghost use Rattle.packet_dump.specs.Texts.{run_error_text};
+ghost use Rattle.packet_dump.specs.ErrorTexts.{run_error_text};
 
 use capture_reader::CaptureError;
 use line_io::RunError;

@@ -1,12 +1,13 @@
 //! From a capture in a reader to lines in a writer.
 
-ghost use Rattle.std.specs.Prelude.{◌≡◌, ◌≤◌, ◌<◌, ◌*◌, ◌+◌, ◌^◌, ◌↔◌, false, true, length, IfOk, OnErr};
+ghost use Rattle.std.specs.Prelude.{◌≡◌, ◌≤◌, ◌<◌, ◌*◌, ◌+◌, ◌^◌, ◌⊎◌, ◌↔◌, false, true, length, IfOk, OnErr, OnOk};
+ghost use Rattle.std.specs.Io.KnownBytes.{IsAtEnd};
 ghost use Rattle.line_io.specs.Transfers.{Transfers};
-ghost use Rattle.line_io.specs.WatchedWords.{has_ended, has_failed, reads_left};
+ghost use Rattle.line_io.specs.WatchedWords.{has_ended, has_failed, inner_of, reads_left};
 ghost use Rattle.packet_dump.specs.Dumps.{BeginsDump, IsDump};
 
 use crate::ending::Ending;
-use crate::session::{Session, Standing};
+use crate::session::Session;
 use crate::summary::Summary;
 use crate::view::View;
 use line_io::{RunError, Watched, zeros};
@@ -37,10 +38,14 @@ pub fn run<R: Read, W: Write>(
     requires writer_sound { has_failed writer.old ≡ false }
 
     // What was written is the lines of what was read, and at an error begins them.
-    ensures ok { IfOk result (λ ending. Transfers (IsDump view ending) R.remaining reader.old reader.new
-        W.contents writer.old writer.new) }
+    ensures ok { IfOk result (λ ending. Transfers (IsDump view (has_ended reader.new) ending)
+        R.remaining reader.old reader.new W.contents writer.old writer.new) }
     ensures err { OnErr result (Transfers (BeginsDump view) R.remaining reader.old reader.new
         W.contents writer.old writer.new) }
+
+    // A reader that has ended was read to its end, but where it still gives bytes after that many reads.
+    ensures whole { OnOk result (has_ended reader.new ≡ true →
+        IsAtEnd (R.remaining (inner_of reader.new)) ⊎ (reads_left reader.new ≡ 0)) }
 
     // The error says which of the two failed.
     ensures read { (result ≡ Err RunError.Read) ↔ (has_failed reader.new ≡ true) }
@@ -52,7 +57,7 @@ pub fn run<R: Read, W: Write>(
     'pieces: loop {
         let standing = session.drain(summary)?;
         writer.write_all(session.output.as_slice())?;
-        if reader.ended() || matches!(standing, Standing::Enough | Standing::Refused(_)) {
+        if standing.ends_run(reader.ended()) {
             let ending = session.ending(standing);
             session.count_pool(summary);
             return Ok(ending);

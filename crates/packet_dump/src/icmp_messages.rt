@@ -2,13 +2,13 @@
 
 ghost use Rattle.std.specs.Prelude.{◌≡◌, ◌++◌, OnOk};
 ghost use Rattle.std.specs.Option.{option_copied};
-ghost use Rattle.packet_dump.specs.Icmp.{code_text, echo_text, exceeded_name, icmpv4_code_name, icmpv4_content_text};
-ghost use Rattle.packet_dump.specs.Icmp.{icmpv4_redirect_name, icmpv4_text, icmpv4_type_name, icmpv4_unreachable_name};
-ghost use Rattle.packet_dump.specs.Icmp.{icmpv6_code_name, icmpv6_content_text, icmpv6_text, icmpv6_type_name};
-ghost use Rattle.packet_dump.specs.Icmp.{icmpv6_unreachable_name, type_text};
+ghost use Rattle.packet_dump.specs.IcmpTexts.{code_text, echo_text, exceeded_name, icmpv4_code_name, icmpv4_content_text};
+ghost use Rattle.packet_dump.specs.IcmpTexts.{icmpv4_redirect_name, icmpv4_text, icmpv4_type_name, icmpv4_unreachable_name};
+ghost use Rattle.packet_dump.specs.IcmpTexts.{icmpv6_code_name, icmpv6_content_text, icmpv6_text, icmpv6_type_name};
+ghost use Rattle.packet_dump.specs.IcmpTexts.{icmpv6_unreachable_name, type_text};
 
 use crate::addresses::push_ipv4;
-use ep_transport::{IcmpEchoHeader, Icmpv4Type, Icmpv6Type};
+use etherparse::{IcmpEchoHeader, Icmpv4Type, Icmpv6Type};
 use line_io::decimals;
 use std::alloc::AllocError;
 

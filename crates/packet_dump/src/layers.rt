@@ -2,18 +2,17 @@
 
 ghost use Rattle.std.specs.Prelude.{◌≡◌, ◌++◌, OnOk};
 ghost use Rattle.std.specs.Option.{option_copied, option_map};
-ghost use Rattle.ep_base.specs.IpPayload.{ip_payload_of};
-ghost use Rattle.ep_packet.specs.FrameBytes.{last_payload};
-ghost use Rattle.ep_packet.specs.Layers.{layers_of};
-ghost use Rattle.ep_packet.specs.Payloads.{payload_ether_type_in};
-ghost use Rattle.packet_dump.specs.Layers.{ether_type_text, ip_payload_text, layers_text, outer_text, unread_text};
+ghost use Rattle.etherparse.specs.IpPayload.{ip_payload_of};
+ghost use Rattle.etherparse.specs.FrameBytes.{last_payload};
+ghost use Rattle.etherparse.specs.Layers.{layers_of};
+ghost use Rattle.etherparse.specs.Payloads.{payload_ether_type_in};
+ghost use Rattle.packet_dump.specs.LayerTexts.{ether_type_text, ip_payload_text, layers_text, name_text, outer_text, protocol_text, unread_text};
 
 use crate::addresses::push_hex;
 use crate::links::{push_extensions, push_link};
 use crate::nets::push_net;
 use crate::transports::{push_len, push_transport};
-use ep_base::{EtherType, IpPayloadSlice};
-use ep_packet::SlicedPacket;
+use etherparse::{EtherType, IpNumber, IpPayloadSlice, SlicedPacket};
 use line_io::decimals;
 use std::alloc::AllocError;
 
@@ -51,7 +50,7 @@ fn push_unread(output: &mut Vec<u8>, packet: &SlicedPacket<'_>) -> Result<(), Al
     }
 }
 
-/// Appends the protocol number and the length of the payload of an IP packet.
+/// Appends the protocol and the length of the payload of an IP packet.
 fn push_ip_payload(
     output: &mut Vec<u8>,
     payload: Option<&IpPayloadSlice<'_>>,
@@ -62,11 +61,19 @@ fn push_ip_payload(
     let Some(payload) = payload else {
         return Ok(());
     };
-    decimals::push_behind(output, b" protocol ", u64::from(payload.ip_number.0))?;
+    push_protocol(output, payload.ip_number)?;
     push_len(output, payload.payload)
 }
 
-/// Appends an ether type, where it is known.
+/// Appends a protocol number, and its name where it has one.
+pub fn push_protocol(output: &mut Vec<u8>, number: IpNumber) -> Result<(), AllocError>
+    ensures { OnOk result (output.new.items ≡ output.old.items ++ protocol_text number.0) }
+{
+    decimals::push_behind(output, b" protocol ", u64::from(number.0))?;
+    push_name(output, number.name())
+}
+
+/// Appends an ether type, where it is known, and its name where it has one.
 fn push_ether_type(output: &mut Vec<u8>, ether_type: Option<EtherType>) -> Result<(), AllocError>
     ensures { OnOk result (output.new.items ≡ output.old.items ++ ether_type_text ether_type) }
 {
@@ -74,5 +81,17 @@ fn push_ether_type(output: &mut Vec<u8>, ether_type: Option<EtherType>) -> Resul
         return Ok(());
     };
     output.extend_from_slice(b" type 0x")?;
-    push_hex(output, &ether_type.0.to_be_bytes())
+    push_hex(output, &ether_type.0.to_be_bytes())?;
+    push_name(output, ether_type.name())
+}
+
+/// Appends the name of a number, where it has one.
+fn push_name(output: &mut Vec<u8>, name: Option<&str>) -> Result<(), AllocError>
+    ensures { OnOk result (output.new.items ≡ output.old.items ++ name_text (option_copied name.entry)) }
+{
+    let Some(name) = name else {
+        return Ok(());
+    };
+    output.push(b' ')?;
+    output.extend_from_slice(name.as_bytes())
 }

@@ -3,7 +3,7 @@
 ghost use Rattle.std.specs.Prelude.{◌≡◌, ◌<◌, ◌++◌, ℕ, IsTrue, List, OnOk};
 ghost use Rattle.capture_reader.specs.Classic.{knows_link};
 ghost use Rattle.capture_reader.specs.Readers.{shown_of};
-ghost use Rattle.ep_packet.specs.Layers.{layers_of};
+ghost use Rattle.etherparse.specs.Layers.{layers_of};
 ghost use Rattle.packet_dump.specs.Contents.{bytes_text, entry_of, frame, in_row_text, other_link, refusal};
 ghost use Rattle.packet_dump.specs.Contents.{row_start, rows_text};
 ghost use Rattle.packet_dump.specs.Dumps.{IsLine};
@@ -21,8 +21,8 @@ use crate::shown::{instant_of, is_fine};
 use crate::summary::Summary;
 use crate::view::{Kind, View};
 use capture_reader::{Shown, Time, knows_link};
-use ep_packet::err::SliceError;
-use ep_packet::{Entry, SlicedPacket};
+use etherparse::err::packet::SliceError;
+use etherparse::{Entry, SlicedPacket};
 use line_io::decimals;
 use std::alloc::AllocError;
 

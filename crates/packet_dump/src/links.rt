@@ -2,15 +2,15 @@
 
 ghost use Rattle.std.specs.Prelude.{◌≡◌, ◌++◌, OnOk, map};
 ghost use Rattle.std.specs.Option.{option_map};
-ghost use Rattle.ep_link.specs.LinkExtensions.{link_extension_of};
-ghost use Rattle.ep_link.specs.LinkSlices.{link_layer_of};
-ghost use Rattle.ep_link.specs.LinuxSllSlices.{linux_sll_slice_header};
-ghost use Rattle.ep_link.specs.MacsecSlices.{macsec_slice_header};
+ghost use Rattle.etherparse.specs.LinkExtensions.{link_extension_of};
+ghost use Rattle.etherparse.specs.LinkSlices.{link_layer_of};
+ghost use Rattle.etherparse.specs.LinuxSllSlices.{linux_sll_slice_header};
+ghost use Rattle.etherparse.specs.MacsecSlices.{macsec_slice_header};
 ghost use Rattle.packet_dump.specs.Links.{change_text, channel_text, extension_text, extensions_text, link_text};
 ghost use Rattle.packet_dump.specs.Links.{macsec_text, sender_text, sll_text, way_name};
 
 use crate::addresses::{push_hex, push_mac, push_octets};
-use ep_link::{LinkExtSlice, LinkSlice, LinuxSllSlice, MacsecPType, MacsecSlice};
+use etherparse::{LinkExtSlice, LinkSlice, LinuxSllSlice, MacsecPType, MacsecSlice};
 use line_io::decimals;
 use std::alloc::AllocError;
 

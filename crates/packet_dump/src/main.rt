@@ -5,6 +5,10 @@
 //! of it was kept where that is not all. `packet_dump --help` lists the options.
 #![tactic(auto)]
 
+ghost use Rattle.std.specs.Prelude.{◌≡◌};
+ghost use Rattle.std.specs.Process.{exit_status};
+ghost use Rattle.packet_dump.specs.ErrorTexts.{status_of};
+
 mod addresses;
 pub mod ending;
 pub mod engine;
@@ -101,13 +105,17 @@ fn printed(rt: &impl Print, text: &str) -> ExitCode {
 }
 
 /// Says a line on standard error, and ends with a status.
-fn said(rt: &impl Eprint, line: &str, status: u8) -> ExitCode {
+fn said(rt: &impl Eprint, line: &str, status: u8) -> ExitCode
+    ensures { exit_status result ≡ status }
+{
     let _ = rt.eprintln(line);
     ExitCode::from(status)
 }
 
 /// Says what is wrong with the command line, and ends.
-fn refused(rt: &impl Eprint, error: &UsageError<'_>) -> ExitCode {
+fn refused(rt: &impl Eprint, error: &UsageError<'_>) -> ExitCode
+    ensures { exit_status result ≡ 2 }
+{
     let _ = match error {
         UsageError::UnknownOption(word) => eprintln!(rt; "packet_dump: no option {word}"),
         UsageError::NoValue(option) => eprintln!(rt; "packet_dump: {option} needs a value"),
@@ -181,7 +189,9 @@ fn summarized(rt: &HostRuntime, summary: &Summary) -> bool {
 }
 
 /// How the program ends after a run.
-fn ended(rt: &impl Eprint, outcome: Result<Ending, RunError>) -> ExitCode {
+fn ended(rt: &impl Eprint, outcome: Result<Ending, RunError>) -> ExitCode
+    ensures { exit_status result ≡ status_of outcome }
+{
     match outcome {
         Ok(Ending::Whole | Ending::Enough) => ExitCode::SUCCESS,
         Ok(Ending::Broken { packets, error }) => {

@@ -2,21 +2,21 @@
 
 ghost use Rattle.std.specs.Prelude.{◌≡◌, ◌++◌, OnOk, Some};
 ghost use Rattle.std.specs.Option.{option_map};
-ghost use Rattle.ep_ext.specs.Ipv4Chains.{ipv4_slice_parts};
-ghost use Rattle.ep_ext.specs.Ipv6Slices.{extension_slice_part, ipv6_slice_parts};
-ghost use Rattle.ep_ip.specs.Ipv4Slices.{ipv4_header_slice_header};
-ghost use Rattle.ep_ip.specs.Ipv6Slices.{ipv6_header_slice_header};
-ghost use Rattle.ep_link.specs.ArpSlices.{arp_slice_packet};
-ghost use Rattle.ep_packet.specs.Layers.{net_layer_of};
+ghost use Rattle.etherparse.specs.Ipv4Chains.{ipv4_slice_parts};
+ghost use Rattle.etherparse.specs.Ipv6ExtensionSlices.{extension_slice_part, ipv6_slice_parts};
+ghost use Rattle.etherparse.specs.Ipv4Slices.{ipv4_header_slice_header};
+ghost use Rattle.etherparse.specs.Ipv6Slices.{ipv6_header_slice_header};
+ghost use Rattle.etherparse.specs.ArpSlices.{arp_slice_packet};
+ghost use Rattle.etherparse.specs.Layers.{net_layer_of};
 ghost use Rattle.packet_dump.specs.Nets.{arp_text, fragment_text, ipv4_fragment_text, ipv4_header_text, ipv6_header_text};
 ghost use Rattle.packet_dump.specs.Nets.{more_text, net_text, part_text, parts_text, protocol_address_text};
 ghost use Rattle.packet_dump.specs.Nets.{operation_text, reply_text, who_has_text};
 
 use crate::addresses::{push_ipv4, push_ipv6, push_octets};
-use ep_ext::{Ipv4ExtensionsSlice, Ipv6ExtensionSlice, Ipv6ExtensionsSlice};
-use ep_ip::{Ipv4HeaderSlice, Ipv4Slice, Ipv6HeaderSlice, Ipv6Slice};
-use ep_link::ArpPacketSlice;
-use ep_packet::NetSlice;
+use etherparse::{
+    ArpPacketSlice, Ipv4ExtensionsSlice, Ipv4HeaderSlice, Ipv4Slice, Ipv6ExtensionSlice,
+    Ipv6ExtensionsSlice, Ipv6HeaderSlice, Ipv6Slice, NetSlice,
+};
 use line_io::decimals;
 use std::alloc::AllocError;
 

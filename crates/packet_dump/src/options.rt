@@ -33,7 +33,7 @@ pub enum UsageError<'a> {
     NotATimeout(&'a str),
     /// The word behind `--limit` is no number of bytes, of at most 65535.
     NotALimit(&'a str),
-    /// A second file is named.
+    /// A second file is named, or standard input beside one.
     SecondFile(&'a str),
 }
 
@@ -69,6 +69,7 @@ pub fn parse(words: &[String]) -> Result<Request<'_>, UsageError<'_>> {
         limit: u16::MAX,
     };
     let mut path = None;
+    let mut is_named = false;
     let mut summary = false;
     let mut awaited = None;
     for word in words {
@@ -88,10 +89,15 @@ pub fn parse(words: &[String]) -> Result<Request<'_>, UsageError<'_>> {
                 "--only" => awaited = Some(Awaited::Only),
                 "--timeout" => awaited = Some(Awaited::Timeout),
                 "--limit" => awaited = Some(Awaited::Limit),
-                "-" => path = None,
-                _ if text.starts_with("-") => return Err(UsageError::UnknownOption(text)),
-                _ if path.is_some() => return Err(UsageError::SecondFile(text)),
-                _ => path = Some(text),
+                _ if text.starts_with("-") && text != "-" => {
+                    return Err(UsageError::UnknownOption(text));
+                }
+                _ if is_named => return Err(UsageError::SecondFile(text)),
+                "-" => is_named = true,
+                _ => {
+                    path = Some(text);
+                    is_named = true;
+                }
             },
         }
     }

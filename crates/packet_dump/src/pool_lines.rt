@@ -3,29 +3,26 @@
 ghost use Rattle.std.specs.Prelude.{◌≡◌, ◌++◌, ℕ, IfOk, IsFalse, List, OnOk};
 ghost use Rattle.std.specs.Option.{option_map};
 ghost use Rattle.capture_reader.specs.Readers.{shown_of};
-ghost use Rattle.ep_defrag.specs.Pools.{plain_frame_answer, wants_memory};
-ghost use Rattle.ep_defrag.specs.Refusals.{is_want_of_memory};
-ghost use Rattle.ep_defrag.specs.Texts.{error_text};
-ghost use Rattle.ep_packet.specs.Layers.{layers_of};
-ghost use Rattle.ep_transport.specs.TransportParts.{payload_in, transport_layer_of};
+ghost use Rattle.etherparse.specs.Pools.{plain_frame_answer, wants_memory};
+ghost use Rattle.etherparse.specs.DefragRefusals.{is_want_of_memory};
+ghost use Rattle.etherparse.specs.Texts.{error_text};
+ghost use Rattle.etherparse.specs.Layers.{layers_of};
+ghost use Rattle.etherparse.specs.TransportParts.{payload_in, transport_layer_of};
 ghost use Rattle.packet_dump.specs.PacketLines.{start_text};
 ghost use Rattle.packet_dump.specs.PoolLines.{Inner, IsAnswerText, IsInner, closing_text, frame_error, inner_text};
 ghost use Rattle.packet_dump.specs.PoolLines.{opening_text, part, payload_line, payload_text, pool_refusal_text};
 ghost use Rattle.packet_dump.specs.PoolLines.{refused_line, unread, unread_text};
 
-use crate::layers::push_outer;
+use crate::layers::{push_outer, push_protocol};
 use crate::lines::{push_rows, push_start};
 use crate::refusals::push_refusal;
 use crate::transports::{push_len, push_transport};
 use crate::view::{Kind, View};
 use capture_reader::Shown;
-use ep_base::IpNumber;
-use ep_base::err::tcp::HeaderSliceError;
-use ep_defrag::{IpDefragError, IpDefragPayloadVec};
-use ep_packet::SlicedPacket;
-use ep_packet::err::SliceError;
-use ep_transport::TransportSlice;
-use line_io::decimals;
+use etherparse::defrag::{IpDefragError, IpDefragPayloadVec};
+use etherparse::err::packet::SliceError;
+use etherparse::err::tcp::HeaderSliceError;
+use etherparse::{IpNumber, SlicedPacket, TransportSlice};
 use std::alloc::{AllocError, Global};
 
 /// Appends what the pool answered to a frame: the line of a payload that was put together, or of a fragment that is
@@ -156,7 +153,7 @@ fn push_part_said(
     push_part_text(output, number, bytes, transport)
 }
 
-/// Appends the text of a transport layer, or else the protocol number and the length of the payload.
+/// Appends the text of a transport layer, or else the protocol and the length of the payload.
 fn push_part_text(
     output: &mut Vec<u8>,
     number: IpNumber,
@@ -169,7 +166,7 @@ fn push_part_text(
     match transport {
         Some(transport) => push_transport(output, transport),
         None => {
-            decimals::push_behind(output, b" protocol ", u64::from(number.0))?;
+            push_protocol(output, number)?;
             push_len(output, bytes)
         }
     }

@@ -2,8 +2,8 @@
 
 ghost use Rattle.std.specs.Prelude.{◌≡◌, ◌++◌, nat_le, ℕ, List, OnOk};
 ghost use Rattle.capture_reader.specs.Readers.{shown_of};
-ghost use Rattle.ep_defrag.specs.Calls.{drops_streams};
-ghost use Rattle.ep_packet.specs.Layers.{layers_of};
+ghost use Rattle.etherparse.specs.Calls.{drops_streams};
+ghost use Rattle.etherparse.specs.Layers.{layers_of};
 ghost use Rattle.packet_dump.specs.PacketLines.{start_text};
 ghost use Rattle.packet_dump.specs.PoolCalls.{HoldsHistory, PoolHistory, frame_call, new_pool, with_call, with_sweep};
 ghost use Rattle.packet_dump.specs.PoolLines.{GivesFrame, IsCallText, oldest_from};
@@ -12,8 +12,8 @@ ghost use Rattle.packet_dump.specs.Sessions.{HoldsPooling};
 use crate::pool_lines::push_answer;
 use crate::view::View;
 use capture_reader::Shown;
-use ep_defrag::{IpDefragError, IpDefragPayloadVec, IpDefragPool};
-use ep_packet::SlicedPacket;
+use etherparse::SlicedPacket;
+use etherparse::defrag::{IpDefragError, IpDefragPayloadVec, IpDefragPool};
 use std::alloc::{AllocError, Global};
 use std::cell::Cell;
 

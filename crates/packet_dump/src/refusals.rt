@@ -1,10 +1,10 @@
 //! The text of a refusal.
 
 ghost use Rattle.std.specs.Prelude.{◌≡◌, ◌++◌, OnOk};
-ghost use Rattle.packet_dump.specs.Refusals.{len_error_text, limit_text, needed_text, reason_text, refusal_text};
+ghost use Rattle.packet_dump.specs.RefusalTexts.{len_error_text, limit_text, needed_text, reason_text, refusal_text};
 
-use ep_base::err::{LenError, ip, ip_auth, ipv4, ipv6, ipv6_exts, linux_sll, macsec, tcp};
-use ep_packet::err::SliceError;
+use etherparse::err::packet::SliceError;
+use etherparse::err::{LenError, ip, ip_auth, ipv4, ipv6, ipv6_exts, linux_sll, macsec, tcp};
 use line_io::decimals;
 use std::alloc::AllocError;
 

@@ -5,7 +5,8 @@ ghost use Rattle.capture_reader.specs.Captures.{Item};
 ghost use Rattle.capture_reader.specs.Readers.{reader_shown};
 ghost use Rattle.packet_dump.specs.Dumps.{AreAllTexts};
 ghost use Rattle.packet_dump.specs.PoolCalls.{PoolHistory, new_pool};
-ghost use Rattle.packet_dump.specs.Sessions.{Counts, Drains, HoldsPooling, PushesLine, Stands, ending_of, taken_by};
+ghost use Rattle.packet_dump.specs.Sessions.{Counts, Drains, HoldsPooling, PushesLine, Stands, ending_of, ends_run};
+ghost use Rattle.packet_dump.specs.Sessions.{taken_by};
 ghost use Rattle.packet_dump.specs.declared.view.View.{View};
 
 use crate::ending::Ending;
@@ -28,6 +29,18 @@ pub enum Standing {
     Cut(CaptureError),
     /// It is refused, whatever follows.
     Refused(CaptureError),
+}
+
+impl Standing {
+    /// Whether a run ends there, whose reader has ended or has not.
+    pub fn ends_run(self, ended: bool) -> bool
+        ensures { result ≡ ends_run self ended }
+    {
+        match self {
+            Standing::MayEnd | Standing::Cut(_) => ended,
+            Standing::Enough | Standing::Refused(_) => true,
+        }
+    }
 }
 
 /// The reader of a capture, how many packets it read, when the first and the last came, and the pool of fragments.

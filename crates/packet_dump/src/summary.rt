@@ -2,11 +2,9 @@
 
 use crate::pooling::Pooling;
 use capture_reader::Shown;
-use ep_base::err::{ip, ip_auth, ipv4, ipv6_exts, linux_sll, macsec};
-use ep_link::{LinkExtSlice, LinkSlice};
-use ep_packet::err::SliceError;
-use ep_packet::{NetSlice, SlicedPacket};
-use ep_transport::TransportSlice;
+use etherparse::err::packet::SliceError;
+use etherparse::err::{ip, ip_auth, ipv4, ipv6_exts, linux_sll, macsec};
+use etherparse::{LinkExtSlice, LinkSlice, NetSlice, SlicedPacket, TransportSlice};
 use std::alloc::{AllocError, Global};
 
 /// How many frames had each layer; a link extension counts each time that it stands in a frame.
@@ -79,9 +77,11 @@ impl Summary {
 
     /// Counts a packet that was read.
     pub fn count_packet(&mut self, shown: &Shown<'_>) {
-        more(&mut self.packets, 1);
-        more(&mut self.kept, shown.bytes.len() as u64);
-        more(&mut self.original, u64::from(shown.original_len));
+        if self.wanted {
+            more(&mut self.packets, 1);
+            more(&mut self.kept, shown.bytes.len() as u64);
+            more(&mut self.original, u64::from(shown.original_len));
+        }
     }
 
     /// Counts the layers of a frame.

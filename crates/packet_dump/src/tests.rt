@@ -1,12 +1,12 @@
-//! What no contract says: that calls succeed where there is memory, and what comes of readers and writers that move
-//! little or fail, and of captures that are cut.
+//! What no contract says: that calls succeed where there is memory, whatever is shown, and what comes of readers and
+//! writers that move little or fail, and of captures that are cut.
 
 ghost use Rattle.std.specs.Prelude.{◌≤◌, IfOk};
 
 use crate::ending::Ending;
 use crate::engine::{MOST_READS, run};
 use crate::summary::Summary;
-use crate::view::View;
+use crate::view::{Kind, View};
 use line_io::{RunError, Watched};
 use std::alloc::Global;
 use std::io;
@@ -24,8 +24,8 @@ const CAPTURE: &[u8] = b"\xd4\xc3\xb2\xa1\x02\0\x04\0\0\0\0\0\0\0\0\0\xff\xff\0\
 
 /// Its lines.
 const LINES: &[u8] = b"1 0.000000 ipv4 192.168.1.1 > 192.168.1.2 udp 21 > 1234 len 4\n\
-    2 0.000001 ipv4 192.168.1.1 > 192.168.1.2 fragment id 7 offset 0 more protocol 17 len 16\n\
-    3 0.000002 ipv4 192.168.1.1 > 192.168.1.2 fragment id 7 offset 16 protocol 17 len 4\n\
+    2 0.000001 ipv4 192.168.1.1 > 192.168.1.2 fragment id 7 offset 0 more protocol 17 UDP len 16\n\
+    3 0.000002 ipv4 192.168.1.1 > 192.168.1.2 fragment id 7 offset 16 protocol 17 UDP len 4\n\
     3 0.000002 ipv4 192.168.1.1 > 192.168.1.2 fragment id 7 offset 16 reassembled udp 21 > 1234 len 12\n";
 
 /// What is shown of it.
@@ -86,6 +86,7 @@ impl Write for Target {
 /// Runs between the two, and answers how the run ends and what was written.
 fn run_between(
     alloc: Global,
+    view: View,
     source: Source,
     most: usize,
     room: usize,
@@ -98,7 +99,7 @@ fn run_between(
     let mut summary = Summary::new(alloc, true);
     let mut reader = Watched::new(source, MOST_READS);
     let mut writer = Watched::new(&mut target, 0);
-    let outcome = run(alloc, VIEW, &mut summary, &mut reader, &mut writer);
+    let outcome = run(alloc, view, &mut summary, &mut reader, &mut writer);
     (outcome, target.bytes)
 }
 
@@ -109,7 +110,7 @@ fn assert_whole(rt: &impl Abort, alloc: Global, most: usize) {
         most,
         fails: false,
     };
-    let (outcome, written) = run_between(alloc, source, most, usize::MAX);
+    let (outcome, written) = run_between(alloc, VIEW, source, most, usize::MAX);
     assert!(rt; matches!(outcome, Ok(Ending::Whole)));
     assert_eq!(rt; written.as_slice(), LINES);
 }
@@ -128,7 +129,7 @@ fn assert_reader_fails(rt: &impl Abort, alloc: Global, front: &'static [u8]) {
         most: usize::MAX,
         fails: true,
     };
-    let (outcome, written) = run_between(alloc, source, usize::MAX, usize::MAX);
+    let (outcome, written) = run_between(alloc, VIEW, source, usize::MAX, usize::MAX);
     assert!(rt; matches!(outcome, Err(RunError::Read)));
     assert!(rt; LINES.starts_with(written.as_slice()));
 }
@@ -147,7 +148,7 @@ fn assert_writer_fails(rt: &impl Abort, alloc: Global, room: usize) {
         most: usize::MAX,
         fails: false,
     };
-    let (outcome, written) = run_between(alloc, source, usize::MAX, room);
+    let (outcome, written) = run_between(alloc, VIEW, source, usize::MAX, room);
     assert!(rt; matches!(outcome, Err(RunError::Write)));
     assert!(rt; Some(written.as_slice()) == LINES.get(..room));
 }
@@ -179,7 +180,7 @@ fn assert_cut(rt: &impl Abort, alloc: Global, len: usize, wanted: u64, offset: u
         most: usize::MAX,
         fails: false,
     };
-    let (outcome, written) = run_between(alloc, source, usize::MAX, usize::MAX);
+    let (outcome, written) = run_between(alloc, VIEW, source, usize::MAX, usize::MAX);
     let told = match outcome {
         Ok(Ending::Broken { packets, error }) => packets == wanted && error.offset == offset,
         _ => false,
@@ -193,4 +194,111 @@ fn tells_where_it_is_cut(rt: HostRuntime) {
     for (len, packets, offset) in CUTS {
         assert_cut(&rt, rt.alloc(), len, packets, offset);
     }
+}
+
+/// The lines of the capture with their bytes.
+const BYTES_LINES: &[u8] =
+    b"1 0.000000 ipv4 192.168.1.1 > 192.168.1.2 udp 21 > 1234 len 4\n    000000 61 62 63 64\n\
+    2 0.000001 ipv4 192.168.1.1 > 192.168.1.2 fragment id 7 offset 0 more protocol 17 UDP len 16\n    \
+    000000 00 15 04 d2 00 14 00 00 61 62 63 64 65 66 67 68\n\
+    3 0.000002 ipv4 192.168.1.1 > 192.168.1.2 fragment id 7 offset 16 protocol 17 UDP len 4\n    000000 69 6a 6b 6c\n\
+    3 0.000002 ipv4 192.168.1.1 > 192.168.1.2 fragment id 7 offset 16 reassembled udp 21 > 1234 len 12\n    \
+    000000 61 62 63 64 65 66 67 68 69 6a 6b 6c\n";
+
+/// Those of datagrams alone.
+const UDP_LINES: &[u8] = b"1 0.000000 ipv4 192.168.1.1 > 192.168.1.2 udp 21 > 1234 len 4\n\
+    3 0.000002 ipv4 192.168.1.1 > 192.168.1.2 fragment id 7 offset 16 reassembled udp 21 > 1234 len 12\n";
+
+/// That of the first packet.
+const FIRST_LINE: &[u8] = b"1 0.000000 ipv4 192.168.1.1 > 192.168.1.2 udp 21 > 1234 len 4\n";
+
+/// A Linux cooked capture of the same datagram.
+const COOKED: &[u8] = b"\xd4\xc3\xb2\xa1\x02\0\x04\0\0\0\0\0\0\0\0\0\xff\xff\0\0\x71\0\0\0\
+    \x10\0\0\0\0\0\0\0\x30\0\0\0\x30\0\0\0\
+    \0\x04\0\x01\0\x06\x02\0\0\0\0\x01\0\0\x08\0\
+    \x45\0\0\x20\0\x07\0\0\x40\x11\xf7\x72\xc0\xa8\x01\x01\xc0\xa8\x01\x02\0\x15\x04\xd2\0\x0c\0\0abcd";
+
+/// Its line.
+const COOKED_LINE: &[u8] =
+    b"1 0.000000 sll outgoing from 02:00:00:00:00:01 ipv4 192.168.1.1 > 192.168.1.2 \
+    udp 21 > 1234 len 4\n";
+
+/// A packet of IPv6 with three kinds of extension headers and no payload, in nanoseconds.
+const CHAIN: &[u8] = b"\x4d\x3c\xb2\xa1\x02\0\x04\0\0\0\0\0\0\0\0\0\xff\xff\0\0\xe5\0\0\0\
+    \x10\0\0\0\0\0\0\0\x44\0\0\0\x44\0\0\0\
+    \x60\0\0\0\0\x1c\x2b\x40\0\0\0\0\0\0\0\0\0\0\0\0\0\0\0\x01\0\0\0\0\0\0\0\0\0\0\0\0\0\0\0\x02\
+    \x3c\0\0\0\0\0\0\0\x33\0\x01\x04\0\0\0\0\x3b\x01\0\0\0\0\0\x01\0\0\0\x01";
+
+/// Its line.
+const CHAIN_LINE: &[u8] =
+    b"1 0.000000000 ipv6 ::1 > ::2 routing destination-options authentication \
+    protocol 59 len 0\n";
+
+/// What is shown of a capture, and whether as many packets were read as are wanted.
+fn assert_shown(
+    rt: &impl Abort,
+    alloc: Global,
+    view: View,
+    capture: &'static [u8],
+    is_enough: bool,
+    lines: &[u8],
+) {
+    let source = Source {
+        rest: capture,
+        most: usize::MAX,
+        fails: false,
+    };
+    let (outcome, written) = run_between(alloc, view, source, usize::MAX, usize::MAX);
+    let told = match outcome {
+        Ok(Ending::Whole) => !is_enough,
+        Ok(Ending::Enough) => is_enough,
+        _ => false,
+    };
+    assert!(rt; told);
+    assert_eq!(rt; written.as_slice(), lines);
+}
+
+/// A view of packets of a kind, of which so many are read at most, with their bytes or without them.
+fn view_of(only: Option<Kind>, most: u64, hex: bool) -> View {
+    View {
+        only,
+        most,
+        hex,
+        reassemble: true,
+        timeout: 30,
+        limit: u16::MAX,
+    }
+}
+
+#[test]
+fn shows_what_is_wanted(rt: HostRuntime) {
+    let alloc = rt.alloc();
+    let udp = view_of(Some(Kind::Udp), 4, false);
+    assert_shown(
+        &rt,
+        alloc,
+        view_of(None, 4, true),
+        CAPTURE,
+        false,
+        BYTES_LINES,
+    );
+    assert_shown(&rt, alloc, udp, CAPTURE, false, UDP_LINES);
+    assert_shown(
+        &rt,
+        alloc,
+        view_of(Some(Kind::Refused), 4, true),
+        CAPTURE,
+        false,
+        b"",
+    );
+    assert_shown(
+        &rt,
+        alloc,
+        view_of(None, 1, false),
+        CAPTURE,
+        true,
+        FIRST_LINE,
+    );
+    assert_shown(&rt, alloc, VIEW, COOKED, false, COOKED_LINE);
+    assert_shown(&rt, alloc, VIEW, CHAIN, false, CHAIN_LINE);
 }

@@ -1,13 +1,13 @@
 //! The text of transport layers.
 
 ghost use Rattle.std.specs.Prelude.{◌≡◌, ◌++◌, OnOk};
-ghost use Rattle.ep_transport.specs.TcpSlices.{tcp_slice_header};
-ghost use Rattle.ep_transport.specs.TransportParts.{transport_layer_of};
+ghost use Rattle.etherparse.specs.TcpSlices.{tcp_slice_header};
+ghost use Rattle.etherparse.specs.TransportParts.{transport_layer_of};
 ghost use Rattle.packet_dump.specs.Transports.{acknowledgment_text, flag_text, flags_text, len_text, ports_text};
 ghost use Rattle.packet_dump.specs.Transports.{state_text, tcp_text, transport_text};
 
 use crate::icmp_messages::{push_icmpv4, push_icmpv6};
-use ep_transport::{TcpSlice, TransportSlice};
+use etherparse::{TcpSlice, TransportSlice};
 use line_io::decimals;
 use std::alloc::AllocError;
 

@@ -2,13 +2,12 @@
 
 ghost use Rattle.std.specs.Prelude.{◌≡◌, Some};
 ghost use Rattle.std.specs.Option.{option_map};
-ghost use Rattle.ep_packet.specs.Layers.{layers_of};
-ghost use Rattle.ep_transport.specs.TransportParts.{transport_layer_of};
+ghost use Rattle.etherparse.specs.Layers.{layers_of};
+ghost use Rattle.etherparse.specs.TransportParts.{transport_layer_of};
 ghost use Rattle.packet_dump.specs.Contents.{content_kind, frame, same_kind, shows_kind};
 ghost use Rattle.packet_dump.specs.PoolLines.{inner_kind, part};
 
-use ep_packet::{NetSlice, SlicedPacket};
-use ep_transport::TransportSlice;
+use etherparse::{NetSlice, SlicedPacket, TransportSlice};
 
 /// A kind of packet.
 #[derive(Clone, Copy, Debug)]

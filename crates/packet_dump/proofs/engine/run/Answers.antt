@@ -1,10 +1,11 @@
-use Rattle.std.proofs.Common.{subst, sym, take, arith}
+use Rattle.std.proofs.Common.{◌≡◌, true, rules, subst, sym, take, arith}
 use Rattle.std.proofs.lemmas.Grind.{common_steps}
 use Rattle.std.specs.Io.KnownBytes.{Appends}
 use Rattle.line_io.specs.Transfers.{Moves}
-use Rattle.line_io.specs.WatchedWords.{AppendsFront, inner_of}
+use Rattle.line_io.specs.WatchedWords.{AppendsFront, has_ended, inner_of}
 use Rattle.line_io.proofs.ResultLemmas.{at_exit}
 use Rattle.packet_dump.specs.Dumps.{IsDump}
+use Rattle.packet_dump.specs.Sessions.{ends_run}
 use Rattle.packet_dump.proofs.DumpLemmas.{Moves-begun, Moves-drained, Moves-ended, Moves-front, Moves-kept, Moves-piece}
 use Rattle.packet_dump.proofs.DumpLemmas.{Moves-new, Moves-taken}
 use Rattle.packet_dump.proofs.engine.run.Goals as goal
@@ -18,6 +19,7 @@ pieces-init g c = (
   grind (arith, common_steps),
   c.new-session.ensures.counts,
   grind (arith, common_steps, c.new-session.ensures.taken, c.requires.reads),
+  search rules,
 )
 
 pub returns-in_err-write_all-clause-err : goal.returns-in_err-write_all-clause-err
@@ -32,8 +34,8 @@ returns-in_err-write_all-clause-err g c =
     c.pieces.invariant.0 c.in_ok-standing.ensures.drains
     (subst (AppendsFront holds then_holds) c.as_slice.ensures.value c.in_err-write_all.ensures.front))
 
-pub returns-then-ended-clause-ok : goal.returns-then-ended-clause-ok
-returns-then-ended-clause-ok g c =
+pub returns-then-ends_run-clause-ok : goal.returns-then-ends_run-clause-ok
+returns-then-ends_run-clause-ok g c =
     let remaining = g.R.Read.remaining in
     let contents = g.W.Write.contents in
     let had = remaining (inner_of c.args.reader.now) in
@@ -41,9 +43,11 @@ returns-then-ended-clause-ok g c =
     let held = contents (inner_of c.args.writer.now) in
     let holds = contents (inner_of c.pieces.writer) in
     let then_holds = contents (inner_of c.write_all.new.self) in
-    subst (λ e. Moves (IsDump c.args.view e) had has held then_holds) (sym c.ending-ending.ensures)
-    (Moves-ended c.args.view c.pieces.session c.drain.new.self c.in_ok-standing.standing had has held holds then_holds
+    subst (λ e. Moves (IsDump c.args.view (has_ended c.pieces.reader) e) had has held then_holds)
+    (sym c.ending-ending.ensures)
+    (Moves-ended c.args.view (has_ended c.pieces.reader) c.pieces.session c.drain.new.self c.in_ok-standing.standing had has held holds then_holds
     c.pieces.invariant.0 c.in_ok-standing.ensures.drains
+    (subst (λ e. ends_run c.in_ok-standing.standing e ≡ true) c.ended.ensures (sym c.if-ends_run.ensures))
     (subst (Appends holds then_holds) c.as_slice.ensures.value c.in_ok-write_all.ensures.all))
 
 pub returns-in_err-count-clause-err : goal.returns-in_err-count-clause-err
@@ -106,6 +110,7 @@ pieces-preserved g c =
       grind (arith, common_steps),
       taken.counts drained.counts,
       grind (arith, common_steps, taken.taken, drained.taken, counted, before),
+      c.in_ok-count.ensures.end,
     )
 
 pub returns-in_err-standing-clause-err : goal.returns-in_err-standing-clause-err

@@ -1,6 +1,7 @@
-use Rattle.std.proofs.Common.{◌≡◌, ◌≤◌, ◌*◌, ◌+◌, ◌^◌, false, length}
+use Rattle.std.proofs.Common.{◌≡◌, ◌≤◌, ◌*◌, ◌+◌, ◌^◌, false, true, length}
+use Rattle.std.specs.Io.KnownBytes.{IsAtEnd}
 use Rattle.line_io.specs.Transfers.{Moves}
-use Rattle.line_io.specs.WatchedWords.{has_failed, inner_of, reads_left}
+use Rattle.line_io.specs.WatchedWords.{has_failed, inner_of, is_at_end, reads_left}
 use Rattle.packet_dump.specs.Sessions.{Counts, taken_by}
 use Rattle.packet_dump.proofs.DumpLemmas.{Told}
 use Rattle.packet_dump.proofs.engine.run.Given as goal
@@ -12,6 +13,7 @@ invariant-pieces g l =
     (g.W.Write.contents (inner_of l.initial.writer)) (g.W.Write.contents (inner_of l.writer))
     × (has_failed l.reader ≡ false) × (has_failed l.writer ≡ false) × (length l.piece ≡ 65536)
     × Counts l.session × (taken_by l.session + 65536 * reads_left l.reader ≤ 2 ^ 63)
+    × (is_at_end l.reader ≡ true → IsAtEnd (g.R.Read.remaining (inner_of l.reader)))
 
 abbrev pub decreases-pieces : goal.decreases-pieces
 decreases-pieces g l = reads_left l.reader

@@ -2,9 +2,9 @@ use Rattle.std.proofs.Common.{◌++◌, [], refl, subst}
 use Rattle.std.proofs.lemmas.List.{append-nil}
 use Rattle.std.proofs.lemmas.Result.{on_ok_weaker}
 use Rattle.capture_reader.specs.Readers.{shown_of}
-use Rattle.ep_packet.specs.Frame.{IsFrame}
-use Rattle.ep_packet.specs.Layers.{layers_of}
-use Rattle.ep_packet.specs.Refusals.{RefusesFrame}
+use Rattle.etherparse.specs.Frame.{IsFrame}
+use Rattle.etherparse.specs.Layers.{layers_of}
+use Rattle.etherparse.specs.FrameRefusals.{RefusesFrame}
 use Rattle.packet_dump.specs.Contents.{frame, refusal}
 use Rattle.packet_dump.specs.PacketLines.{shown_text}
 use Rattle.packet_dump.proofs.lines.push_read.Goals as goal

@@ -1,5 +1,5 @@
 use Rattle.std.proofs.Common.{◌≡◌, ◌++◌, map, drop}
-use Rattle.ep_link.specs.LinkExtensions.{link_extension_of}
+use Rattle.etherparse.specs.LinkExtensions.{link_extension_of}
 use Rattle.packet_dump.specs.Links.{extensions_text}
 use Rattle.packet_dump.proofs.links.push_extensions.Given as goal
 

@@ -1,6 +1,6 @@
 use Rattle.std.proofs.Common.{◌++◌}
-use Rattle.ep_ext.specs.Ipv4Chains.{ipv4_slice_parts}
-use Rattle.ep_ip.specs.Ipv4Slices.{ipv4_header_slice_header}
+use Rattle.etherparse.specs.Ipv4Chains.{ipv4_slice_parts}
+use Rattle.etherparse.specs.Ipv4Slices.{ipv4_header_slice_header}
 use Rattle.line_io.proofs.ResultLemmas.{OnOk-appended_two}
 use Rattle.packet_dump.specs.Nets.{ipv4_header_text, parts_text}
 use Rattle.packet_dump.proofs.nets.push_ipv4_layer.Goals as goal

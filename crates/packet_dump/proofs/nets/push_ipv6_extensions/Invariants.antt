@@ -1,5 +1,5 @@
 use Rattle.std.proofs.Common.{◌≡◌, ◌++◌}
-use Rattle.ep_ext.specs.Ipv6Slices.{ipv6_slice_parts, parts_left}
+use Rattle.etherparse.specs.Ipv6ExtensionSlices.{ipv6_slice_parts, parts_left}
 use Rattle.packet_dump.specs.Nets.{parts_text}
 use Rattle.packet_dump.proofs.nets.push_ipv6_extensions.Given as goal
 

@@ -1,6 +1,6 @@
 use Rattle.std.proofs.Common.{◌++◌}
-use Rattle.ep_ext.specs.Ipv6Slices.{ipv6_slice_parts}
-use Rattle.ep_ip.specs.Ipv6Slices.{ipv6_header_slice_header}
+use Rattle.etherparse.specs.Ipv6ExtensionSlices.{ipv6_slice_parts}
+use Rattle.etherparse.specs.Ipv6Slices.{ipv6_header_slice_header}
 use Rattle.line_io.proofs.ResultLemmas.{OnOk-appended_two}
 use Rattle.packet_dump.specs.Nets.{ipv6_header_text, parts_text}
 use Rattle.packet_dump.proofs.nets.push_ipv6_layer.Goals as goal

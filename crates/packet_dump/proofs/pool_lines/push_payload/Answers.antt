@@ -1,8 +1,8 @@
 use Rattle.std.proofs.Common.{ℕ, List, ◌++◌, ap, subst, ◌∙◌}
 use Rattle.std.specs.Option.{option_map}
 use Rattle.std.proofs.lemmas.Result.{on_ok_weaker}
-use Rattle.ep_packet.specs.Layers.{layers_of}
-use Rattle.ep_transport.specs.TransportParts.{transport_layer_of}
+use Rattle.etherparse.specs.Layers.{layers_of}
+use Rattle.etherparse.specs.TransportParts.{transport_layer_of}
 use Rattle.packet_dump.specs.PoolLines.{IsInner, part, payload_line, unread}
 use Rattle.packet_dump.proofs.pool_lines.push_payload.Goals as goal
 

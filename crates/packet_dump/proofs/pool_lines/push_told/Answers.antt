@@ -1,7 +1,7 @@
 use Rattle.std.proofs.Common.{◌≡◌, Err, Ok, refl, subst, sym}
 use Rattle.std.proofs.lemmas.Result.{on_ok_weaker}
-use Rattle.ep_defrag.specs.Pools.{plain_frame_answer}
-use Rattle.ep_packet.specs.Layers.{layers_of}
+use Rattle.etherparse.specs.Pools.{plain_frame_answer}
+use Rattle.etherparse.specs.Layers.{layers_of}
 use Rattle.packet_dump.specs.PoolLines.{IsAnswerText, refused_line}
 use Rattle.packet_dump.proofs.pool_lines.push_told.Goals as goal
 

@@ -2,7 +2,7 @@ use Rattle.std.proofs.Common.{◌++◌, ◌∙◌}
 use Rattle.std.proofs.lemmas.Result.{on_ok_weaker}
 use Rattle.std.specs.Prelude.{codes}
 use Rattle.std.specs.Fmt.{decimal}
-use Rattle.ep_transport.specs.TcpSlices.{tcp_slice_header}
+use Rattle.etherparse.specs.TcpSlices.{tcp_slice_header}
 use Rattle.packet_dump.specs.Transports.{acknowledgment_text, flags_text, state_text}
 use Rattle.packet_dump.proofs.LineLemmas.{four_parts}
 use Rattle.packet_dump.proofs.transports.push_state.Goals as goal

@@ -1,7 +1,7 @@
 use Rattle.std.proofs.Common.{◌++◌, ◌∙◌}
 use Rattle.std.proofs.lemmas.Result.{on_ok_weaker}
 use Rattle.std.specs.Prelude.{codes}
-use Rattle.ep_transport.specs.TcpSlices.{tcp_slice_header}
+use Rattle.etherparse.specs.TcpSlices.{tcp_slice_header}
 use Rattle.packet_dump.specs.Transports.{ports_text, state_text}
 use Rattle.packet_dump.proofs.LineLemmas.{three_parts}
 use Rattle.packet_dump.proofs.transports.push_tcp.Goals as goal

@@ -1,8 +1,8 @@
 use Rattle.std.proofs.Common.{subst}
 use Rattle.capture_reader.specs.Readers.{shown_of}
-use Rattle.ep_defrag.specs.Calls.{Answer}
-use Rattle.ep_defrag.specs.Pools.{fragment_in}
-use Rattle.ep_packet.specs.Layers.{layers_of}
+use Rattle.etherparse.specs.Calls.{Answer}
+use Rattle.etherparse.specs.Pools.{fragment_in}
+use Rattle.etherparse.specs.Layers.{layers_of}
 use Rattle.packet_dump.specs.PacketLines.{start_text}
 use Rattle.packet_dump.specs.PoolCalls.{frame_call, with_call}
 use Rattle.packet_dump.specs.PoolLines.{IsAnswerText}

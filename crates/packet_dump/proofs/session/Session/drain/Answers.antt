@@ -2,7 +2,7 @@ use Rattle.std.proofs.Common.{◌+◌, ◌++◌, ap, refl, ◌∙◌}
 use Rattle.capture_reader.specs.Readers.{reader_left, reader_offset}
 use Rattle.packet_dump.specs.declared.session.Standing.TheVariants as standing
 use Rattle.packet_dump.proofs.SessionLemmas.{counts_kept, counts_packet, drains_end, drains_other, drains_packet}
-use Rattle.packet_dump.proofs.SessionLemmas.{drains_start, enough_read, refused_here}
+use Rattle.packet_dump.proofs.SessionLemmas.{drains_start, enough_read, fewer_read}
 use Rattle.packet_dump.proofs.session.Session.drain.Goals as goal
 
 pub items-init : goal.items-init
@@ -44,7 +44,8 @@ returns-in-Ok-MayEnd-clause-drains c =
     λ view read items text history stands texts.
     let drained = c.items.invariant.0 view read items text history stands texts in
     let found = advanced.reads read (items ++ drained.more) drained.stands.reads in
-    drains_end view c.items.self _ standing.MayEnd read items text drained found.0 refl refl refl refl refl refl found.1
+    drains_end view c.items.self _ standing.MayEnd read items text drained found.0 refl refl refl refl refl refl
+    (fewer_read view c.items.self read (items ++ drained.more) drained.after drained.stands c.if-self.false, found.1)
 
 pub returns-in-Ok-MayEnd-clause-counts : goal.returns-in-Ok-MayEnd-clause-counts
 returns-in-Ok-MayEnd-clause-counts c = counts_kept _ _ _ c.items.invariant.2 c.in-Ok-MayEnd.ensures.grows
@@ -55,7 +56,8 @@ returns-in-Ok-Cut-clause-drains c =
     λ view read items text history stands texts.
     let drained = c.items.invariant.0 view read items text history stands texts in
     let found = advanced.reads read (items ++ drained.more) drained.stands.reads in
-    drains_end view c.items.self _ (standing.Cut c.in-Ok-Cut.error) read items text drained found.0 refl refl refl refl refl refl found.1
+    drains_end view c.items.self _ (standing.Cut c.in-Ok-Cut.error) read items text drained found.0 refl refl refl refl refl refl
+    (fewer_read view c.items.self read (items ++ drained.more) drained.after drained.stands c.if-self.false, found.1)
 
 pub returns-in-Ok-Cut-clause-counts : goal.returns-in-Ok-Cut-clause-counts
 returns-in-Ok-Cut-clause-counts c = counts_kept _ _ _ c.items.invariant.2 c.in-Ok-Cut.ensures.grows
@@ -66,7 +68,7 @@ returns-in-Err-clause-drains c =
     let drained = c.items.invariant.0 view read items text history stands texts in
     let found = c.in-Err.ensures.reads read (items ++ drained.more) drained.stands.reads in
     drains_end view c.items.self _ (standing.Refused c.in-Err.error) read items text drained found.0 refl refl refl refl refl refl
-    (refused_here read _ found.1)
+    (fewer_read view c.items.self read (items ++ drained.more) drained.after drained.stands c.if-self.false, found.1)
 
 pub returns-in-Err-clause-counts : goal.returns-in-Err-clause-counts
 returns-in-Err-clause-counts c = counts_kept _ _ _ c.items.invariant.2 c.in-Err.ensures.grows

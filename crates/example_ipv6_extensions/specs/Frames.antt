@@ -1,0 +1,54 @@
+-- The frame of a datagram over IPv6.
+use Rattle.std.specs.Prelude.{◌≡◌, ℕ, ◌+◌, ◌<◌, List, [], ◌∷◌, ◌++◌, length, Some, Result, Err, OnOk, OnErr, IfErr, Vec, vec_len, vec_capacity}
+use Rattle.etherparse.specs.BuildErrors.{IsBuildable, IsBuildError}
+use Rattle.etherparse.specs.BuiltFrames.{Held, held_transport, built_frame, built_size}
+use Rattle.etherparse.specs.Ipv6.{default_ipv6_header}
+use Rattle.etherparse.specs.Ipv6Chains.{no_ipv6_extensions}
+use Rattle.etherparse.specs.RawExtension.{raw_extension_with}
+use Rattle.etherparse.specs.Steps.{no_type}
+use Rattle.etherparse.specs.Types.BuildWriteError.{BuildWriteError}
+use Rattle.etherparse.specs.Types.BuildWriteError.TheVariants.{OutOfMemory}
+use Rattle.etherparse.specs.Types.IpHeaders.{IpHeaders}
+use Rattle.etherparse.specs.Types.IpHeaders.TheVariants as version
+use Rattle.etherparse.specs.Types.LinkPart.{LinkPart}
+use Rattle.etherparse.specs.Types.LinkPart.TheVariants as link
+use Rattle.etherparse.specs.Types.TransportHeader.{TransportHeader}
+use Rattle.etherparse.specs.Types.TransportHeader.TheVariants as header
+
+-- the Ethernet II header
+abbrev pub ethernet_header : LinkPart
+ethernet_header = link.Ethernet2 (record {
+  source = 2 ∷ 0 ∷ 0 ∷ 0 ∷ 0 ∷ 1 ∷ [];
+  destination = 2 ∷ 0 ∷ 0 ∷ 0 ∷ 0 ∷ 2 ∷ [];
+  ether_type = no_type;
+})
+
+-- the address 192.0.2.last of IPv4 as one of IPv6
+abbrev pub mapped_address : ℕ → List ℕ
+mapped_address last = 0 ∷ 0 ∷ 0 ∷ 0 ∷ 0 ∷ 0 ∷ 0 ∷ 0 ∷ 0 ∷ 0 ∷ 255 ∷ 255 ∷ 192 ∷ 0 ∷ 2 ∷ last ∷ []
+
+-- the header of IPv6, with hop by hop options and destination options
+abbrev pub ip_headers : IpHeaders
+ip_headers = version.Ipv6
+    (record default_ipv6_header { hop_limit = 64; source = mapped_address 1; destination = mapped_address 2 })
+    (record no_ipv6_extensions {
+      hop_by_hop_options = Some (raw_extension_with (record { 0 = 0 }) (5 ∷ 2 ∷ 0 ∷ 0 ∷ 1 ∷ 0 ∷ []));
+      destination_options = Some (raw_extension_with (record { 0 = 0 }) (1 ∷ 4 ∷ 0 ∷ 0 ∷ 0 ∷ 0 ∷ []));
+    })
+
+-- the header of the datagram
+abbrev pub udp_header : TransportHeader
+udp_header = header.Udp (record { source_port = 4000; destination_port = 53; length = 0; checksum = 0 })
+
+-- all of them
+abbrev pub report_headers : Held
+report_headers = held_transport ethernet_header ip_headers udp_header
+
+-- The frame of these headers and this payload is appended to a buffer. An error is of the builder's table, or there is
+-- no memory, which comes only where the buffer has too little room; the buffer is then as it was.
+pub record Appends {Z : Type 0} (held : Held) (payload : List ℕ) (old new : Vec ℕ Z)
+    (result : Result (Unit {0}) BuildWriteError) : Type 0 where
+  pub ok : OnOk result (IsBuildable held (length payload) × (new.items ≡ old.items ++ built_frame held payload))
+  pub err : OnErr result (new.items ≡ old.items)
+  pub refused : IfErr result (IsBuildError held (length payload))
+  pub full : result ≡ Err OutOfMemory → vec_capacity old < vec_len old + built_size held (length payload)

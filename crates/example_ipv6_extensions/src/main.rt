@@ -1,0 +1,50 @@
+//! Prints a datagram of UDP over IPv6 with extension headers as an Ethernet frame in a line of hexadecimal.
+#![tactic(auto)]
+
+ghost use Rattle.std.specs.Prelude.{◌≡◌};
+ghost use Rattle.example_ipv6_extensions.specs.Frames.{Appends, ip_headers, report_headers};
+
+use etherparse::err::packet::BuildWriteError;
+use etherparse::{
+    IpHeaders, IpNumber, Ipv6Extensions, Ipv6Header, Ipv6RawExtHeader, PacketBuilder,
+};
+use std::io;
+
+fn main(rt: HostRuntime) -> io::Result<()> {
+    let mut frame = Vec::new(rt.alloc());
+    let Ok(()) = write_report(b"report", &mut frame) else {
+        return rt.eprintln("the datagram could not be written");
+    };
+    println!(rt; "{}", hex::encode(rt.alloc(), frame.as_slice())?)
+}
+
+/// Appends a datagram of this payload.
+pub fn write_report(payload: &[u8], buf: &mut Vec<u8>) -> Result<(), BuildWriteError>
+    ensures { Appends report_headers payload.now buf.old buf.new result }
+{
+    PacketBuilder::ethernet2([2, 0, 0, 0, 0, 1], [2, 0, 0, 0, 0, 2])
+        .ip(ip_headers())
+        .udp(4000, 53)
+        .write(buf, payload)
+}
+
+/// The header of IPv6, between the addresses of IPv4 as those of IPv6 (RFC 4291, 2.5.5.2), with the hop by hop option
+/// of a router alert (RFC 2711) and with destination options that say nothing.
+fn ip_headers() -> IpHeaders
+    ensures { result ≡ ip_headers }
+{
+    let header = Ipv6Header {
+        hop_limit: 64,
+        source: [0, 0, 0, 0, 0, 0, 0, 0, 0, 0, 0xff, 0xff, 192, 0, 2, 1],
+        destination: [0, 0, 0, 0, 0, 0, 0, 0, 0, 0, 0xff, 0xff, 192, 0, 2, 2],
+        ..Default::default()
+    };
+    let alert = Ipv6RawExtHeader::new_raw(IpNumber(0), &[5, 2, 0, 0, 1, 0]).unwrap();
+    let padding = Ipv6RawExtHeader::new_raw(IpNumber(0), &[1, 4, 0, 0, 0, 0]).unwrap();
+    let extensions = Ipv6Extensions {
+        hop_by_hop_options: Some(alert),
+        destination_options: Some(padding),
+        ..Default::default()
+    };
+    IpHeaders::Ipv6(header, extensions)
+}

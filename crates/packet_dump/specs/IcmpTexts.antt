@@ -1,0 +1,154 @@
+-- The names of the types and codes of ICMP (RFC 792, RFC 1122, RFC 1812, RFC 4443, RFC 4861), and what messages hold.
+use Rattle.std.specs.Prelude.{ℕ, ◌==◌, if◌then◌else◌, List, [], ◌++◌, Option, Some, None, codes}
+use Rattle.std.specs.Fmt.{decimal}
+use Rattle.etherparse.specs.Types.IcmpEchoHeader.{IcmpEchoHeader}
+use Rattle.etherparse.specs.Types.Icmpv4Type.{Icmpv4Type}
+use Rattle.etherparse.specs.Types.Icmpv4Type.TheVariants as message4
+use Rattle.etherparse.specs.Types.Icmpv6Type.{Icmpv6Type}
+use Rattle.etherparse.specs.Types.Icmpv6Type.TheVariants as message6
+use Rattle.etherparse.specs.Icmpv4.{icmpv4_code_u8, icmpv4_type_u8}
+use Rattle.etherparse.specs.Icmpv6.{icmpv6_code_u8, icmpv6_type_u8}
+use Rattle.packet_dump.specs.Addresses.{ipv4_text}
+
+-- the name of a type of ICMP
+abbrev pub icmpv4_type_name : ℕ → Option (List ℕ)
+icmpv4_type_name type =
+    if type == 0 then Some (codes "echo-reply") else
+    (if type == 3 then Some (codes "destination-unreachable") else
+    (if type == 4 then Some (codes "source-quench") else
+    (if type == 5 then Some (codes "redirect") else
+    (if type == 8 then Some (codes "echo-request") else
+    (if type == 9 then Some (codes "router-advertisement") else
+    (if type == 10 then Some (codes "router-solicitation") else
+    (if type == 11 then Some (codes "time-exceeded") else
+    (if type == 12 then Some (codes "parameter-problem") else
+    (if type == 13 then Some (codes "timestamp-request") else
+    (if type == 14 then Some (codes "timestamp-reply") else None))))))))))
+
+-- the name of a code of an ICMP message about a destination that cannot be reached
+abbrev pub icmpv4_unreachable_name : ℕ → Option (List ℕ)
+icmpv4_unreachable_name code =
+    if code == 0 then Some (codes "network") else
+    (if code == 1 then Some (codes "host") else
+    (if code == 2 then Some (codes "protocol") else
+    (if code == 3 then Some (codes "port") else
+    (if code == 4 then Some (codes "fragmentation-needed") else
+    (if code == 5 then Some (codes "source-route-failed") else
+    (if code == 6 then Some (codes "network-unknown") else
+    (if code == 7 then Some (codes "host-unknown") else
+    (if code == 8 then Some (codes "source-isolated") else
+    (if code == 9 then Some (codes "network-prohibited") else
+    (if code == 10 then Some (codes "host-prohibited") else
+    (if code == 11 then Some (codes "network-service") else
+    (if code == 12 then Some (codes "host-service") else
+    (if code == 13 then Some (codes "prohibited") else
+    (if code == 14 then Some (codes "precedence-violation") else
+    (if code == 15 then Some (codes "precedence-cutoff") else None)))))))))))))))
+
+-- the name of a code of a redirection
+abbrev pub icmpv4_redirect_name : ℕ → Option (List ℕ)
+icmpv4_redirect_name code =
+    if code == 0 then Some (codes "network") else
+    (if code == 1 then Some (codes "host") else
+    (if code == 2 then Some (codes "network-service") else
+    (if code == 3 then Some (codes "host-service") else None)))
+
+-- the name of a code of a time that is exceeded, which is of ICMPv6 too
+abbrev pub exceeded_name : ℕ → Option (List ℕ)
+exceeded_name code =
+    if code == 0 then Some (codes "in-transit") else (if code == 1 then Some (codes "reassembly") else None)
+
+-- the name of a code of ICMP
+abbrev pub icmpv4_code_name : ℕ → ℕ → Option (List ℕ)
+icmpv4_code_name type code =
+    if type == 3 then icmpv4_unreachable_name code else
+    (if type == 5 then icmpv4_redirect_name code else
+    (if type == 11 then exceeded_name code else None))
+
+-- the name of a type of ICMPv6
+abbrev pub icmpv6_type_name : ℕ → Option (List ℕ)
+icmpv6_type_name type =
+    if type == 1 then Some (codes "destination-unreachable") else
+    (if type == 2 then Some (codes "packet-too-big") else
+    (if type == 3 then Some (codes "time-exceeded") else
+    (if type == 4 then Some (codes "parameter-problem") else
+    (if type == 128 then Some (codes "echo-request") else
+    (if type == 129 then Some (codes "echo-reply") else
+    (if type == 130 then Some (codes "listener-query") else
+    (if type == 131 then Some (codes "listener-report") else
+    (if type == 132 then Some (codes "listener-done") else
+    (if type == 133 then Some (codes "router-solicitation") else
+    (if type == 134 then Some (codes "router-advertisement") else
+    (if type == 135 then Some (codes "neighbor-solicitation") else
+    (if type == 136 then Some (codes "neighbor-advertisement") else
+    (if type == 137 then Some (codes "redirect") else
+    (if type == 143 then Some (codes "listener-report-v2") else None))))))))))))))
+
+-- the name of a code of an ICMPv6 message about a destination that cannot be reached
+abbrev pub icmpv6_unreachable_name : ℕ → Option (List ℕ)
+icmpv6_unreachable_name code =
+    if code == 0 then Some (codes "no-route") else
+    (if code == 1 then Some (codes "prohibited") else
+    (if code == 2 then Some (codes "beyond-scope") else
+    (if code == 3 then Some (codes "address") else
+    (if code == 4 then Some (codes "port") else
+    (if code == 5 then Some (codes "source-policy") else
+    (if code == 6 then Some (codes "reject-route") else None))))))
+
+-- the name of a code of ICMPv6
+abbrev pub icmpv6_code_name : ℕ → ℕ → Option (List ℕ)
+icmpv6_code_name type code =
+    if type == 1 then icmpv6_unreachable_name code else (if type == 3 then exceeded_name code else None)
+
+-- a type, by its name or else by its number
+abbrev pub type_text : Option (List ℕ) → ℕ → List ℕ
+type_text (Some name) type = codes " " ++ name
+type_text None type = codes " type " ++ decimal type
+
+-- a code, by its name or else by its number; the code 0 without a name says nothing
+abbrev pub code_text : Option (List ℕ) → ℕ → List ℕ
+code_text (Some name) code = codes " " ++ name
+code_text None code = if code == 0 then [] else codes " code " ++ decimal code
+
+-- what belongs to an echo
+abbrev pub echo_text : IcmpEchoHeader → List ℕ
+echo_text echo = codes " id " ++ decimal echo.id ++ codes " seq " ++ decimal echo.seq
+
+-- what a message of ICMP says beside its type and code: an echo's numbers, how much the next network takes, a gateway
+abbrev pub icmpv4_content_text : Icmpv4Type → List ℕ
+icmpv4_content_text (message4.Unknown type code bytes5to8) = []
+icmpv4_content_text (message4.EchoReply echo) = echo_text echo
+icmpv4_content_text (message4.DestinationUnreachable code next_hop_mtu) =
+    if code == 4 then codes " mtu " ++ decimal next_hop_mtu else []
+icmpv4_content_text (message4.Redirect code gateway) = codes " to " ++ ipv4_text gateway
+icmpv4_content_text (message4.EchoRequest echo) = echo_text echo
+icmpv4_content_text (message4.TimeExceeded code) = []
+icmpv4_content_text (message4.ParameterProblem code pointer) = []
+icmpv4_content_text (message4.TimestampRequest times) = codes " id " ++ decimal times.id ++ codes " seq " ++ decimal times.seq
+icmpv4_content_text (message4.TimestampReply times) = codes " id " ++ decimal times.id ++ codes " seq " ++ decimal times.seq
+
+-- a message of ICMP: its type, its code, and what it says beside them
+abbrev pub icmpv4_text : Icmpv4Type → List ℕ
+icmpv4_text message =
+    let type = icmpv4_type_u8 message in
+    let code = icmpv4_code_u8 message in
+    codes " icmpv4" ++ type_text (icmpv4_type_name type) type ++ code_text (icmpv4_code_name type code) code
+    ++ icmpv4_content_text message
+
+-- what a message of ICMPv6 says beside its type and code: an echo's numbers, how much a network takes
+abbrev pub icmpv6_content_text : Icmpv6Type → List ℕ
+icmpv6_content_text (message6.Unknown type code bytes5to8) = []
+icmpv6_content_text (message6.DestinationUnreachable code) = []
+icmpv6_content_text (message6.PacketTooBig mtu) = codes " mtu " ++ decimal mtu
+icmpv6_content_text (message6.TimeExceeded code) = []
+icmpv6_content_text (message6.ParameterProblem code pointer) = codes " pointer " ++ decimal pointer
+icmpv6_content_text (message6.EchoRequest echo) = echo_text echo
+icmpv6_content_text (message6.EchoReply echo) = echo_text echo
+
+-- a message of ICMPv6: its type, its code, and what it says beside them
+abbrev pub icmpv6_text : Icmpv6Type → List ℕ
+icmpv6_text message =
+    let type = icmpv6_type_u8 message in
+    let code = icmpv6_code_u8 message in
+    codes " icmpv6" ++ type_text (icmpv6_type_name type) type ++ code_text (icmpv6_code_name type code) code
+    ++ icmpv6_content_text message
