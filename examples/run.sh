@@ -53,7 +53,9 @@ else
 fi
 if g++ --version > /dev/null 2>&1; then
     g++ -std=c++98 -Wall -Wextra -Werror -fsyntax-only -x c++ "$top/include/etherparse.h"
-    echo "examples: the header is C++ too"
+    g++ -std=c++17 -Wall -Wextra -Werror -fsyntax-only c/compare.cc
+    g++ -std=c++17 -Wall -Wextra -Werror -fsyntax-only -x c++ "$top/include/etherparse_heap.c"
+    echo "examples: the header and the memory are C++ too, and c/compare.cc compiles"
 else
     echo "examples: no g++, so the header was not read as C++"
 fi

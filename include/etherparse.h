@@ -11,6 +11,9 @@
  *   The calls that build frames or write a text take memory by malloc and give it back before they return, and a pool
  *   keeps some until it is freed; no other call takes any.
  * - What a call fills in is numbers alone. Nothing in it points anywhere, and but for pools nothing has to be freed.
+ *   What stood there before, also in a buffer, is never read.
+ * - A call that takes memory, or has a pool, is not for a signal handler, nor for the forked child of a process with
+ *   threads.
  * - size_t has 64 bits.
  *
  * Link with the archive libetherparse_c.a, which `rt lib` leaves in crates/etherparse_c/out, and with
@@ -24,6 +27,9 @@
 #ifdef __cplusplus
 extern "C" {
 #endif
+
+/* Is refused by the compiler where size_t has other than 64 bits. */
+typedef char etherparse_size_t_has_64_bits[sizeof(size_t) == 8 ? 1 : -1];
 
 /* What a call answers. */
 enum etherparse_status {
@@ -88,8 +94,8 @@ struct etherparse_ip {
     uint8_t version;          /* 4 or 6 */
     uint8_t number;           /* the protocol number of the payload, behind the extension headers */
     uint8_t fragmented;       /* 1 if the payload is one fragment of a longer one */
-    uint8_t more_fragments;   /* 1 if the header says that more fragments follow */
-    uint16_t fragment_offset; /* where the fragment lies in the whole payload, in bytes */
+    uint8_t more_fragments;   /* 1 if the header says that more fragments follow; of IPv6 the first fragment header */
+    uint16_t fragment_offset; /* where the fragment lies in the whole payload, in bytes; the same header's */
     uint32_t identification;  /* what fragments of one payload have in common; 0 in IPv6 without a fragment header */
     size_t header_len;        /* the IP header's bytes, without extension headers */
 };
@@ -158,10 +164,11 @@ struct etherparse_refusal {
 
 /* What the layers of a frame are, or why bytes are no frame. The headers stand one behind the other in the order of the
  * fields, without gaps, and then the payload; what a length field cuts off, as the padding behind a short IPv4 packet,
- * lies behind the payload. A layer whose protocol is not read is part of the payload. */
+ * lies behind the payload. A layer whose protocol is not read is part of the payload. What is not told of a header, as
+ * its addresses, is read from the frame at its offset: those of IPv4 begin at net.offset + 12, of IPv6 at + 8. */
 struct etherparse_packet {
     struct etherparse_part link;             /* enum etherparse_link_kind */
-    struct etherparse_link_ext link_exts[3]; /* from the outside in; a fourth is left as payload */
+    struct etherparse_link_ext link_exts[3]; /* from the outside in, then all 0; a fourth is left as payload */
     uint32_t link_ext_count;
     uint16_t source_port;      /* of UDP and TCP, else 0 */
     uint16_t destination_port; /* the same */
@@ -259,7 +266,8 @@ uint32_t etherparse_build_icmp_echo(const struct etherparse_route *route, uint8_
  * A pool holds what came of each payload that is not complete yet. Each is put together as if it were alone: fragments
  * belong together where VLAN tags, addresses, identification, protocol and the caller's channel are the same. A pool
  * takes memory by malloc, which etherparse_pool_free gives back. It stays on the thread that made it, for one call at a
- * time; other threads may have pools of their own. */
+ * time; other threads may have pools of their own. Nothing but etherparse_pool_drop_older bounds the number of streams
+ * that are not complete: where frames may be hostile, set a limit and drop old streams, or memory grows without end. */
 struct etherparse_pool;
 
 /* The greatest number of bytes of a payload in a pool of etherparse_pool_new. */

@@ -11,9 +11,15 @@ struct tried {
     void *block; /* never null; nothing is read or written there where is_there is false */
 };
 
+#ifdef __cplusplus /* as for a compiler that takes every file for C++ */
+extern "C" {
+#endif
 struct tried rattle_alloc(size_t len, size_t align);
 struct tried rattle_realloc(void *block, size_t kept, size_t len, size_t align);
 void rattle_dealloc(void *block);
+#ifdef __cplusplus
+}
+#endif
 
 static struct tried tried(void *block) {
     static char none;

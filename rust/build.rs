@@ -7,6 +7,9 @@ fn main() {
     let archive = top.join("crates/etherparse_c/out");
     let heap = top.join("include/etherparse_heap.c");
     let out = PathBuf::from(std::env::var("OUT_DIR").unwrap());
+    if !archive.join("libetherparse_c.a").exists() {
+        println!("cargo:warning=no libetherparse_c.a to link: run `rt lib` in crates/etherparse_c first");
+    }
     println!("cargo:rerun-if-changed={}", archive.join("libetherparse_c.a").display());
     println!("cargo:rerun-if-changed={}", heap.display());
     let object = out.join("etherparse_heap.o");

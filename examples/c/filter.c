@@ -41,9 +41,15 @@ int main(int argc, char **argv) {
         }
         if (packet.transport.kind != ETHERPARSE_TRANSPORT_UDP || packet.destination_port != port) continue;
         found++;
-        printf("%lu: port %u, %zu bytes at %zu:", frames, packet.source_port, packet.payload.len, packet.payload.offset);
+        printf("%lu: ", frames);
+        if (packet.net.kind == ETHERPARSE_NET_IPV4) {
+            const uint8_t *source = frame + packet.net.offset + 12;
+            printf("from %u.%u.%u.%u ", source[0], source[1], source[2], source[3]);
+        }
+        printf("port %u, %zu bytes at %zu:", packet.source_port, packet.payload.len, packet.payload.offset);
         for (size_t i = 0; i < packet.payload.len && i < 8; i++) printf(" %02x", frame[packet.payload.offset + i]);
-        for (uint32_t i = 0; i < packet.link_ext_count; i++) printf(", VLAN %u", packet.link_exts[i].vlan_id);
+        for (uint32_t i = 0; i < packet.link_ext_count; i++)
+            if (packet.link_exts[i].kind == ETHERPARSE_EXT_VLAN) printf(", VLAN %u", packet.link_exts[i].vlan_id);
         printf("\n");
     }
     fclose(file);

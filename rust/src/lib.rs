@@ -23,6 +23,8 @@
 
 pub mod declared;
 
+pub use declared::TcpFields;
+
 use std::fmt;
 use std::mem::MaybeUninit;
 use std::ptr;
@@ -141,7 +143,8 @@ pub struct Packet<'a> {
     pub payload_end: LenSource,
 }
 
-/// Why bytes are no frame.
+/// Why bytes are no frame. What its numbers say is said in `include/etherparse.h`, at `struct etherparse_refusal`; its
+/// text says the same in words.
 #[derive(Clone, Copy, Debug, PartialEq, Eq)]
 pub struct Refusal(pub declared::Refusal);
 
@@ -330,6 +333,18 @@ impl Route {
     }
 }
 
+/// The flags of a TCP header, of which [`TcpFields`] has the sum.
+pub mod tcp_flag {
+    pub const FIN: u8 = 1;
+    pub const SYN: u8 = 2;
+    pub const RST: u8 = 4;
+    pub const PSH: u8 = 8;
+    pub const ACK: u8 = 16;
+    pub const URG: u8 = 32;
+    pub const ECE: u8 = 64;
+    pub const CWR: u8 = 128;
+}
+
 fn built(status: u32, written: usize) -> Result<usize, BuildError> {
     match status {
         0 => Ok(written),
@@ -382,14 +397,15 @@ pub fn build_udp(
 /// The same of a TCP segment without options.
 ///
 /// ```
-/// use etherparse_c::{build_tcp, declared::TcpFields, slice_from, Addresses, Entry, Route, TransportKind};
+/// use etherparse_c::{build_tcp, slice_from, tcp_flag, Addresses, Entry, Route, TcpFields, TransportKind};
 ///
 /// let route = Route {
 ///     ethernet: None,
 ///     addresses: Addresses::Ipv6 { source: [1; 16], destination: [2; 16] },
 ///     hop_limit: 64,
 /// };
-/// let fields = TcpFields { source_port: 80, destination_port: 4000, flags: 2 | 16, ..Default::default() };
+/// let flags = tcp_flag::SYN | tcp_flag::ACK;
+/// let fields = TcpFields { source_port: 80, destination_port: 4000, flags, ..Default::default() };
 /// let mut buffer = [0; 64];
 /// let len = build_tcp(&route, &fields, &[9], &mut buffer).unwrap();
 /// let packet = slice_from(Entry::Ip, &buffer[..len]).unwrap();
@@ -398,7 +414,7 @@ pub fn build_udp(
 /// ```
 pub fn build_tcp(
     route: &Route,
-    fields: &declared::TcpFields,
+    fields: &TcpFields,
     payload: &[u8],
     buffer: &mut [u8],
 ) -> Result<usize, BuildError> {

@@ -187,6 +187,47 @@ fn calls_are_the_same() {
     assert_eq!(calls_of_c(&read("include/etherparse.h")), rattle);
 }
 
+/// The numbers that the C header names, without the names' first word.
+fn numbers_of_c(text: &str) -> BTreeMap<String, u32> {
+    let is_name = |name: &str| name.chars().all(|c| c == '_' || c.is_ascii_uppercase() || c.is_ascii_digit());
+    let one = |word: &str| {
+        let (name, rest) = word.split_once(" = ")?;
+        let number = rest.split(|c: char| !c.is_ascii_digit()).next()?.parse().ok()?;
+        is_name(name).then(|| (name.to_string(), number))
+    };
+    text.split("ETHERPARSE_").skip(1).filter_map(one).collect()
+}
+
+#[test]
+fn numbers_are_the_same() {
+    let top = concat!(env!("CARGO_MANIFEST_DIR"), "/..");
+    let read = |path: &str| std::fs::read_to_string(format!("{top}/{path}")).unwrap();
+    let c = numbers_of_c(&read("include/etherparse.h"));
+    let text = read("crates/etherparse_c/src/numbers.rt");
+    let known = text.lines().filter_map(|line| line.strip_prefix("pub const ")?.split_once(": u32 = "));
+    let known: Vec<_> = known.collect();
+    assert_eq!(known.len(), 20);
+    for (name, number) in known {
+        assert_eq!(c.get(name), Some(&number.trim_end_matches(';').parse().unwrap()), "{name}");
+    }
+    // a layer, and what sets an end: the C name is the Rattle name or its beginning
+    let files = [("refusing", "Layer::", "LAYER_", 21), ("describing", "LenSource::", "END_", 6)];
+    for (file, word, first, count) in files {
+        let text = read(&format!("crates/etherparse_c/src/{file}.rt"));
+        let told = text.lines().filter_map(|line| {
+            let (name, number) = line.trim().strip_prefix(word)?.trim_end_matches(',').split_once(" => ")?;
+            Some((name.to_lowercase(), number.parse::<u32>().ok()?))
+        });
+        let told: Vec<_> = told.collect();
+        let named: Vec<_> = c.iter().filter_map(|(name, number)| Some((name.strip_prefix(first)?, *number))).collect();
+        assert_eq!((told.len(), named.len()), (count, count));
+        for (name, number) in told {
+            let (short, _) = named.iter().find(|(_, other)| *other == number).unwrap();
+            assert!(name.starts_with(&short.replace('_', "").to_lowercase()), "{number} is {name} and {short}");
+        }
+    }
+}
+
 /// Every frame that is cut anywhere is a frame or refused, with parts that lie in it, one behind the other.
 #[test]
 fn parts_lie_in_the_frame() {
@@ -212,6 +253,47 @@ fn parts_lie_in_the_frame() {
     let whole = etherparse_c::slice(&frame).unwrap();
     assert_eq!(whole.ip.map(|ip| (ip.version, ip.number, ip.identification, ip.header_len)), Some((6, 17, 9, 40)));
     assert_eq!((whole.ports, whole.payload), (Some((21, 1234)), &[1u8, 2][..]));
+}
+
+/// Each kind of layer, and each end of a payload, has its name.
+#[test]
+fn kinds_have_their_names() {
+    use etherparse_c::{slice_from, Entry, ExtKind, LenSource, LinkKind, NetKind, TransportKind};
+    let ethernet = |ether_type: u16| [&[7, 8, 9, 10, 11, 12, 1, 2, 3, 4, 5, 6][..], &ether_type.to_be_bytes()].concat();
+    let cooked = [0, 0, 0, 1, 0, 6, 1, 2, 3, 4, 5, 6, 0, 0, 8, 0];
+    let ipv4 = |number: u8, len: u8| [0x45, 0, 0, 20 + len, 0, 0, 0, 0, 64, number, 0, 0, 10, 0, 0, 1, 10, 0, 0, 2];
+    let ipv6 = |number: u8, len: u8| {
+        let mut header = [0; 40];
+        (header[0], header[5], header[6], header[7]) = (0x60, len, number, 64);
+        header
+    };
+    let arp = [&[0, 1, 8, 0, 6, 4, 0, 1][..], &[0; 20]].concat();
+    let segment = [&[0; 12][..], &[0x50, 0, 0, 0, 0, 0, 0, 0]].concat();
+    let (datagram, message, open_tag, shut_tag) = ([0, 1, 0, 2, 0, 8, 0, 0], [0; 8], [0; 6], [0x0c, 3, 0, 0, 0, 0]);
+    let frame = |parts: &[&[u8]]| parts.concat();
+    let frames = [
+        (Entry::LinuxSll, frame(&[&cooked, &ipv4(1, 8), &message]), Some(LinkKind::LinuxSll), None, Some(NetKind::Ipv4),
+            Some(TransportKind::Icmpv4), LenSource::Ipv4HeaderTotalLen),
+        (Entry::Ethernet, frame(&[&ethernet(0x86dd), &ipv6(58, 8), &message]), Some(LinkKind::Ethernet2), None,
+            Some(NetKind::Ipv6), Some(TransportKind::Icmpv6), LenSource::Ipv6HeaderPayloadLen),
+        (Entry::EtherType(0x0800), frame(&[&ipv4(6, 20), &segment]), None, None, Some(NetKind::Ipv4),
+            Some(TransportKind::Tcp), LenSource::Ipv4HeaderTotalLen),
+        (Entry::Ip, frame(&[&ipv6(17, 8), &datagram]), None, None, Some(NetKind::Ipv6), Some(TransportKind::Udp),
+            LenSource::UdpHeaderLen),
+        (Entry::Ethernet, frame(&[&ethernet(0x88e5), &open_tag, &[8, 6], &arp]), Some(LinkKind::Ethernet2),
+            Some(ExtKind::Macsec), Some(NetKind::Arp), None, LenSource::ArpAddrLengths),
+        (Entry::Ethernet, frame(&[&ethernet(0x88e5), &shut_tag, &[1, 2, 3, 4]]), Some(LinkKind::Ethernet2),
+            Some(ExtKind::Macsec), None, None, LenSource::MacsecShortLength),
+        (Entry::Ethernet, frame(&[&ethernet(0x8100), &[0xe0, 42, 0xff, 0xff]]), Some(LinkKind::Ethernet2),
+            Some(ExtKind::Vlan(42)), None, None, LenSource::Slice),
+    ];
+    for (entry, frame, link, tag, net, transport, end) in frames {
+        let packet = slice_from(entry, &frame).unwrap();
+        let kinds = (packet.link.map(|layer| layer.kind), packet.link_exts[0].map(|layer| layer.kind));
+        assert_eq!(kinds, (link, tag));
+        assert_eq!((packet.net.map(|layer| layer.kind), packet.transport.map(|layer| layer.kind)), (net, transport));
+        assert_eq!(packet.payload_end, end);
+    }
 }
 
 /// The text of each kind of refusal.
