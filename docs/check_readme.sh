@@ -1,17 +1,16 @@
 #!/usr/bin/env bash
-# Runs every command of the README in a fresh clone: docs/check_readme.sh [--long] [--root]
+# Runs every command of the README in a fresh clone: docs/check_readme.sh [--long]
 #
 # Commands are the lines of the README's blocks ```sh. Each block is run from the top of the clone, in one shell, up to
-# its first failure. A line whose comment begins with `long:` or `root:` takes minutes or needs root, and is skipped
-# unless it is asked for. What is committed is what is checked. The README's example has to be the one in the crate that it
-# names, and its kit the one that `rt version` says. The status is 0 where no command failed.
+# its first failure. A line whose comment begins with `long:` takes minutes, and is skipped unless it is asked for. What is
+# committed is what is checked. The README's example has to be the one in the crate that it names, and its kit the one that
+# `rt version` says. The status is 0 where no command failed.
 set -uo pipefail
 cd "$(dirname "$0")/.."
-skipped='long|root'
+skips_long=1
 for argument in "$@"; do
     case $argument in
-        --long) skipped=${skipped/long/-} ;;
-        --root) skipped=${skipped/root/-} ;;
+        --long) skips_long=0 ;;
         *) sed -n '2,7s/^# //p' "$0"; exit 2 ;;
     esac
 done
@@ -38,7 +37,7 @@ left_out=0
 for block in $(ls "$work"/block.* | sort -V); do
     # The lines that are run, each behind one that prints it.
     while IFS= read -r line; do
-        if [[ $line =~ \#\ ($skipped): ]]; then
+        if ((skips_long)) && [[ $line == *"# long:"* ]]; then
             echo "skipped: $line" >&2
             left_out=$((left_out + 1))
         elif [[ -n $line ]]; then
