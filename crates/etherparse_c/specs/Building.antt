@@ -40,8 +40,8 @@ udp_between source_port destination_port = transport.Udp
 
 -- What a call answers that builds the frame of these headers and a payload. The status is 0, and the frame is written
 -- to the front of the buffer; 3, and the buffer has too few bytes for it; 4, and the headers' length fields have no room
--- for the payload; or 5, and there was no memory. Only at 0 is the buffer changed, and at 0 and 3 the number of the
--- frame's bytes is told.
+-- for the payload; or 5, and there was no memory for a frame that no row refuses. Only at 0 is the buffer changed, and
+-- at 0 and 3 the number of the frame's bytes is told.
 abbrev pub IsBuilt : Held → List ℕ → List ℕ → List ℕ → ℕ → ℕ → Type 0
 IsBuilt held payload old new written status =
     let frame = built_frame held payload in
@@ -51,7 +51,7 @@ IsBuilt held payload old new written status =
     × (new ≡ old) × (written ≡ length frame))
     ⊎ ((status ≡ 4) × ((error : BuildWriteError) × RefusesBuild held (length payload) error)
     × (new ≡ old) × (written ≡ 0))
-    ⊎ ((status ≡ 5) × (new ≡ old) × (written ≡ 0))
+    ⊎ ((status ≡ 5) × IsBuildable held (length payload) × (new ≡ old) × (written ≡ 0))
 
 -- The same for a route and a transport header. Where the version of the route is none, the status is 2, and nothing is
 -- changed.

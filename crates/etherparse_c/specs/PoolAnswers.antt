@@ -14,6 +14,7 @@ use Rattle.ep_packet.specs.Fragments.{fragment_of}
 use Rattle.ep_packet.specs.Frame.{IsFrame}
 use Rattle.ep_packet.specs.Layers.{Layers}
 use Rattle.ep_packet.specs.Refusals.{RefusesFrame}
+use Rattle.etherparse_c.specs.declared.handle.Handle.{Handle}
 use Rattle.etherparse_c.specs.declared.pool.Pool.{Pool}
 use Rattle.etherparse_c.specs.declared.pool_answer.PoolAnswer.{PoolAnswer}
 use Rattle.etherparse_c.specs.declared.state.State.{State}
@@ -31,9 +32,9 @@ pub record IsFresh (most : ℕ) (state : State) : Type 0 where
 
 -- The status is 0, and C is given the address of a pool of this limit without streams; or it is 5, and what stood in
 -- its place is as it was.
-abbrev pub IsNewPool : ℕ → Option Pool → Option Pool → ℕ → Type 0
+abbrev pub IsNewPool : ℕ → Handle → Handle → ℕ → Type 0
 IsNewPool limit old new status =
-    ((status ≡ 0) × ((pool : Pool) × (new ≡ Some pool)
+    ((status ≡ 0) × ((pool : Pool) × (new.pool ≡ Some pool)
     × ((state : State) × (pool.held.state ≡ Some state) × IsFresh limit state)))
     ⊎ ((status ≡ 5) × (new ≡ old))
 

@@ -27,7 +27,7 @@ use std::mem::replace;
 /// 0, or 5 where there was no memory, and `pool` is as it was.
 #[unsafe(no_mangle)]
 pub extern "C" fn etherparse_pool_new(alloc: Global, pool: &mut Handle) -> u32
-    ensures { IsNewPool 65535 pool.old.pool pool.new.pool result }
+    ensures { IsNewPool 65535 pool.old pool.new result }
 {
     new_pool(alloc, 65_535, pool)
 }
@@ -35,7 +35,7 @@ pub extern "C" fn etherparse_pool_new(alloc: Global, pool: &mut Handle) -> u32
 /// The same of a pool in which no payload has more than `limit` bytes.
 #[unsafe(no_mangle)]
 pub extern "C" fn etherparse_pool_with_limit(alloc: Global, limit: u16, pool: &mut Handle) -> u32
-    ensures { IsNewPool limit pool.old.pool pool.new.pool result }
+    ensures { IsNewPool limit pool.old pool.new result }
 {
     new_pool(alloc, limit, pool)
 }
@@ -105,7 +105,7 @@ pub extern "C" fn etherparse_pool_drop_older(alloc: Global, pool: &mut Pool, tim
 
 /// A pool of this limit, whose address is left in `pool`.
 fn new_pool(alloc: Global, limit: u16, pool: &mut Handle) -> u32
-    ensures { IsNewPool limit pool.old.pool pool.new.pool result }
+    ensures { IsNewPool limit pool.old pool.new result }
 {
     let Ok(state) = Box::new(alloc, fresh(alloc, limit)) else {
         return numbers::OUT_OF_MEMORY;
