@@ -9,8 +9,8 @@ use Rattle.capture_reader.specs.Numbers.{word32_at}
 use Rattle.capture_reader.specs.Blocks.{IsBlock, RefusesBlock, section_after}
 use Rattle.capture_reader.specs.Blocks.{block_in, block_of, block_rows, body_rows, has_no_order}
 use Rattle.capture_reader.specs.Blocks.{least_len, most_block, order_in, order_of}
-use Rattle.capture_reader.specs.Contents.{FitsLen, IsFramed, Says, StandsIn, content_interfaces, content_shown}
-use Rattle.capture_reader.specs.Contents.{section_of}
+use Rattle.capture_reader.specs.BlockContents.{FitsLen, IsFramed, Says, StandsIn, content_interfaces, content_shown}
+use Rattle.capture_reader.specs.BlockContents.{section_of}
 use Rattle.capture_reader.specs.Captures.{block_shown}
 use Rattle.capture_reader.specs.declared.block.BlockKind.{BlockKind}
 use Rattle.capture_reader.specs.declared.block.BlockKind.TheVariants.{SectionHeader, InterfaceDescription, SimplePacket}

@@ -13,7 +13,7 @@ use Rattle.capture_reader.specs.Captures.{Item, Stage, at_start, in_records, in_
 use Rattle.capture_reader.specs.Captures.{Fits, IsCapture, RefusesCapture, begins_section}
 use Rattle.capture_reader.specs.Captures.{item_bytes, item_rows, items_bytes, may_end}
 use Rattle.capture_reader.specs.Captures.{stage_after, stage_behind}
-use Rattle.capture_reader.specs.Contents.{section_of}
+use Rattle.capture_reader.specs.BlockContents.{section_of}
 use Rattle.capture_reader.specs.Readers.{AdvancesTo, Answers, BlocksStand, IsOther, IsUnmoved, Passes, Reads}
 use Rattle.capture_reader.specs.Readers.{ReadsBlocks}
 use Rattle.capture_reader.specs.Readers.{ReadsMore, ShowsItem, StepsOver, StopsAt, Waits, most_held}

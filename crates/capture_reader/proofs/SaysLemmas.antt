@@ -4,7 +4,7 @@ use Rattle.std.proofs.Common.{None, length, drop, refl, sym, ap, ◌∙◌, arit
 use Rattle.std.proofs.lemmas.Bool.{lt-ltb, not_from_true}
 use Rattle.ep_base.specs.Tables.{first_row}
 use Rattle.capture_reader.specs.Blocks.{interface_of, interface_read, most_interfaces, options_rows}
-use Rattle.capture_reader.specs.Contents.{Says, section_of}
+use Rattle.capture_reader.specs.BlockContents.{Says, section_of}
 use Rattle.capture_reader.specs.declared.block.BlockKind.TheVariants.{InterfaceDescription}
 use Rattle.capture_reader.specs.declared.block.BlockKind.TheVariants.{Other}
 use Rattle.capture_reader.specs.declared.block.Content.TheVariants as content

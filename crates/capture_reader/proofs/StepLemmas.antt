@@ -12,7 +12,7 @@ use Rattle.capture_reader.specs.Captures.{Item, heading, packet, block, at_start
 use Rattle.capture_reader.specs.Captures.{BeginsSection, Fits, PlainShown, begins_section}
 use Rattle.capture_reader.specs.Captures.{block_shown, item_bytes, may_end, record_shown, shown_in}
 use Rattle.capture_reader.specs.Captures.{stage_after}
-use Rattle.capture_reader.specs.Contents.{FitsLen, content_interfaces, content_shown, known_shown, section_of}
+use Rattle.capture_reader.specs.BlockContents.{FitsLen, content_interfaces, content_shown, known_shown, section_of}
 use Rattle.capture_reader.specs.Readers.{Answers, BlocksStand, IsOther, ReadsBlocks}
 use Rattle.capture_reader.specs.Readers.{ShowsItem, StepsOver, reader_bytes}
 use Rattle.capture_reader.specs.Readers.{reader_packet, reader_rest, reader_shown, reader_stage}

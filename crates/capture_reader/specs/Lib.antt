@@ -3,6 +3,6 @@ pub mod Classic
 pub mod Options
 pub mod Blocks
 pub mod Captures
-pub mod Contents
+pub mod BlockContents
 pub mod States
 pub mod Readers

@@ -7,7 +7,7 @@ use Rattle.capture_reader.specs.Captures.{Item, packet, Stage, at_start, in_reco
 use Rattle.capture_reader.specs.Captures.{AreItems, Fits, IsCapture, PlainShown, RefusesCapture, begins_section}
 use Rattle.capture_reader.specs.Captures.{item_bytes, item_rows, items_bytes, may_end, shown_in, stage_after}
 use Rattle.capture_reader.specs.Captures.{stage_behind}
-use Rattle.capture_reader.specs.Contents.{known_shown, section_of}
+use Rattle.capture_reader.specs.BlockContents.{known_shown, section_of}
 use Rattle.capture_reader.specs.Classic.{PlainPacket, kept_packet, most_kept}
 use Rattle.capture_reader.specs.declared.byte_order.ByteOrder.{ByteOrder}
 use Rattle.capture_reader.specs.declared.byte_order.ByteOrder.TheVariants.{Big}

@@ -5,7 +5,7 @@ ghost use Rattle.ep_base.specs.Tables.{Refuses, first_row};
 ghost use Rattle.capture_reader.specs.Blocks.{IsBlock, RefusesBlock, block_in, block_of, body_rows, kept_of, kept_rows};
 ghost use Rattle.capture_reader.specs.Blocks.{kind_of, known_order, knows_minor, least_len, order_said, section_after};
 ghost use Rattle.capture_reader.specs.Captures.{block_shown};
-ghost use Rattle.capture_reader.specs.Contents.{FitsLen, IsFramed, Says, content_interfaces, content_shown, section_of};
+ghost use Rattle.capture_reader.specs.BlockContents.{FitsLen, IsFramed, Says, content_interfaces, content_shown, section_of};
 
 use crate::byte_order::ByteOrder;
 use crate::interface::{Interface, padding_of};

@@ -3,7 +3,7 @@
 ghost use Rattle.std.specs.Prelude.{◌≡◌, ◌+◌, ◌≤◌, ℕ, List, IfErr, IfOk, drop, length, slice_range};
 ghost use Rattle.capture_reader.specs.Captures.{record_shown};
 ghost use Rattle.capture_reader.specs.Classic.{IsRecord, RefusesRecord, kept_packet};
-ghost use Rattle.capture_reader.specs.Contents.{known_shown};
+ghost use Rattle.capture_reader.specs.BlockContents.{known_shown};
 
 use crate::byte_order::ByteOrder;
 use crate::heading::{Heading, Resolution};

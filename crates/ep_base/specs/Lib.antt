@@ -1,7 +1,7 @@
 pub mod Bounded
 pub mod Bytes
 pub mod Checksum
-pub mod Comparisons
+pub mod NumberComparisons
 pub mod EtherTypes
 pub mod IpNumbers
 pub mod IpPayload

@@ -5,7 +5,7 @@ ghost use Rattle.std.specs.Ordering.{nat_cmp};
 ghost use Rattle.std.specs.Int.{w16, to_be_bytes};
 ghost use Rattle.std.specs.List.{All};
 ghost use Rattle.ep_base.specs.Checksum.{word_sum, ones_sum, ones_add, checksum_of};
-ghost use Rattle.ep_base.specs.Comparisons.{len_source_cmp, ether_payload_cmp, ip_payload_cmp, ClonesExactly};
+ghost use Rattle.ep_base.specs.NumberComparisons.{len_source_cmp, ether_payload_cmp, ip_payload_cmp, ClonesExactly};
 ghost use Rattle.ep_base.specs.declared.at_least.AtLeast.{AtLeast};
 ghost use Rattle.ep_base.specs.declared.ether_type.TheConstants as ether;
 ghost use Rattle.ep_base.specs.declared.ip_number.TheConstants as number;

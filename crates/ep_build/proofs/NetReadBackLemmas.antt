@@ -26,7 +26,7 @@ use Rattle.ep_ip.specs.Ipv4.{is_ipv4_fragment}
 use Rattle.ep_ip.specs.IpPackets.{IpPacket, IpPart, IsIp, IsIpv4, IsIpv6, ipv4_part, ipv6_part}
 use Rattle.ep_ip.specs.declared.ipv4_header.Ipv4Header.{Ipv4Header}
 use Rattle.ep_ip.specs.declared.ipv6_header.Ipv6Header.{Ipv6Header}
-use Rattle.ep_packet.specs.Fragments.{FrameFragment, first_fragment, ipv4_fragment, ipv6_fragment, net_fragment}
+use Rattle.ep_packet.specs.FrameFragments.{FrameFragment, first_fragment, ipv4_fragment, ipv6_fragment, net_fragment}
 use Rattle.ep_packet.specs.Frame.{IsNetLayer, NetKind, any_ip, only_ipv4, only_ipv6}
 use Rattle.ep_packet.specs.IpHeaders.{EndsExtensions, FitIpHeaders, headers_for, headers_fragment}
 use Rattle.ep_packet.specs.IpHeaders.{ip_headers_of, ip_part_payload, payload_of_headers}

@@ -8,7 +8,7 @@ use Rattle.ep_base.specs.IpPayload.{IpPayload}
 use Rattle.ep_base.specs.Layer.{Reading}
 use Rattle.ep_base.specs.declared.ip_number.IpNumber.{IpNumber}
 use Rattle.ep_link.specs.Arp.{Arp, FitsArp, IsArp, arp_bytes}
-use Rattle.ep_packet.specs.Fragments.{net_fragment}
+use Rattle.ep_packet.specs.FrameFragments.{net_fragment}
 use Rattle.ep_packet.specs.Frame.{IsNetPart, IsTransportBehind, any_ip}
 use Rattle.ep_packet.specs.IpHeaders.{EndsExtensions, FitIpHeaders, headers_for, ip_headers_type}
 use Rattle.ep_packet.specs.IpHeaders.{payload_of_headers}

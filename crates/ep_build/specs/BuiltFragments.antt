@@ -7,7 +7,7 @@ use Rattle.ep_base.specs.Layer.{Reading}
 use Rattle.ep_base.specs.declared.ip_number.IpNumber.{IpNumber}
 use Rattle.ep_link.specs.declared.link_ext.vlan_header.VlanHeader.{VlanHeader}
 use Rattle.ep_link.specs.declared.link_ext.vlan_header.VlanHeader.TheVariants as tags
-use Rattle.ep_packet.specs.Fragments.{FrameFragment, fragment_of, ipv4_fragment, ipv6_fragment}
+use Rattle.ep_packet.specs.FrameFragments.{FrameFragment, fragment_of, ipv4_fragment, ipv6_fragment}
 use Rattle.ep_packet.specs.Frame.{IsFrameIn}
 use Rattle.ep_packet.specs.IpHeaders.{EndsExtensions, payload_of_headers}
 use Rattle.ep_packet.specs.Layers.{Layers}

@@ -8,9 +8,9 @@ use Rattle.std.proofs.lemmas.List.Elements.{recursion_from_All, All-from_recursi
 use Rattle.std.proofs.lemmas.Option.{slice_get-map}
 use Rattle.ep_defrag.specs.declared.ip_defrag_error.IpDefragError.{IpDefragError}
 use Rattle.ep_defrag.specs.declared.ip_frag_id.IpFragId.{IpFragId}
-use Rattle.ep_defrag.specs.Fragments.{IpFragment, is_complete}
-use Rattle.ep_defrag.specs.Refusals.{refusal_within}
-use Rattle.ep_defrag.specs.Cuts.{IsCut}
+use Rattle.ep_defrag.specs.IpFragments.{IpFragment, is_complete}
+use Rattle.ep_defrag.specs.FragmentRefusals.{refusal_within}
+use Rattle.ep_defrag.specs.PayloadCuts.{IsCut}
 use Rattle.ep_defrag.specs.Streams.{name_of, same_stream}
 use Rattle.ep_defrag.specs.Calls.{Call, gives_frame, drops_streams, returns_buffer, Kept, accepted_in, kept_of, kept_by, kept_with, kept_after, kept_after_all, concerns, calls_of, table_after, Answer, answer_unless, answer_with, answer_to, answers_after, answers_to, accepted_at, IfHandedOut}
 use Rattle.ep_defrag.specs.Isolation.{answers_of, fragments_of, GivesCut, HandsOut, HandsOutAtMost}

@@ -12,19 +12,19 @@ use Rattle.ep_build.specs.BuiltFragments.{IsFragmentReadBack}
 use Rattle.ep_build.specs.BuiltFrames.{built_frame, held_ip}
 use Rattle.ep_build.specs.Fits.{FitsLink}
 use Rattle.ep_build.specs.declared.link_part.LinkPart.{LinkPart}
-use Rattle.ep_packet.specs.Fragments.{FrameFragment, fragment_of}
+use Rattle.ep_packet.specs.FrameFragments.{FrameFragment, fragment_of}
 use Rattle.ep_packet.specs.Frame.{IsFrame}
 use Rattle.ep_packet.specs.IpHeaders.{FitIpHeaders}
-use Rattle.ep_packet.specs.Refusals.{RefusesFrame}
+use Rattle.ep_packet.specs.FrameRefusals.{RefusesFrame}
 use Rattle.ep_packet.specs.declared.entry.Entry.{Entry}
 use Rattle.ep_packet.specs.declared.ip_headers.IpHeaders.{IpHeaders}
 use Rattle.ep_defrag.specs.declared.ip_defrag_error.IpDefragError.{IpDefragError}
 use Rattle.ep_defrag.specs.declared.ip_frag_id.IpFragId.{IpFragId}
 use Rattle.ep_defrag.specs.declared.ip_frag_id.IpFragVersionSpecId.{IpFragVersionSpecId}
 use Rattle.ep_defrag.specs.declared.ip_frag_id.IpFragVersionSpecId.TheVariants.{Ipv4, Ipv6}
-use Rattle.ep_defrag.specs.Fragments.{IpFragment, assembled, is_complete}
-use Rattle.ep_defrag.specs.Refusals.{refusal_within}
-use Rattle.ep_defrag.specs.Cuts.{IsCut}
+use Rattle.ep_defrag.specs.IpFragments.{IpFragment, assembled, is_complete}
+use Rattle.ep_defrag.specs.FragmentRefusals.{refusal_within}
+use Rattle.ep_defrag.specs.PayloadCuts.{IsCut}
 use Rattle.ep_defrag.specs.Streams.{PacketFragment, name_of, packet_fragment, same_stream, same_version, source_of}
 use Rattle.ep_defrag.specs.Calls.{Call, gives_frame, drops_streams, returns_buffer, Kept, accepted_in, kept_of, kept_unless, table_after, Payload, payload_of, payload_handed_out, nothing_handed_out, Answer, answer_unless, answer_to, answers_after}
 use Rattle.ep_defrag.specs.BuiltCuts.{BuiltCut, IsBuiltCut, IsUnder, KeepsAll, answers_to_frames, cut_answers, cut_call, cut_fragment, cut_frame, frames_to, gives_to, whole_of}

@@ -32,12 +32,12 @@ use Rattle.ep_link.specs.LinuxSll.{protocol_ether_type}
 use Rattle.ep_link.specs.Vlan.{vlan_bytes}
 use Rattle.ep_packet.specs.declared.entry.Entry.{Entry}
 use Rattle.ep_packet.specs.declared.entry.Entry.TheVariants as at_entry
-use Rattle.ep_packet.specs.Fragments.{FragmentId, ipv4_id, ipv6_id, FrameFragment, first_fragment, ipv4_fragment, ipv6_fragment, net_fragment, fragment_of}
+use Rattle.ep_packet.specs.FrameFragments.{FragmentId, ipv4_id, ipv6_id, FrameFragment, first_fragment, ipv4_fragment, ipv6_fragment, net_fragment, fragment_of}
 use Rattle.ep_packet.specs.Frame.{NetKind, only_ipv4, only_ipv6, only_arp, any_ip, net_kind, IsNetLayer, IsNetPart, IsInside, IsFrame}
 use Rattle.ep_packet.specs.Layers.{Layers, NetLayer, ipv4_layer, ipv6_layer, ip_layer}
 use Rattle.ep_packet.specs.VlanTags.{vlan_ids_in}
 use Rattle.ep_transport.specs.TransportParts.{TransportLayer}
-use Rattle.ep_defrag.specs.Fragments.{IpFragment}
+use Rattle.ep_defrag.specs.IpFragments.{IpFragment}
 use Rattle.ep_defrag.specs.Completing.{CarryingFrame, is_part, CarriesOf}
 
 -- ---- what the name of a stream says, of which a frame carries a fragment

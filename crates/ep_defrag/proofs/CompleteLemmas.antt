@@ -7,7 +7,7 @@ use Rattle.std.proofs.lemmas.Bool.Decides.{nat_tests}
 use Rattle.std.proofs.lemmas.List.Sums.{sum_by-cons}
 use Rattle.ep_defrag.specs.declared.ip_frag_range.IpFragRange.{IpFragRange}
 use Rattle.ep_defrag.specs.Ranges.{has_byte, touches}
-use Rattle.ep_defrag.specs.Fragments.{IpFragment, fragment_start, fragment_end, range_of, is_covered, is_touched, reach_of, end_of, IsComplete}
+use Rattle.ep_defrag.specs.IpFragments.{IpFragment, fragment_start, fragment_end, range_of, is_covered, is_touched, reach_of, end_of, IsComplete}
 use Rattle.ep_defrag.specs.Buffers.{is_whole}
 use Rattle.ep_defrag.proofs.ListLemmas.{list_all-range, each_of_range, count_by-positive}
 use Rattle.ep_defrag.proofs.SectionLemmas.{IsOrdered}

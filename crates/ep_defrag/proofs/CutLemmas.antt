@@ -7,9 +7,9 @@ use Rattle.std.proofs.lemmas.Bool.Decides.{nat_tests}
 use Rattle.std.proofs.lemmas.List.Edits.{get_or-between}
 use Rattle.std.proofs.lemmas.List.Folds.{Any-from_list_any, list_any-from_Any}
 use Rattle.std.proofs.lemmas.List.FromFn.{fill_by_all}
-use Rattle.ep_defrag.specs.Fragments.{IpFragment, is_final, fragment_start, fragment_end, covers, is_covered, IsCovered, reach_of, end_of, byte_at, assembled, IsComplete}
-use Rattle.ep_defrag.specs.Refusals.{is_unaligned, conflicts_with, ends_too_early, FitsWithin}
-use Rattle.ep_defrag.specs.Cuts.{IsCut}
+use Rattle.ep_defrag.specs.IpFragments.{IpFragment, is_final, fragment_start, fragment_end, covers, is_covered, IsCovered, reach_of, end_of, byte_at, assembled, IsComplete}
+use Rattle.ep_defrag.specs.FragmentRefusals.{is_unaligned, conflicts_with, ends_too_early, FitsWithin}
+use Rattle.ep_defrag.specs.PayloadCuts.{IsCut}
 use Rattle.ep_defrag.proofs.ListLemmas.{list_all-range, each_of_range}
 use Rattle.ep_defrag.proofs.DataLemmas.{refusal_at-fits}
 

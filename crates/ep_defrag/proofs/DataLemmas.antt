@@ -7,8 +7,8 @@ use Rattle.std.proofs.lemmas.List.{get_or_past, append-nil, append_assoc, get_or
 use Rattle.std.proofs.lemmas.List.Folds.{list_any-append}
 use Rattle.std.proofs.lemmas.List.FromFn.{length-map-range_with_len, get_or-map-range_with_len, fill_by_all}
 use Rattle.ep_defrag.specs.Ranges.{touches}
-use Rattle.ep_defrag.specs.Fragments.{IpFragment, fragment_start, fragment_end, range_of, covers, is_covered, is_touched, reach_of, end_of, byte_at, assembled}
-use Rattle.ep_defrag.specs.Refusals.{is_unaligned, conflicts_with, ends_too_early, end_row, refusal_at_within, FitsWithin, FitAfterWithin, FitInTurnWithin}
+use Rattle.ep_defrag.specs.IpFragments.{IpFragment, fragment_start, fragment_end, range_of, covers, is_covered, is_touched, reach_of, end_of, byte_at, assembled}
+use Rattle.ep_defrag.specs.FragmentRefusals.{is_unaligned, conflicts_with, ends_too_early, end_row, refusal_at_within, FitsWithin, FitAfterWithin, FitInTurnWithin}
 use Rattle.ep_defrag.specs.Buffers.{extended, overwritten, data_after}
 
 or_false : (a : Bool) → (a || false) ≡ a

@@ -5,7 +5,7 @@ use Rattle.std.proofs.lemmas.Bool.Decides.{nat_tests}
 use Rattle.std.proofs.lemmas.List.Elements.{recursion_from_All}
 use Rattle.ep_defrag.specs.declared.ip_defrag_buf.IpDefragBuf.{IpDefragBuf}
 use Rattle.ep_defrag.specs.Ranges.{has_byte, touches}
-use Rattle.ep_defrag.specs.Fragments.{IpFragment, range_of, covers, is_covered, is_touched, FillAlike, TouchAlike}
+use Rattle.ep_defrag.specs.IpFragments.{IpFragment, range_of, covers, is_covered, is_touched, FillAlike, TouchAlike}
 use Rattle.ep_defrag.specs.Buffers.{HoldsFragments, IsUnchanged, ip_number_of, sections_of}
 use Rattle.ep_defrag.proofs.ApartLemmas.{from_apart, same_from_positions}
 

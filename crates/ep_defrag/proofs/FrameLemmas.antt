@@ -11,14 +11,14 @@ use Rattle.ep_packet.specs.declared.entry.Entry.{Entry}
 use Rattle.ep_packet.specs.declared.err.slice_error.SliceError.{SliceError}
 use Rattle.ep_packet.specs.Layers.{Layers}
 use Rattle.ep_packet.specs.Frame.{IsFrame}
-use Rattle.ep_packet.specs.Refusals.{RefusesFrame}
-use Rattle.ep_packet.specs.Fragments.{fragment_of}
+use Rattle.ep_packet.specs.FrameRefusals.{RefusesFrame}
+use Rattle.ep_packet.specs.FrameFragments.{fragment_of}
 use Rattle.ep_defrag.specs.declared.frame_run.FrameCall.{FrameCall}
 use Rattle.ep_defrag.specs.declared.frame_run.FrameCall.TheVariants as frame
 use Rattle.ep_defrag.specs.declared.frame_run.FrameAnswer.{FrameAnswer}
 use Rattle.ep_defrag.specs.declared.ip_frag_id.IpFragId.{IpFragId}
 use Rattle.ep_defrag.specs.Streams.{packet_fragment}
-use Rattle.ep_defrag.specs.Cuts.{IsCut}
+use Rattle.ep_defrag.specs.PayloadCuts.{IsCut}
 use Rattle.ep_defrag.specs.Calls.{Call, gives_frame, drops_streams, returns_buffer, table_after, answers_after, answer_to, accepted_at}
 use Rattle.ep_defrag.specs.FrameCalls.{ReadCall, calls_pool, refuses_frame, IsReadAs, IsOnlyRead, HasBytes, AreReadAs, pool_calls, ReadAnswer, not_sliced, pool_answers, read_answer_to, frame_answers_after, frame_answers_to, pool_answers_in, IfPoolHandsOut, read_answer, table_with_read}
 use Rattle.ep_defrag.proofs.CallLemmas.{table_after-push}

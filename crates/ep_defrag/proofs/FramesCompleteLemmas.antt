@@ -5,8 +5,8 @@ use Rattle.std.specs.Cmp.{IsEquivalence}
 use Rattle.std.proofs.lemmas.Bool.{cases_Bool, false≢true}
 use Rattle.ep_base.specs.Bytes.{AreBytes}
 use Rattle.ep_defrag.specs.declared.ip_frag_id.IpFragId.{IpFragId}
-use Rattle.ep_defrag.specs.Fragments.{IpFragment, is_complete}
-use Rattle.ep_defrag.specs.Refusals.{FitsWithin, FitInTurn, FitInTurnWithin}
+use Rattle.ep_defrag.specs.IpFragments.{IpFragment, is_complete}
+use Rattle.ep_defrag.specs.FragmentRefusals.{FitsWithin, FitInTurn, FitInTurnWithin}
 use Rattle.ep_defrag.specs.Buffers.{data_of}
 use Rattle.ep_defrag.specs.Streams.{same_stream}
 use Rattle.ep_defrag.specs.Calls.{Kept, accepted_in, payload_of, payload_handed_out, nothing_handed_out, answer_to_frame, table_with_frame}

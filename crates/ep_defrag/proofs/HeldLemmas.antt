@@ -9,8 +9,8 @@ use Rattle.std.proofs.lemmas.List.Sorted.{list_any-IsPermutation}
 use Rattle.ep_defrag.specs.declared.ip_defrag_buf.IpDefragBuf.{IpDefragBuf}
 use Rattle.ep_defrag.specs.declared.ip_frag_range.IpFragRange.{IpFragRange}
 use Rattle.ep_defrag.specs.Ranges.{has_byte, touches, merges}
-use Rattle.ep_defrag.specs.Fragments.{IpFragment, fragment_end, range_of, covers, reach_of, end_of, IsComplete}
-use Rattle.ep_defrag.specs.Refusals.{Fits, IsInPlace}
+use Rattle.ep_defrag.specs.IpFragments.{IpFragment, fragment_end, range_of, covers, reach_of, end_of, IsComplete}
+use Rattle.ep_defrag.specs.FragmentRefusals.{Fits, IsInPlace}
 use Rattle.ep_defrag.specs.Buffers.{HoldsFragments, data_of, sections_of, known_end_of, data_after, end_after, sections_after, is_whole}
 use Rattle.ep_defrag.proofs.SectionLemmas.{IsOrdered, merges-from_point, touches-hull, has_byte-hull, test-sections_after}
 use Rattle.ep_defrag.proofs.ApartLemmas.{from_apart, ordered_from, at_most_one}

@@ -5,8 +5,8 @@ use Rattle.std.proofs.lemmas.Bool.{false≢true}
 use Rattle.std.proofs.lemmas.List.Elements.{All-nil, All-cons}
 use Rattle.ep_defrag.specs.declared.ip_defrag_error.IpDefragError.{IpDefragError}
 use Rattle.ep_defrag.specs.declared.ip_defrag_error.IpDefragError.TheVariants.{AllocationFailure}
-use Rattle.ep_defrag.specs.Fragments.{IpFragment, fragment_end, reach_of, end_of}
-use Rattle.ep_defrag.specs.Refusals.{is_unaligned, end_row, refusal_at_within, refusal_of, is_want_of_memory}
+use Rattle.ep_defrag.specs.IpFragments.{IpFragment, fragment_end, reach_of, end_of}
+use Rattle.ep_defrag.specs.FragmentRefusals.{is_unaligned, end_row, refusal_at_within, refusal_of, is_want_of_memory}
 use Rattle.ep_defrag.specs.Runs.{accepted_with, accepted_after, ok_unless, answers_after}
 
 -- ---- a refusal is not one of memory

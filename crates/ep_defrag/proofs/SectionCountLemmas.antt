@@ -7,8 +7,8 @@ use Rattle.std.proofs.lemmas.Bool.Decides.{nat_tests}
 use Rattle.ep_defrag.specs.declared.ip_frag_range.IpFragRange.{IpFragRange}
 use Rattle.ep_defrag.specs.declared.ip_defrag_buf.IpDefragBuf.{IpDefragBuf}
 use Rattle.ep_defrag.specs.Ranges.{has_byte, touches}
-use Rattle.ep_defrag.specs.Fragments.{IpFragment, range_of, covers, is_covered, is_touched, reach_of}
-use Rattle.ep_defrag.specs.Refusals.{FitInTurnWithin}
+use Rattle.ep_defrag.specs.IpFragments.{IpFragment, range_of, covers, is_covered, is_touched, reach_of}
+use Rattle.ep_defrag.specs.FragmentRefusals.{FitInTurnWithin}
 use Rattle.ep_defrag.specs.Buffers.{HoldsFragments, sections_of}
 use Rattle.ep_defrag.specs.Calls.{Kept}
 use Rattle.ep_defrag.specs.Pools.{Stream, HoldsEntry}

@@ -9,8 +9,8 @@ use Rattle.ep_defrag.specs.declared.ip_defrag_buf.IpDefragBuf.{IpDefragBuf}
 use Rattle.ep_defrag.specs.declared.ip_defrag_payload_vec.IpDefragPayloadVec.{IpDefragPayloadVec}
 use Rattle.ep_defrag.specs.declared.ip_frag_id.IpFragId.{IpFragId}
 use Rattle.ep_defrag.specs.declared.ip_defrag_pool.IpDefragPool.{IpDefragPool}
-use Rattle.ep_defrag.specs.Fragments.{IpFragment, fragment_end}
-use Rattle.ep_defrag.specs.Refusals.{RefusesWithin, MayNeedMemoryWithin}
+use Rattle.ep_defrag.specs.IpFragments.{IpFragment, fragment_end}
+use Rattle.ep_defrag.specs.FragmentRefusals.{RefusesWithin, MayNeedMemoryWithin}
 use Rattle.ep_defrag.specs.Buffers.{HoldsFragments, ip_number_of, data_of, sections_of, known_end_of, data_after, end_after}
 use Rattle.ep_defrag.specs.Streams.{PacketFragment, same_stream, source_of}
 use Rattle.ep_defrag.specs.Calls.{Kept, Payload, accepted_in, kept_with, payload_handed_out, answer_to_frame, table_with_fragment, table_with_frame, FrameMayNeedMemory}

@@ -5,8 +5,8 @@ use Rattle.ep_base.specs.declared.ip_number.IpNumber.{IpNumber}
 use Rattle.ep_defrag.specs.declared.ip_frag_range.IpFragRange.{IpFragRange}
 use Rattle.ep_defrag.specs.declared.ip_defrag_buf.IpDefragBuf.{IpDefragBuf}
 use Rattle.ep_defrag.specs.Ranges.{has_byte, touches, merges, hull}
-use Rattle.ep_defrag.specs.Fragments.{IpFragment, fragment_end, range_of, is_covered, is_touched, end_of, assembled}
-use Rattle.ep_defrag.specs.Refusals.{FitInTurn}
+use Rattle.ep_defrag.specs.IpFragments.{IpFragment, fragment_end, range_of, is_covered, is_touched, end_of, assembled}
+use Rattle.ep_defrag.specs.FragmentRefusals.{FitInTurn}
 
 -- what `ip_number`, `data`, `sections` and `end` answer
 abbrev pub ip_number_of : IpDefragBuf → IpNumber

@@ -9,15 +9,15 @@ use Rattle.ep_build.specs.BuiltFrames.{built_frame, held_ip, ip_packet}
 use Rattle.ep_build.specs.Fits.{FitsLink}
 use Rattle.ep_build.specs.ReadBack.{IsEntryOf}
 use Rattle.ep_build.specs.declared.link_part.LinkPart.{LinkPart}
-use Rattle.ep_packet.specs.Fragments.{FrameFragment, fragment_of}
+use Rattle.ep_packet.specs.FrameFragments.{FrameFragment, fragment_of}
 use Rattle.ep_packet.specs.Frame.{IsFrame}
 use Rattle.ep_packet.specs.IpHeaders.{EndsExtensions, FitIpHeaders}
 use Rattle.ep_packet.specs.Layers.{Layers}
 use Rattle.ep_packet.specs.declared.entry.Entry.{Entry}
 use Rattle.ep_packet.specs.declared.ip_headers.IpHeaders.{IpHeaders}
 use Rattle.ep_defrag.specs.declared.ip_frag_id.IpFragId.{IpFragId}
-use Rattle.ep_defrag.specs.Fragments.{IpFragment, is_final, is_complete}
-use Rattle.ep_defrag.specs.Cuts.{IsCut}
+use Rattle.ep_defrag.specs.IpFragments.{IpFragment, is_final, is_complete}
+use Rattle.ep_defrag.specs.PayloadCuts.{IsCut}
 use Rattle.ep_defrag.specs.Streams.{name_of, packet_fragment, same_stream, source_of}
 use Rattle.ep_defrag.specs.Calls.{Call, gives_frame, drops_streams, returns_buffer, Payload, Answer, payload_handed_out, nothing_handed_out}
 

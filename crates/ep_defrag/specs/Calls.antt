@@ -7,8 +7,8 @@ use Rattle.ep_base.specs.declared.ip_number.IpNumber.{IpNumber}
 use Rattle.ep_base.specs.declared.len_source.LenSource.{LenSource}
 use Rattle.ep_defrag.specs.declared.ip_defrag_error.IpDefragError.{IpDefragError}
 use Rattle.ep_defrag.specs.declared.ip_frag_id.IpFragId.{IpFragId}
-use Rattle.ep_defrag.specs.Fragments.{IpFragment, assembled, is_complete}
-use Rattle.ep_defrag.specs.Refusals.{refusal_within, MayNeedMemoryWithin}
+use Rattle.ep_defrag.specs.IpFragments.{IpFragment, assembled, is_complete}
+use Rattle.ep_defrag.specs.FragmentRefusals.{refusal_within, MayNeedMemoryWithin}
 use Rattle.ep_defrag.specs.Streams.{PacketFragment, name_of, same_stream, source_of}
 
 -- What a call brings: a frame, with the fragment that it carries, if any, its timestamp and its channel; a drop, with

@@ -3,12 +3,12 @@ use Rattle.std.specs.Prelude.{◌≡◌, ◌⊎◌, ℕ, ◌+◌, ◌*◌, ◌/�
 use Rattle.std.specs.Option.{option_map}
 use Rattle.ep_base.specs.Bytes.{AreBytes}
 use Rattle.ep_packet.specs.declared.entry.Entry.{Entry}
-use Rattle.ep_packet.specs.Fragments.{FrameFragment, fragment_of}
+use Rattle.ep_packet.specs.FrameFragments.{FrameFragment, fragment_of}
 use Rattle.ep_packet.specs.Frame.{IsFrame}
 use Rattle.ep_packet.specs.Layers.{Layers}
 use Rattle.ep_defrag.specs.declared.ip_frag_id.IpFragId.{IpFragId}
-use Rattle.ep_defrag.specs.Fragments.{IpFragment, fragment_with, reach_of, end_of, is_complete, IsComplete}
-use Rattle.ep_defrag.specs.Refusals.{FitsWithin}
+use Rattle.ep_defrag.specs.IpFragments.{IpFragment, fragment_with, reach_of, end_of, is_complete, IsComplete}
+use Rattle.ep_defrag.specs.FragmentRefusals.{FitsWithin}
 use Rattle.ep_defrag.specs.Streams.{PacketFragment, packet_fragment, name_of}
 use Rattle.ep_defrag.specs.Calls.{Kept, payload_of, payload_handed_out, nothing_handed_out, answer_to_frame, table_with_frame}
 

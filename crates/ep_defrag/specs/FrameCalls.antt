@@ -7,8 +7,8 @@ use Rattle.ep_base.specs.Bytes.{AreBytes}
 use Rattle.ep_packet.specs.declared.err.slice_error.SliceError.{SliceError}
 use Rattle.ep_packet.specs.Layers.{Layers}
 use Rattle.ep_packet.specs.Frame.{IsFrame}
-use Rattle.ep_packet.specs.Refusals.{RefusesFrame}
-use Rattle.ep_packet.specs.Fragments.{fragment_of}
+use Rattle.ep_packet.specs.FrameRefusals.{RefusesFrame}
+use Rattle.ep_packet.specs.FrameFragments.{fragment_of}
 use Rattle.ep_defrag.specs.declared.ip_frag_id.IpFragId.{IpFragId}
 use Rattle.ep_defrag.specs.declared.pool_run.PoolCall.{PoolCall}
 use Rattle.ep_defrag.specs.declared.frame_run.FrameCall.{FrameCall}

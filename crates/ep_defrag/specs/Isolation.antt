@@ -2,8 +2,8 @@
 use Rattle.std.specs.Prelude.{◌≡◌, ℕ, ◌%◌, IsTrue, ◌⊎◌, Bool, Option, Some, None, List, length, map}
 use Rattle.std.specs.List.{filter_map, items_where_true}
 use Rattle.ep_defrag.specs.declared.ip_frag_id.IpFragId.{IpFragId}
-use Rattle.ep_defrag.specs.Fragments.{IpFragment, is_final}
-use Rattle.ep_defrag.specs.Cuts.{IsCut}
+use Rattle.ep_defrag.specs.IpFragments.{IpFragment, is_final}
+use Rattle.ep_defrag.specs.PayloadCuts.{IsCut}
 use Rattle.ep_defrag.specs.Calls.{Call, gives_frame, drops_streams, returns_buffer, Answer, fragment_refused, payload_handed_out, nothing_handed_out, streams_dropped, buffer_returned, concerns}
 
 -- of the answers to a list of calls, those to the calls that concern a stream

@@ -1,12 +1,12 @@
 pub mod Ranges
-pub mod Fragments
-pub mod Refusals
+pub mod IpFragments
+pub mod FragmentRefusals
 pub mod Buffers
 pub mod Rooms
 pub mod Runs
-pub mod Cuts
-pub mod Texts
-pub mod Comparisons
+pub mod PayloadCuts
+pub mod IpDefragErrorTexts
+pub mod DefragComparisons
 pub mod Streams
 pub mod Calls
 pub mod Pools
@@ -18,11 +18,11 @@ pub mod Completing
 pub use Rattle.ep_base.specs.Bytes
 pub use Rattle.ep_base.specs.Tables
 pub use Rattle.ep_ext.specs.FragmentHeaderSlices
-pub use Rattle.ep_ext.specs.Ipv6Slices as Ipv6ExtensionSlices
+pub use Rattle.ep_ext.specs.Ipv6ExtensionSlices
 pub use Rattle.ep_ip.specs.Ipv4Slices
 pub use Rattle.ep_ip.specs.Ipv6Slices
-pub use Rattle.ep_packet.specs.Fragments as PacketFragments
+pub use Rattle.ep_packet.specs.FrameFragments
 pub use Rattle.ep_packet.specs.Frame
 pub use Rattle.ep_packet.specs.Layers
-pub use Rattle.ep_packet.specs.Refusals as FrameRefusals
+pub use Rattle.ep_packet.specs.FrameRefusals
 pub use Rattle.ep_packet.specs.VlanTags

@@ -7,7 +7,7 @@ use Rattle.std.specs.Fn.{Shared, FnReturnsAt}
 use Rattle.std.proofs.Common.{Bor}
 use Rattle.ep_packet.specs.declared.sliced_packet.SlicedPacket.{SlicedPacket}
 use Rattle.ep_packet.specs.Layers.{layers_of}
-use Rattle.ep_packet.specs.Fragments.{fragment_of}
+use Rattle.ep_packet.specs.FrameFragments.{fragment_of}
 use Rattle.ep_defrag.specs.declared.ip_defrag_error.IpDefragError.{IpDefragError}
 use Rattle.ep_defrag.specs.declared.ip_defrag_error.IpDefragError.TheVariants.{AllocationFailure}
 use Rattle.ep_defrag.specs.declared.ip_frag_range.IpFragRange.{IpFragRange}
@@ -21,8 +21,8 @@ use Rattle.ep_defrag.specs.declared.pool_run.PoolCall.{PoolCall}
 use Rattle.ep_defrag.specs.declared.pool_run.PoolCall.TheVariants as call
 use Rattle.ep_defrag.specs.declared.pool_run.PoolAnswer.{PoolAnswer}
 use Rattle.ep_defrag.specs.declared.pool_run.PoolAnswer.TheVariants as answer
-use Rattle.ep_defrag.specs.Fragments.{IpFragment, fragment_end, range_of, is_complete}
-use Rattle.ep_defrag.specs.Refusals.{FitsWithin, FitInTurnWithin, RefusesWithin, MayNeedMemoryWithin, is_want_of_memory}
+use Rattle.ep_defrag.specs.IpFragments.{IpFragment, fragment_end, range_of, is_complete}
+use Rattle.ep_defrag.specs.FragmentRefusals.{FitsWithin, FitInTurnWithin, RefusesWithin, MayNeedMemoryWithin, is_want_of_memory}
 use Rattle.ep_defrag.specs.Buffers.{HoldsFragments, IsUnchanged, ip_number_of, data_of, sections_of, known_end_of, data_after, sections_after, end_after}
 use Rattle.ep_defrag.specs.Rooms.{LacksRoom}
 use Rattle.ep_defrag.specs.Streams.{PacketFragment, packet_fragment, name_of, same_stream, source_of}

@@ -3,7 +3,7 @@ use Rattle.std.specs.Prelude.{ℕ, ◌<◌, ◌≤◌, ◌⊎◌, length, vec_ca
 use Rattle.std.specs.List.{Any}
 use Rattle.ep_defrag.specs.declared.ip_defrag_buf.IpDefragBuf.{IpDefragBuf}
 use Rattle.ep_defrag.specs.Ranges.{SharePoint}
-use Rattle.ep_defrag.specs.Fragments.{IpFragment, fragment_end, range_of}
+use Rattle.ep_defrag.specs.IpFragments.{IpFragment, fragment_end, range_of}
 use Rattle.ep_defrag.specs.Buffers.{sections_of}
 
 -- that of the data, and that of the sections

@@ -1,8 +1,8 @@
 -- A list of fragments given to a new buffer in turn.
 use Rattle.std.specs.Prelude.{Option, Some, None, Result, Ok, Err, List, [], ◌∷◌, ◌++◌}
 use Rattle.ep_defrag.specs.declared.ip_defrag_error.IpDefragError.{IpDefragError}
-use Rattle.ep_defrag.specs.Fragments.{IpFragment}
-use Rattle.ep_defrag.specs.Refusals.{refusal_of}
+use Rattle.ep_defrag.specs.IpFragments.{IpFragment}
+use Rattle.ep_defrag.specs.FragmentRefusals.{refusal_of}
 
 -- the list with the fragment, unless it is refused
 abbrev pub with_unless : Option IpDefragError → List IpFragment → IpFragment → List IpFragment

@@ -4,11 +4,11 @@ use Rattle.std.specs.Cmp.Lexicographic.{pointwise}
 use Rattle.ep_base.specs.declared.ip_number.IpNumber.{IpNumber}
 use Rattle.ep_base.specs.declared.len_source.LenSource.{LenSource}
 use Rattle.ep_base.specs.declared.len_source.LenSource.TheVariants.{Ipv4HeaderTotalLen, Ipv6HeaderPayloadLen}
-use Rattle.ep_packet.specs.Fragments.{FragmentId, ipv4_id, ipv6_id, FrameFragment}
+use Rattle.ep_packet.specs.FrameFragments.{FragmentId, ipv4_id, ipv6_id, FrameFragment}
 use Rattle.ep_defrag.specs.declared.ip_frag_id.IpFragVersionSpecId.{IpFragVersionSpecId}
 use Rattle.ep_defrag.specs.declared.ip_frag_id.IpFragVersionSpecId.TheVariants.{Ipv4, Ipv6}
 use Rattle.ep_defrag.specs.declared.ip_frag_id.IpFragId.{IpFragId}
-use Rattle.ep_defrag.specs.Fragments.{IpFragment, fragment_with}
+use Rattle.ep_defrag.specs.IpFragments.{IpFragment, fragment_with}
 
 -- What a packet says of the fragment that it carries: the VLAN identifiers in their order, the version with the
 -- addresses and the identification, what the payload is, and the fragment itself.

@@ -3,10 +3,10 @@
 ghost use Rattle.std.specs.Prelude.{◌≡◌};
 ghost use Rattle.std.specs.Option.{option_map, option_and_then};
 ghost use Rattle.ep_ext.specs.FragmentHeaderSlices.{fragment_slice_header};
-ghost use Rattle.ep_ext.specs.Ipv6Slices.{ipv6_slice_parts};
+ghost use Rattle.ep_ext.specs.Ipv6ExtensionSlices.{ipv6_slice_parts};
 ghost use Rattle.ep_ip.specs.Ipv4Slices.{ipv4_slice_header, ipv4_slice_payload};
 ghost use Rattle.ep_ip.specs.Ipv6Slices.{ipv6_slice_extensions, ipv6_slice_header, ipv6_slice_payload};
-ghost use Rattle.ep_packet.specs.Fragments.{first_fragment, ipv4_fragment as fragment_of_ipv4, ipv6_fragment as fragment_of_ipv6};
+ghost use Rattle.ep_packet.specs.FrameFragments.{first_fragment, ipv4_fragment as fragment_of_ipv4, ipv6_fragment as fragment_of_ipv6};
 ghost use Rattle.ep_packet.specs.Layers.{layers_of};
 ghost use Rattle.ep_packet.specs.VlanTags.{vlan_ids_in};
 ghost use Rattle.ep_defrag.specs.Streams.{packet_fragment};

@@ -15,7 +15,7 @@ pub struct Fragment<'a> {
 }
 
 impl<'a> Model for Fragment<'a> {
-    ghost use Rattle.ep_defrag.specs.Fragments.{IpFragment};
+    ghost use Rattle.ep_defrag.specs.IpFragments.{IpFragment};
 
     ghost Value = { IpFragment };
 

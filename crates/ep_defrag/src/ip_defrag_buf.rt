@@ -4,8 +4,8 @@ ghost use Rattle.std.specs.Prelude.{◌≡◌, ◌≢◌, ◌↔◌, ◌⊎◌, 
 ghost use Rattle.std.specs.List.{list_any, Any};
 ghost use Rattle.std.specs.List.Sorted.{IsPermutation};
 ghost use Rattle.ep_defrag.specs.Ranges.{merges, SharePoint, AreApart};
-ghost use Rattle.ep_defrag.specs.Fragments.{IpFragment, fragment_with, fragment_end, range_of, IsComplete};
-ghost use Rattle.ep_defrag.specs.Refusals.{Fits, RefusesFragment, MayNeedMemory, refusal_at, is_want_of_memory};
+ghost use Rattle.ep_defrag.specs.IpFragments.{IpFragment, fragment_with, fragment_end, range_of, IsComplete};
+ghost use Rattle.ep_defrag.specs.FragmentRefusals.{Fits, RefusesFragment, MayNeedMemory, refusal_at, is_want_of_memory};
 
 use crate::MAX_IP_DEFRAG_LEN_U16;
 use crate::ip_defrag_bytes::put;

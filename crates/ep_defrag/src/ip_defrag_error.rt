@@ -1,7 +1,7 @@
 //! Why a fragment is refused.
 
 ghost use Rattle.std.specs.Prelude.{◌≡◌, Some};
-ghost use Rattle.ep_defrag.specs.Texts.{error_text};
+ghost use Rattle.ep_defrag.specs.IpDefragErrorTexts.{error_text};
 
 use ep_base::IpFragOffset;
 use std::fmt;
@@ -41,7 +41,7 @@ pub enum IpDefragError {
 }
 
 impl IpDefragError {
-    ghost use Rattle.ep_defrag.specs.Refusals.{is_want_of_memory};
+    ghost use Rattle.ep_defrag.specs.FragmentRefusals.{is_want_of_memory};
 
     /// Whether the fragment was refused for want of memory.
     pub(crate) fn is_want_of_memory(&self) -> bool

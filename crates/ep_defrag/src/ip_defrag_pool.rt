@@ -3,7 +3,7 @@
 ghost use Rattle.std.specs.Prelude.{◌≡◌, ◌<◌, ◌↔◌, [], Bool, Option, None, IsTrue, IfOk, IfErr, OnOk};
 ghost use Rattle.std.specs.Fn.{FnReturnsAt};
 ghost use Rattle.std.specs.Option.{option_map};
-ghost use Rattle.ep_defrag.specs.Fragments.{fragment_end};
+ghost use Rattle.ep_defrag.specs.IpFragments.{fragment_end};
 ghost use Rattle.ep_defrag.specs.Streams.{source_of};
 ghost use Rattle.ep_defrag.specs.Calls.{Kept, kept_by};
 ghost use Rattle.ep_defrag.specs.Pools.{limit_of, streams_of, stream_named, HoldsTable, LeavesAnswered, HoldsAnswered, IsAnsweredBy, TakesFragment, TakesFrame, fragment_in, plain_payload, payload_in, BufferTakes, BufferRefuses, IsWhole, ChangesStream};

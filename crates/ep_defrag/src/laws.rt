@@ -4,13 +4,13 @@ ghost use Rattle.std.specs.Prelude.{◌≡◌, ◌↔◌, ◌⊎◌, ℕ, ◌+�
 ghost use Rattle.std.specs.List.{All, Any};
 ghost use Rattle.ep_defrag.specs.declared.TheConstants as constant;
 ghost use Rattle.ep_defrag.specs.Ranges.{touches, merge_of, SharePoint};
-ghost use Rattle.ep_defrag.specs.Fragments.{IpFragment, fragment_with, is_final, IsCovered, reach_of, end_of, assembled, is_complete, IsComplete, FillAlike, TouchAlike};
-ghost use Rattle.ep_defrag.specs.Refusals.{FitsWithin, FitInTurn, FitInTurnWithin};
+ghost use Rattle.ep_defrag.specs.IpFragments.{IpFragment, fragment_with, is_final, IsCovered, reach_of, end_of, assembled, is_complete, IsComplete, FillAlike, TouchAlike};
+ghost use Rattle.ep_defrag.specs.FragmentRefusals.{FitsWithin, FitInTurn, FitInTurnWithin};
 ghost use Rattle.ep_base.specs.Bytes.{AreBytes};
 ghost use Rattle.ep_defrag.specs.Completing.{FillBoth, front_fragment, back_fragment, is_part, CompleteInTurn, CarryingFrame, name_in, CarriesOf, FramesComplete};
-ghost use Rattle.ep_defrag.specs.Cuts.{IsCut};
+ghost use Rattle.ep_defrag.specs.PayloadCuts.{IsCut};
 ghost use Rattle.ep_defrag.specs.Buffers.{IsUnchanged, ip_number_of, data_of, sections_of, HoldsFragments};
-ghost use Rattle.ep_defrag.specs.Comparisons.{range_cmp, buffer_cmp, error_cmp};
+ghost use Rattle.ep_defrag.specs.DefragComparisons.{range_cmp, buffer_cmp, error_cmp};
 ghost use Rattle.ep_defrag.specs.Streams.{same_stream};
 ghost use Rattle.ep_defrag.specs.Calls.{Call, Kept, accepted_in, calls_of, answers_to};
 ghost use Rattle.ep_defrag.specs.Isolation.{answers_of, fragments_of, GivesCut, HandsOut, HandsOutAtMost};

@@ -2,7 +2,7 @@
 
 ghost use Rattle.std.specs.Prelude.{◌≡◌, ◌<◌, ℕ, Bool, List, take, map, length, slice_get, Option, Some, IsFalse, IfOk, IfErr, OnOk, OnErr};
 ghost use Rattle.std.specs.List.{All, HoldsAt};
-ghost use Rattle.ep_defrag.specs.Cuts.{IsCut};
+ghost use Rattle.ep_defrag.specs.PayloadCuts.{IsCut};
 ghost use Rattle.ep_defrag.specs.Calls.{Kept, table_after, table_with, answer_to, answers_to, CallMayNeedMemory, accepted_at, IfHandedOut};
 ghost use Rattle.ep_defrag.specs.Pools.{limit_of, HoldsTable, IsDecidedBy, plain_call, plain_answer, wants_memory, answer_wants_memory};
 

@@ -3,8 +3,8 @@
 ghost use Rattle.std.specs.Prelude.{◌≡◌, ◌≢◌, ◌<◌, ℕ, List, [], take, length, IfOk, IfErr, OnOk, OnErr, Err};
 ghost use Rattle.std.specs.List.{All, HoldsAt};
 ghost use Rattle.ep_defrag.specs.declared.ip_defrag_error.IpDefragError.TheVariants as defrag_error;
-ghost use Rattle.ep_defrag.specs.Fragments.{IpFragment};
-ghost use Rattle.ep_defrag.specs.Refusals.{MayNeedMemory, refusal_of};
+ghost use Rattle.ep_defrag.specs.IpFragments.{IpFragment};
+ghost use Rattle.ep_defrag.specs.FragmentRefusals.{MayNeedMemory, refusal_of};
 ghost use Rattle.ep_defrag.specs.Buffers.{HoldsFragments, ip_number_of};
 ghost use Rattle.ep_defrag.specs.Runs.{accepted_with, accepted_after, ok_unless, answers_after};
 

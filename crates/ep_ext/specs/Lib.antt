@@ -6,7 +6,7 @@ pub mod IpAuth
 pub mod IpAuthSlices
 pub mod Ipv4Chains
 pub mod Ipv6Chains
-pub mod Ipv6Slices
+pub mod Ipv6ExtensionSlices
 pub mod RawExtension
 pub mod RawExtensionSlices
 pub mod ShownChains

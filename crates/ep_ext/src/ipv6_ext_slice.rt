@@ -11,7 +11,7 @@ ghost use Rattle.ep_ext.specs.RawExtension.{IsRawExtension, raw_extension_rows};
 ghost use Rattle.ep_ext.specs.RawExtensionSlices.{raw_extension_slice_bytes, raw_extension_slice_header};
 ghost use Rattle.ep_ext.specs.ExtensionParts.{IsExtensionPart, RefusesExtensionPart, auth_refusal, part_fragments, part_next};
 ghost use Rattle.ep_ext.specs.Chains.{is_ipv6_extension, further_in, offset_of};
-ghost use Rattle.ep_ext.specs.Ipv6Slices.{extension_slice_bytes, extension_slice_part};
+ghost use Rattle.ep_ext.specs.Ipv6ExtensionSlices.{extension_slice_bytes, extension_slice_part};
 
 use crate::ip_auth_header_slice::IpAuthHeaderSlice;
 use crate::ipv6_fragment_header_slice::Ipv6FragmentHeaderSlice;

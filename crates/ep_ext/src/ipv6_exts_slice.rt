@@ -29,7 +29,7 @@ impl<'a> Ipv6ExtensionsSlice<'a> {
     ghost use Rattle.std.specs.Prelude.{◌≡◌, ◌++◌, List, ℕ, IfOk, IfErr, IsOkAnd};
     ghost use Rattle.ep_base.specs.Layer.{slices};
     ghost use Rattle.ep_ext.specs.Chains.{ipv6, ExtensionChain, IsExtensionChain, RefusesExtensionChain, chain_of, chain_fragments};
-    ghost use Rattle.ep_ext.specs.Ipv6Slices.{ipv6_slice_parts, ipv6_slice_bytes, ipv6_slice_number};
+    ghost use Rattle.ep_ext.specs.Ipv6ExtensionSlices.{ipv6_slice_parts, ipv6_slice_bytes, ipv6_slice_number};
 
     /// The extension headers at the front of the slice, which begins with what the number says, the number of what
     /// follows them, and the bytes behind them.
@@ -87,7 +87,7 @@ impl<'a> Ipv6ExtensionsSlice<'a> {
 }
 
 impl<'a> IntoIterator for Ipv6ExtensionsSlice<'a> {
-    ghost use Rattle.ep_ext.specs.Ipv6Slices.{BeginsIteration};
+    ghost use Rattle.ep_ext.specs.Ipv6ExtensionSlices.{BeginsIteration};
 
     type Item = Ipv6ExtensionSlice<'a>;
 

@@ -14,7 +14,7 @@ pub struct Ipv6ExtensionSliceIter<'a> {
 
 impl<'a> Iterator for Ipv6ExtensionSliceIter<'a> {
     ghost use Rattle.std.specs.Iterator.{item_count};
-    ghost use Rattle.ep_ext.specs.Ipv6Slices.{YieldsExtension, parts_left};
+    ghost use Rattle.ep_ext.specs.Ipv6ExtensionSlices.{YieldsExtension, parts_left};
 
     type Item = Ipv6ExtensionSlice<'a>;
 

@@ -16,7 +16,7 @@ ghost use Rattle.ep_ext.specs.RawExtension.{FitsRawExtension, IsRawExtension, Re
 ghost use Rattle.ep_ext.specs.RawExtensionSlices.{raw_extension_slice_bytes};
 ghost use Rattle.ep_ext.specs.FragmentHeaderSlices.{fragment_slice_bytes};
 ghost use Rattle.ep_ext.specs.ExtensionParts.{part_number};
-ghost use Rattle.ep_ext.specs.Ipv6Slices.{bytes_left, extension_slice_bytes, extension_slice_part, ipv6_slice_bytes, ipv6_slice_number, number_left};
+ghost use Rattle.ep_ext.specs.Ipv6ExtensionSlices.{bytes_left, extension_slice_bytes, extension_slice_part, ipv6_slice_bytes, ipv6_slice_number, number_left};
 ghost use Rattle.ep_ext.specs.Chains.{FitParts, IpVersion, IsExtensionChain, RefusesExtensionChain};
 ghost use Rattle.ep_ext.specs.Ipv4Chains.{ipv4_parts};
 ghost use Rattle.ep_ext.specs.Ipv6Chains.{FitRouting, ipv6_parts};

@@ -2,8 +2,8 @@
 use Rattle.std.specs.Prelude.{◌≡◌, ℕ, List, ◌++◌}
 use Rattle.ep_base.specs.IpPayload.{IpPayload, ip_payload_of}
 use Rattle.ep_ext.specs.ExtensionParts.{ExtensionPart}
-use Rattle.ep_ext.specs.Ipv6Slices.{ipv6_slice_parts as extension_parts, ipv6_slice_bytes as extension_bytes}
-use Rattle.ep_ext.specs.Ipv6Slices.{ipv6_slice_number as extension_number}
+use Rattle.ep_ext.specs.Ipv6ExtensionSlices.{ipv6_slice_parts as extension_parts, ipv6_slice_bytes as extension_bytes}
+use Rattle.ep_ext.specs.Ipv6ExtensionSlices.{ipv6_slice_number as extension_number}
 use Rattle.ep_ip.specs.declared.ipv6_header.Ipv6Header.{Ipv6Header}
 use Rattle.ep_ip.specs.declared.ipv6_header_slice.Ipv6HeaderSlice.{Ipv6HeaderSlice}
 use Rattle.ep_ip.specs.declared.ipv6_slice.Ipv6Slice.{Ipv6Slice}

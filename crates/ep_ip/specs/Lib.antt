@@ -8,14 +8,14 @@ pub mod Ipv6
 pub mod Ipv6Slices
 -- what the contracts name of the crates below
 pub use Rattle.ep_base.specs.Bytes
-pub use Rattle.ep_base.specs.Comparisons
+pub use Rattle.ep_base.specs.NumberComparisons
 pub use Rattle.ep_base.specs.IpPayload
 pub use Rattle.ep_base.specs.Layer
 pub use Rattle.ep_base.specs.Missing
 pub use Rattle.ep_base.specs.Padding
 pub use Rattle.ep_base.specs.Tables
 pub use Rattle.ep_ext.specs.Ipv4Chains
-pub use Rattle.ep_ext.specs.Ipv6Slices as Ipv6ExtensionSlices
+pub use Rattle.ep_ext.specs.Ipv6ExtensionSlices
 pub use Rattle.ep_base.specs.declared.err.ip.HeaderError as IpHeaderErrorType
 pub use Rattle.ep_base.specs.declared.err.ip.HeadersError as IpHeadersErrorType
 pub use Rattle.ep_base.specs.declared.err.ip.SliceError as IpSliceErrorType

@@ -1,7 +1,7 @@
 //! An IPv6 packet in a slice (RFC 8200).
 
 ghost use Rattle.std.specs.Prelude.{◌≡◌, ◌++◌, IfOk, IfErr, IsOkAnd, List, ℕ};
-ghost use Rattle.ep_ext.specs.Ipv6Slices.{ipv6_slice_number as extension_number};
+ghost use Rattle.ep_ext.specs.Ipv6ExtensionSlices.{ipv6_slice_number as extension_number};
 ghost use Rattle.ep_ip.specs.Ipv6.{ipv6_header_of};
 
 use crate::ipv6_header::Ipv6Header;
@@ -45,7 +45,7 @@ impl<'a> Clone for Ipv6Slice<'a> {
 impl<'a> Ipv6Slice<'a> {
     ghost use Rattle.ep_base.specs.Layer.{slices};
     ghost use Rattle.ep_base.specs.IpPayload.{ip_payload_of};
-    ghost use Rattle.ep_ext.specs.Ipv6Slices.{ipv6_slice_parts as extension_parts, ipv6_slice_bytes as extension_bytes};
+    ghost use Rattle.ep_ext.specs.Ipv6ExtensionSlices.{ipv6_slice_parts as extension_parts, ipv6_slice_bytes as extension_bytes};
     ghost use Rattle.ep_ip.specs.declared.ipv6_header.Ipv6Header.{Ipv6Header};
     ghost use Rattle.ep_ip.specs.IpPackets.{IpPacket, IsIpv6, RefusesIpv6};
     ghost use Rattle.ep_ip.specs.Ipv6Slices.{ipv6_header_slice_header, ipv6_header_slice_bytes};

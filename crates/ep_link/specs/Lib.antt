@@ -13,7 +13,7 @@ pub mod LinkSlices
 pub mod LinkExtensions
 -- what the contracts name of the crates below
 pub use Rattle.ep_base.specs.Bytes
-pub use Rattle.ep_base.specs.Comparisons
+pub use Rattle.ep_base.specs.NumberComparisons
 pub use Rattle.ep_base.specs.Layer
 pub use Rattle.ep_base.specs.Missing
 pub use Rattle.ep_base.specs.Padding

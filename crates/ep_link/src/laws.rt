@@ -3,7 +3,7 @@
 ghost use Rattle.std.specs.Prelude.{◌≡◌, ◌↔◌, ◌+◌, ◌++◌, ◌⊎◌, IsTrue, false, ℕ, List, [], length};
 ghost use Rattle.std.specs.Ordering.{nat_cmp};
 ghost use Rattle.ep_base.specs.Bytes.{AreBytes};
-ghost use Rattle.ep_base.specs.Comparisons.{TellsSame, ClonesExactly};
+ghost use Rattle.ep_base.specs.NumberComparisons.{TellsSame, ClonesExactly};
 ghost use Rattle.ep_base.specs.Missing.{TellsCut, TellsMissing, slice_end};
 ghost use Rattle.ep_base.specs.declared.err.len_error.LenError.{LenError};
 ghost use Rattle.ep_base.specs.declared.err.linux_sll.HeaderSliceError.TheVariants as sll_error;

@@ -30,7 +30,7 @@ use Rattle.ep_packet.specs.declared.entry.Entry.TheVariants.{Ethernet as etherne
 use Rattle.ep_packet.specs.declared.err.slice_error.SliceError.{SliceError}
 use Rattle.ep_packet.specs.Layers.{NetLayer, ipv4, ipv6, arp, Layers, ipv6_layer, net_payload}
 use Rattle.ep_packet.specs.Frame.{NetKind, only_ipv4, only_ipv6, only_arp, any_ip, net_kind, most_link_exts, IsFrameIn, IsInside, IsNetLayer, IsNetPart}
-use Rattle.ep_packet.specs.Refusals.{RefusesFrameIn, RefusesInside, RefusesNetLayer, RefusesNetPart, RefusesTransportBehind, net_header_len, transport_refusal}
+use Rattle.ep_packet.specs.FrameRefusals.{RefusesFrameIn, RefusesInside, RefusesNetLayer, RefusesNetPart, RefusesTransportBehind, net_header_len, transport_refusal}
 use Rattle.ep_packet.specs.TwoParsers.{IsUdpLengthRefusal, StopsAtSecondKind}
 use Rattle.ep_packet.proofs.DeciderLemmas.{Deciders, ExtensionPart}
 use Rattle.ep_packet.proofs.NetLemmas.{layer_decided, net_decided}

@@ -43,10 +43,10 @@ use Rattle.ep_packet.specs.declared.entry.Entry.{Entry}
 use Rattle.ep_packet.specs.declared.entry.Entry.TheVariants.{Ethernet as ethernet, LinuxSll as linux_sll, EtherType as ether_type, Ip as ip}
 use Rattle.ep_packet.specs.declared.err.slice_error.SliceError.{SliceError}
 use Rattle.ep_packet.specs.declared.err.slice_error.SliceError.TheVariants as slice_error
-use Rattle.ep_packet.specs.Cuts.{frame_cut_limit, net_cut_limit, net_start}
+use Rattle.ep_packet.specs.FrameCuts.{frame_cut_limit, net_cut_limit, net_start}
 use Rattle.ep_packet.specs.Layers.{NetLayer, arp, ip_layer, ipv4, ipv4_layer, ipv6, ipv6_layer, net_payload}
 use Rattle.ep_packet.specs.Frame.{IsFrameIn, IsInside, IsNetLayer, IsNetPart, IsTransportBehind, NetKind, any_ip, most_link_exts, net_kind, only_arp, only_ipv4, only_ipv6}
-use Rattle.ep_packet.specs.Refusals.{RefusesExtensionAt, RefusesFrameIn, RefusesInside, RefusesNetLayer, RefusesNetPart, RefusesTransportIn, extension_refusal, further_behind, ip_refusal, ipv4_refusal, ipv6_refusal, len_refusal, linux_sll_refusal, transport_refusal}
+use Rattle.ep_packet.specs.FrameRefusals.{RefusesExtensionAt, RefusesFrameIn, RefusesInside, RefusesNetLayer, RefusesNetPart, RefusesTransportIn, extension_refusal, further_behind, ip_refusal, ipv4_refusal, ipv6_refusal, len_refusal, linux_sll_refusal, transport_refusal}
 use Rattle.ep_packet.specs.UncutTags.{CutsNothing}
 use Rattle.ep_packet.proofs.DeciderLemmas.{ExtensionPart}
 use Rattle.ep_packet.proofs.InsideLemmas.{inside_decided}

@@ -36,7 +36,7 @@ use Rattle.ep_packet.specs.FrameBytes.{inner_payload, last_payload, link_payload
 use Rattle.ep_packet.specs.PacketHeaders.{Headers, LieIn, headers_in, headers_of, net_header_in, transport_header_in}
 use Rattle.ep_packet.specs.PayloadParts.{PayloadPart, empty, macsec_modified, behind_header, innermost_part, open_part, open_part_in, payload_part_bytes, payload_part_in, payload_part_of}
 use Rattle.ep_packet.specs.Payloads.{ether_payload_behind, ether_payload_of_parts, extensions_len_source}
-use Rattle.ep_packet.specs.Refusals.{RefusesFrameIn, RefusesInside}
+use Rattle.ep_packet.specs.FrameRefusals.{RefusesFrameIn, RefusesInside}
 use Rattle.ep_packet.specs.HeadersWalk.{FillsInside, FillsNet, begun, open_behind, with_net}
 use Rattle.ep_packet.proofs.FrameLemmas.{frames_decided}
 use Rattle.ep_packet.proofs.LayerLawLemmas.{layer_laws}

@@ -20,7 +20,7 @@ use Rattle.ep_packet.specs.declared.sliced_packet.SlicedPacket.{SlicedPacket}
 use Rattle.ep_packet.specs.declared.entry.Entry.TheVariants.{Ethernet as ethernet, LinuxSll as linux_sll, EtherType as ether_type}
 use Rattle.ep_packet.specs.Layers.{layers_of}
 use Rattle.ep_packet.specs.Frame.{IsFrame, IsInside, most_link_exts}
-use Rattle.ep_packet.specs.Refusals.{RefusesFrame, RefusesInside}
+use Rattle.ep_packet.specs.FrameRefusals.{RefusesFrame, RefusesInside}
 use Rattle.ep_packet.specs.ShownBytes.{link_slice_bytes, ShowsBytes, ShowsInside, ShowsLink}
 use Rattle.ep_packet.specs.Walk.{HoldsBehind}
 use Rattle.ep_packet.proofs.WalkLemmas.{along}

@@ -17,7 +17,7 @@ use Rattle.ep_packet.specs.declared.entry.Entry.{Entry}
 use Rattle.ep_packet.specs.declared.entry.Entry.TheVariants.{Ethernet as ethernet, LinuxSll as linux_sll, EtherType as ether_type, Ip as ip}
 use Rattle.ep_packet.specs.Layers.{Layers}
 use Rattle.ep_packet.specs.Frame.{any_ip, IsInside, most_link_exts, IsFrameIn}
-use Rattle.ep_packet.specs.Refusals.{RefusesInside, RefusesFrameIn, linux_sll_refusal}
+use Rattle.ep_packet.specs.FrameRefusals.{RefusesInside, RefusesFrameIn, linux_sll_refusal}
 use Rattle.ep_packet.proofs.DeciderLemmas.{Deciders}
 use Rattle.ep_packet.proofs.InsideLemmas.{Inside, HoldsInside, inside_decided}
 use Rattle.ep_packet.proofs.NetLemmas.{NetPart, net_decided}

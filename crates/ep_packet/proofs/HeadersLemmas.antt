@@ -31,7 +31,7 @@ use Rattle.ep_packet.specs.IpHeaders.{ip_headers_of, ip_part_payload, of_slice_e
 use Rattle.ep_packet.specs.NetHeaders.{net_headers_of}
 use Rattle.ep_packet.specs.PacketHeaders.{Headers, arp_packet, net_header_in, net_header_of, transport_header_in}
 use Rattle.ep_packet.specs.PayloadParts.{PayloadPart, empty, ether, ip, innermost_part}
-use Rattle.ep_packet.specs.Refusals.{RefusesNetLayer, RefusesNetPart, RefusesTransportBehind, RefusesTransportIn, ip_content_refusal, net_header_len}
+use Rattle.ep_packet.specs.FrameRefusals.{RefusesNetLayer, RefusesNetPart, RefusesTransportBehind, RefusesTransportIn, ip_content_refusal, net_header_len}
 use Rattle.ep_packet.proofs.WalkLemmas.{ends_at}
 use Rattle.ep_packet.specs.HeadersWalk.{FillsInside, FillsNet, FillsIp, FillsTransport, with_net}
 use Rattle.ep_packet.specs.declared.ip_headers.IpHeaders.{IpHeaders}

@@ -19,7 +19,7 @@ use Rattle.ep_packet.specs.PacketHeaders.{Headers}
 use Rattle.ep_packet.specs.PayloadParts.{PayloadPart, macsec_modified, open_part}
 use Rattle.ep_packet.specs.Payloads.{ether_payload_behind, has_short_len, have_short_len}
 use Rattle.ep_packet.specs.declared.err.slice_error.SliceError.{SliceError}
-use Rattle.ep_packet.specs.Refusals.{RefusesInside}
+use Rattle.ep_packet.specs.FrameRefusals.{RefusesInside}
 use Rattle.ep_packet.specs.HeadersWalk.{FillsInside, ending_by, open_behind, source_behind, with_net}
 use Rattle.ep_packet.proofs.HeadersLemmas.{some_inside, typed_there, untyped_there}
 

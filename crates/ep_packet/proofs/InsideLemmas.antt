@@ -12,7 +12,7 @@ use Rattle.ep_transport.specs.TransportParts.{TransportLayer}
 use Rattle.ep_packet.specs.declared.err.slice_error.SliceError.{SliceError}
 use Rattle.ep_packet.specs.Layers.{NetLayer}
 use Rattle.ep_packet.specs.Frame.{net_kind, IsInside}
-use Rattle.ep_packet.specs.Refusals.{RefusesNetPart, RefusesExtensionAt, RefusesInside, extension_refusal}
+use Rattle.ep_packet.specs.FrameRefusals.{RefusesNetPart, RefusesExtensionAt, RefusesInside, extension_refusal}
 use Rattle.ep_packet.proofs.DeciderLemmas.{Deciders, ExtensionLaws, ExtensionPart}
 use Rattle.ep_packet.proofs.NetLemmas.{NetPart, IsNetPartOf, net_decided}
 

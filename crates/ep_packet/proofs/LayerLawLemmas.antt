@@ -13,7 +13,7 @@ use Rattle.ep_ip.proofs.PacketLemmas.{ip_decided, ipv4_decided, ipv6_decided}
 use Rattle.ep_transport.proofs.TransportLemmas.{transport_bytes_are, transport_is_read}
 use Rattle.ep_packet.specs.declared.entry.Entry.{Entry}
 use Rattle.ep_packet.specs.Frame.{IsFrame}
-use Rattle.ep_packet.specs.Refusals.{RefusesFrame}
+use Rattle.ep_packet.specs.FrameRefusals.{RefusesFrame}
 use Rattle.ep_packet.proofs.DeciderLemmas.{Deciders}
 use Rattle.ep_packet.proofs.FrameLemmas.{frames_decided}
 

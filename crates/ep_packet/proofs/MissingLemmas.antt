@@ -57,7 +57,7 @@ use Rattle.ep_packet.specs.declared.err.slice_error.SliceError.{SliceError}
 use Rattle.ep_packet.specs.declared.err.slice_error.SliceError.TheVariants as slice_error
 use Rattle.ep_packet.specs.Layers.{NetLayer, ipv4_layer, ipv6_layer, net_payload}
 use Rattle.ep_packet.specs.Frame.{NetKind, only_ipv4, only_ipv6, only_arp, any_ip, net_kind, most_link_exts, IsNetLayer}
-use Rattle.ep_packet.specs.Refusals.{RefusesExtensionAt, RefusesFrameIn, RefusesInside, RefusesNetLayer, RefusesNetPart, RefusesTransportBehind, RefusesTransportIn, extension_refusal, further_behind, ip_content_refusal, ip_refusal, ipv4_refusal, ipv6_refusal, linux_sll_refusal, net_header_len, transport_refusal}
+use Rattle.ep_packet.specs.FrameRefusals.{RefusesExtensionAt, RefusesFrameIn, RefusesInside, RefusesNetLayer, RefusesNetPart, RefusesTransportBehind, RefusesTransportIn, extension_refusal, further_behind, ip_content_refusal, ip_refusal, ipv4_refusal, ipv6_refusal, linux_sll_refusal, net_header_len, transport_refusal}
 use Rattle.ep_packet.specs.UncutTags.{AreUncut, CutsNothing, HasNoShortLength}
 use Rattle.ep_packet.proofs.DeciderLemmas.{ExtensionPart}
 use Rattle.ep_packet.proofs.LayerLawLemmas.{layer_laws}

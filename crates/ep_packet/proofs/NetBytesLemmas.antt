@@ -12,7 +12,7 @@ use Rattle.ep_ip.specs.IpPackets.{IpPacket, IpPart, ipv4_part, ipv6_part, IsIp}
 use Rattle.ep_packet.specs.Layers.{NetLayer, ipv4, ipv6, arp, ipv4_layer, ipv6_layer, ip_layer, net_payload}
 use Rattle.ep_packet.specs.Frame.{NetKind, only_ipv4, only_ipv6, only_arp, any_ip, IsNetLayer}
 use Rattle.ep_packet.specs.FrameBytes.{EncodesNet, behind_net}
-use Rattle.ep_packet.specs.Refusals.{net_header_len}
+use Rattle.ep_packet.specs.FrameRefusals.{net_header_len}
 use Rattle.ep_packet.proofs.DeciderLemmas.{Deciders}
 
 -- the bytes of a net layer: its headers, the payload of an IP packet, and what is left

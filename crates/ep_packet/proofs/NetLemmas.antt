@@ -11,7 +11,7 @@ use Rattle.ep_transport.specs.TransportParts.{TransportLayer}
 use Rattle.ep_packet.specs.declared.err.slice_error.SliceError.{SliceError}
 use Rattle.ep_packet.specs.Layers.{NetLayer, arp, ipv4_layer, ipv6_layer, ip_layer, net_payload}
 use Rattle.ep_packet.specs.Frame.{NetKind, only_ipv4, only_ipv6, only_arp, any_ip, IsNetLayer, IsTransportBehind, IsNetPart}
-use Rattle.ep_packet.specs.Refusals.{RefusesNetLayer, RefusesTransportBehind, RefusesNetPart, net_header_len, transport_refusal, ipv4_refusal, ipv6_refusal, ip_refusal, len_refusal}
+use Rattle.ep_packet.specs.FrameRefusals.{RefusesNetLayer, RefusesTransportBehind, RefusesNetPart, net_header_len, transport_refusal, ipv4_refusal, ipv6_refusal, ip_refusal, len_refusal}
 use Rattle.ep_packet.specs.FrameBytes.{behind_net}
 use Rattle.ep_packet.proofs.DeciderLemmas.{Deciders}
 use Rattle.ep_packet.proofs.NetBytesLemmas.{behind_payload, layer_bytes}

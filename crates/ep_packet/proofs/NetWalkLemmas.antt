@@ -20,7 +20,7 @@ use Rattle.ep_packet.specs.declared.net_slice.NetSlice.TheVariants as slice
 use Rattle.ep_packet.specs.Layers.{net_layer_of, net_payload}
 use Rattle.ep_packet.specs.Frame.{NetKind, only_ipv4, only_ipv6, any_ip, IsNetLayer, IsTransportBehind}
 use Rattle.ep_packet.specs.NetSlices.{net_slice_of}
-use Rattle.ep_packet.specs.Refusals.{RefusesNetPart, RefusesTransportBehind, RefusesTransportIn, net_header_len}
+use Rattle.ep_packet.specs.FrameRefusals.{RefusesNetPart, RefusesTransportBehind, RefusesTransportIn, net_header_len}
 use Rattle.ep_packet.specs.ShownBytes.{ShowsTransport, net_slice_bytes, net_slice_payload}
 use Rattle.ep_packet.specs.Walk.{HasHeaders, HoldsNet}
 use Rattle.ep_packet.proofs.WalkLemmas.{along}

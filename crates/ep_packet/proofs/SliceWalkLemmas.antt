@@ -13,7 +13,7 @@ use Rattle.ep_packet.specs.declared.err.slice_error.SliceError.{SliceError}
 use Rattle.ep_packet.specs.declared.net_slice.NetSlice.{NetSlice}
 use Rattle.ep_packet.specs.Layers.{NetLayer, net_layer_of}
 use Rattle.ep_packet.specs.Frame.{IsInside, IsNetPart, most_link_exts}
-use Rattle.ep_packet.specs.Refusals.{RefusesExtensionAt, RefusesInside, RefusesNetPart}
+use Rattle.ep_packet.specs.FrameRefusals.{RefusesExtensionAt, RefusesInside, RefusesNetPart}
 use Rattle.ep_packet.specs.ShownBytes.{BeginsWith, ShowsInside}
 use Rattle.ep_packet.specs.Walk.{HasExtensions, net_kind_in}
 use Rattle.ep_packet.proofs.WalkLemmas.{ends_at}

@@ -19,7 +19,7 @@ use Rattle.ep_packet.specs.PacketHeaders.{Headers, net_header_in, transport_head
 use Rattle.ep_packet.specs.PayloadParts.{PayloadPart, ip, innermost_part, open_part}
 use Rattle.ep_packet.specs.Payloads.{ether_payload_behind, have_short_len}
 use Rattle.ep_packet.specs.declared.net_headers.NetHeaders.{NetHeaders}
-use Rattle.ep_packet.specs.Refusals.{net_header_len}
+use Rattle.ep_packet.specs.FrameRefusals.{net_header_len}
 
 -- what set the end of what lies behind some extensions, which lie in a payload whose end this set
 abbrev pub source_behind : LenSource → List LinkExtension → LenSource

@@ -1,14 +1,14 @@
 pub mod Layers
 pub mod Frame
-pub mod Fragments
-pub mod Refusals
+pub mod FrameFragments
+pub mod FrameRefusals
 pub mod LayerErrors
 pub mod NetSlices
 pub mod FrameBytes
 pub mod Offsets
 pub mod Payloads
 pub mod UncutTags
-pub mod Cuts
+pub mod FrameCuts
 pub mod VlanTags
 pub mod ShownBytes
 pub mod Walk
@@ -18,7 +18,7 @@ pub mod PayloadParts
 pub mod PacketHeaders
 pub mod HeadersWalk
 pub mod TwoParsers
-pub mod Comparisons
+pub mod PacketComparisons
 -- what the contracts name of the crates below
 pub use Rattle.ep_base.specs.Bytes
 pub use Rattle.ep_base.specs.IpPayload

@@ -15,7 +15,7 @@ use Rattle.ep_packet.specs.declared.sliced_packet.SlicedPacket.{SlicedPacket}
 use Rattle.ep_packet.specs.declared.sliced_packet_walk.LinkPart.{LinkPart}
 use Rattle.ep_packet.specs.Layers.{layers_of, net_layer_of}
 use Rattle.ep_packet.specs.Frame.{NetKind, IsFrame, IsInside, IsNetPart, most_link_exts, net_kind}
-use Rattle.ep_packet.specs.Refusals.{RefusesFrame, RefusesInside, RefusesNetPart, net_header_len}
+use Rattle.ep_packet.specs.FrameRefusals.{RefusesFrame, RefusesInside, RefusesNetPart, net_header_len}
 use Rattle.ep_packet.specs.ShownBytes.{ShowsBytes, ShowsInside, ShowsNet, net_slice_bytes, net_slice_payload}
 
 -- the slices are the net layer of a kind that bytes are and the transport layer in it, and show these bytes

@@ -2,7 +2,7 @@
 
 ghost use Rattle.std.specs.Prelude.{◌≡◌, ◌<◌, ◌+◌, ◌^◌, length};
 ghost use Rattle.ep_ext.specs.ExtensionParts.{part_len};
-ghost use Rattle.ep_ext.specs.Ipv6Slices.{extension_slice_bytes, extension_slice_part, ipv6_slice_parts};
+ghost use Rattle.ep_ext.specs.Ipv6ExtensionSlices.{extension_slice_bytes, extension_slice_part, ipv6_slice_parts};
 ghost use Rattle.ep_ip.specs.Ipv4.{ipv4_header_len};
 ghost use Rattle.ep_ip.specs.Ipv4Slices.{ipv4_slice_extensions, ipv4_slice_header};
 ghost use Rattle.ep_link.specs.Arp.{arp_len};

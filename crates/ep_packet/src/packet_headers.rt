@@ -8,7 +8,7 @@ ghost use Rattle.ep_link.specs.LinkSlices.{whole_ether_payload};
 ghost use Rattle.ep_packet.specs.Frame.{most_link_exts, only_ipv4, only_ipv6, only_arp, any_ip, net_kind};
 ghost use Rattle.ep_packet.specs.PacketHeaders.{headers_of};
 ghost use Rattle.ep_packet.specs.PayloadParts.{ether, empty};
-ghost use Rattle.ep_packet.specs.Refusals.{RefusesInside, RefusesNetPart, RefusesTransportIn};
+ghost use Rattle.ep_packet.specs.FrameRefusals.{RefusesInside, RefusesNetPart, RefusesTransportIn};
 ghost use Rattle.ep_packet.specs.HeadersWalk.{FillsInside, FillsNet, FillsTransport, begun};
 
 use crate::entry::Entry;
@@ -53,7 +53,7 @@ impl<'a> PacketHeaders<'a> {
     ghost use Rattle.ep_packet.specs.PacketHeaders.{LieIn, headers_in, header_vlan_ids, no_headers, outer_headers};
     ghost use Rattle.ep_packet.specs.PacketHeaders.{vlan_headers};
     ghost use Rattle.ep_packet.specs.PayloadParts.{payload_part_bytes, payload_part_of};
-    ghost use Rattle.ep_packet.specs.Refusals.{RefusesFrameIn};
+    ghost use Rattle.ep_packet.specs.FrameRefusals.{RefusesFrameIn};
 
     /// The greatest number of link extensions that are taken. A further one is left as payload.
     pub const LINK_EXTS_CAP: usize = 3;

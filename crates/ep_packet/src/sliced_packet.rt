@@ -3,7 +3,7 @@
 ghost use Rattle.std.specs.Prelude.{◌≡◌, ◌+◌, ◌<◌, ◌^◌, length, IfOk, IfErr};
 ghost use Rattle.ep_base.specs.Layer.{slices};
 ghost use Rattle.ep_packet.specs.Frame.{most_link_exts};
-ghost use Rattle.ep_packet.specs.Refusals.{RefusesInside};
+ghost use Rattle.ep_packet.specs.FrameRefusals.{RefusesInside};
 ghost use Rattle.ep_packet.specs.Walk.{HoldsBehind};
 
 use crate::entry::Entry;
@@ -40,7 +40,7 @@ impl<'a> SlicedPacket<'a> {
     ghost use Rattle.ep_packet.specs.Frame.{IsFrame, most_link_exts};
     ghost use Rattle.ep_packet.specs.Payloads.{ether_payload_in, extensions_len_source, payload_ether_type_in};
     ghost use Rattle.ep_packet.specs.VlanTags.{outer_tags, vlan_ids_in, vlan_slices};
-    ghost use Rattle.ep_packet.specs.Refusals.{RefusesFrame, RefusesInside};
+    ghost use Rattle.ep_packet.specs.FrameRefusals.{RefusesFrame, RefusesInside};
     ghost use Rattle.ep_packet.specs.ShownBytes.{ShowsBytes};
     ghost use Rattle.ep_packet.specs.Walk.{HoldsBehind};
 

@@ -12,8 +12,8 @@ ghost use Rattle.ep_transport.specs.TransportParts.{transport_layer_of};
 ghost use Rattle.ep_packet.specs.Frame.{IsTransportBehind, IsTransportIn, most_link_exts};
 ghost use Rattle.ep_packet.specs.Frame.{only_ipv4, only_ipv6, only_arp, any_ip};
 ghost use Rattle.ep_packet.specs.Layers.{net_layer_of, net_payload};
-ghost use Rattle.ep_packet.specs.Refusals.{RefusesInside, RefusesNetPart, RefusesTransportBehind, RefusesTransportIn};
-ghost use Rattle.ep_packet.specs.Refusals.{net_header_len};
+ghost use Rattle.ep_packet.specs.FrameRefusals.{RefusesInside, RefusesNetPart, RefusesTransportBehind, RefusesTransportIn};
+ghost use Rattle.ep_packet.specs.FrameRefusals.{net_header_len};
 ghost use Rattle.ep_packet.specs.ShownBytes.{ShowsTransport, net_slice_bytes, net_slice_payload};
 ghost use Rattle.ep_packet.specs.Walk.{HasExtensions, HasHeaders, HoldsInside, HoldsNet, net_kind_in};
 
@@ -45,7 +45,7 @@ pub(crate) struct LinkPart<'a> {
 
 impl<'a> LinkPart<'a> {
     ghost use Rattle.ep_packet.specs.declared.entry.Entry.TheVariants.{Ethernet as ethernet, LinuxSll as linux_sll, EtherType as of_type};
-    ghost use Rattle.ep_packet.specs.Refusals.{RefusesFrame};
+    ghost use Rattle.ep_packet.specs.FrameRefusals.{RefusesFrame};
     ghost use Rattle.ep_packet.specs.Walk.{BeginsPacket};
 
     /// The Ethernet II header with which a packet begins.

@@ -1,11 +1,11 @@
 -- The definitions that the library's contracts name, and those that they stand on, from the innermost crate to the
--- outermost. A file whose name stands in two crates has a name of its own here.
+-- outermost. Each file has a name that stands in no other crate of the library.
 pub mod Types
 -- numbers, lengths and errors that every layer shares
 pub use Rattle.ep_base.specs.Bounded
 pub use Rattle.ep_base.specs.Bytes
 pub use Rattle.ep_base.specs.Checksum
-pub use Rattle.ep_base.specs.Comparisons as NumberComparisons
+pub use Rattle.ep_base.specs.NumberComparisons
 pub use Rattle.ep_base.specs.EtherTypes
 pub use Rattle.ep_base.specs.IpNumbers
 pub use Rattle.ep_base.specs.IpPayload
@@ -37,7 +37,7 @@ pub use Rattle.ep_ext.specs.IpAuth
 pub use Rattle.ep_ext.specs.IpAuthSlices
 pub use Rattle.ep_ext.specs.Ipv4Chains
 pub use Rattle.ep_ext.specs.Ipv6Chains
-pub use Rattle.ep_ext.specs.Ipv6Slices as Ipv6ExtensionSlices
+pub use Rattle.ep_ext.specs.Ipv6ExtensionSlices
 pub use Rattle.ep_ext.specs.RawExtension
 pub use Rattle.ep_ext.specs.RawExtensionSlices
 pub use Rattle.ep_ext.specs.ShownChains
@@ -68,9 +68,9 @@ pub use Rattle.ep_transport.specs.TransportParts
 pub use Rattle.ep_transport.specs.Udp
 pub use Rattle.ep_transport.specs.UdpSlices
 -- whole packets
-pub use Rattle.ep_packet.specs.Comparisons as PacketComparisons
-pub use Rattle.ep_packet.specs.Cuts as FrameCuts
-pub use Rattle.ep_packet.specs.Fragments as PacketFragments
+pub use Rattle.ep_packet.specs.PacketComparisons
+pub use Rattle.ep_packet.specs.FrameCuts
+pub use Rattle.ep_packet.specs.FrameFragments
 pub use Rattle.ep_packet.specs.Frame
 pub use Rattle.ep_packet.specs.FrameBytes
 pub use Rattle.ep_packet.specs.HeadersWalk
@@ -83,7 +83,7 @@ pub use Rattle.ep_packet.specs.Offsets
 pub use Rattle.ep_packet.specs.PacketHeaders
 pub use Rattle.ep_packet.specs.PayloadParts
 pub use Rattle.ep_packet.specs.Payloads
-pub use Rattle.ep_packet.specs.Refusals as FrameRefusals
+pub use Rattle.ep_packet.specs.FrameRefusals
 pub use Rattle.ep_packet.specs.ShownBytes
 pub use Rattle.ep_packet.specs.TwoParsers
 pub use Rattle.ep_packet.specs.UncutTags
@@ -100,19 +100,19 @@ pub use Rattle.ep_build.specs.Steps
 pub use Rattle.ep_defrag.specs.Buffers
 pub use Rattle.ep_defrag.specs.BuiltCuts
 pub use Rattle.ep_defrag.specs.Calls
-pub use Rattle.ep_defrag.specs.Comparisons as DefragComparisons
+pub use Rattle.ep_defrag.specs.DefragComparisons
 pub use Rattle.ep_defrag.specs.Completing
-pub use Rattle.ep_defrag.specs.Cuts
-pub use Rattle.ep_defrag.specs.Fragments as DefragFragments
+pub use Rattle.ep_defrag.specs.PayloadCuts
+pub use Rattle.ep_defrag.specs.IpFragments
 pub use Rattle.ep_defrag.specs.FrameCalls
 pub use Rattle.ep_defrag.specs.Isolation
 pub use Rattle.ep_defrag.specs.Pools
 pub use Rattle.ep_defrag.specs.Ranges
-pub use Rattle.ep_defrag.specs.Refusals as DefragRefusals
+pub use Rattle.ep_defrag.specs.FragmentRefusals
 pub use Rattle.ep_defrag.specs.Rooms
 pub use Rattle.ep_defrag.specs.Runs
 pub use Rattle.ep_defrag.specs.Streams
-pub use Rattle.ep_defrag.specs.Texts
+pub use Rattle.ep_defrag.specs.IpDefragErrorTexts
 -- the constants of modules
 pub use Rattle.ep_base.specs.declared.ether_type.TheConstants as EtherTypeConstants
 pub use Rattle.ep_base.specs.declared.ip_number.TheConstants as IpNumberConstants

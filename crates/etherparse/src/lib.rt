@@ -57,7 +57,8 @@
 //! sliced packet shows; `BuiltFrames.built_frame` is what the builder writes, `Pools` and `Calls` what a pool holds and
 //! answers. What holds of the definitions themselves, as that bytes are one frame or are refused with one error, is
 //! said by the functions of [`laws`]. So a crate lists `etherparse` alone. The crates `example_filter`,
-//! `example_flows`, `example_generator` and `example_reader` are small programs with such contracts.
+//! `example_flows`, `example_generator`, `example_tcp_options`, `example_ipv6_extensions`, `example_fragments` and
+//! `example_reader` are small programs with such contracts.
 #![tactic(auto)]
 
 #[cfg(test)]

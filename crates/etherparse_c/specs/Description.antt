@@ -14,7 +14,7 @@ use Rattle.ep_link.specs.LinkSlices.{LinkLayer, ethernet2, linux_sll, ether_payl
 use Rattle.ep_transport.specs.TransportParts.{TransportLayer}
 use Rattle.ep_transport.specs.declared.transport_header.TransportHeader.{TransportHeader}
 use Rattle.ep_transport.specs.declared.transport_header.TransportHeader.TheVariants as transport
-use Rattle.ep_packet.specs.Fragments.{first_fragment}
+use Rattle.ep_packet.specs.FrameFragments.{first_fragment}
 use Rattle.ep_packet.specs.FrameBytes.{last_payload}
 use Rattle.ep_packet.specs.Layers.{Layers, NetLayer, ipv4, ipv6, arp}
 pub use Rattle.ep_packet.specs.Offsets.{link_len, tag_len, tags_len, parts_len, net_len, transport_len, payload_offset}

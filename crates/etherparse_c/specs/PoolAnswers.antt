@@ -10,10 +10,10 @@ use Rattle.ep_defrag.specs.Pools.{HoldsTable, TakesFrame, limit_of, streams_of}
 use Rattle.ep_defrag.specs.Streams.{packet_fragment}
 use Rattle.ep_packet.specs.declared.entry.Entry.{Entry}
 use Rattle.ep_packet.specs.declared.err.slice_error.SliceError.{SliceError}
-use Rattle.ep_packet.specs.Fragments.{fragment_of}
+use Rattle.ep_packet.specs.FrameFragments.{fragment_of}
 use Rattle.ep_packet.specs.Frame.{IsFrame}
 use Rattle.ep_packet.specs.Layers.{Layers}
-use Rattle.ep_packet.specs.Refusals.{RefusesFrame}
+use Rattle.ep_packet.specs.FrameRefusals.{RefusesFrame}
 use Rattle.etherparse_c.specs.declared.handle.Handle.{Handle}
 use Rattle.etherparse_c.specs.declared.pool.Pool.{Pool}
 use Rattle.etherparse_c.specs.declared.pool_answer.PoolAnswer.{PoolAnswer}

@@ -4,7 +4,7 @@ use Rattle.ep_packet.specs.declared.entry.Entry.{Entry}
 use Rattle.ep_packet.specs.declared.entry.Entry.TheVariants.{Ethernet as ethernet, LinuxSll as linux_sll, EtherType as ether_type, Ip as ip}
 use Rattle.ep_packet.specs.declared.err.slice_error.SliceError.{SliceError}
 use Rattle.ep_packet.specs.Layers.{Layers, no_layers}
-use Rattle.ep_packet.specs.Refusals.{RefusesFrame}
+use Rattle.ep_packet.specs.FrameRefusals.{RefusesFrame}
 use Rattle.etherparse_c.specs.declared.packet.Packet.{Packet}
 use Rattle.etherparse_c.specs.Description.{description}
 use Rattle.etherparse_c.specs.Places.{Describes}

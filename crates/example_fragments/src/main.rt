@@ -3,8 +3,8 @@
 
 ghost use Rattle.std.specs.Prelude.{◌≡◌, ◌*◌, IfSome};
 ghost use Rattle.std.specs.Option.{option_map};
-ghost use Rattle.etherparse.specs.Cuts.{IsCut};
-ghost use Rattle.etherparse.specs.DefragFragments.{fragment_with};
+ghost use Rattle.etherparse.specs.PayloadCuts.{IsCut};
+ghost use Rattle.etherparse.specs.IpFragments.{fragment_with};
 ghost use Rattle.example_fragments.specs.Frames.{Appends, cut_from, fragment_headers, ip_headers};
 
 use etherparse::err::packet::BuildWriteError;

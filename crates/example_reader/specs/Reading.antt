@@ -3,7 +3,7 @@ use Rattle.std.specs.Prelude.{ℕ, Bool, Option, Result, nat_le}
 use Rattle.std.specs.Option.{option_map}
 use Rattle.etherparse.specs.Calls.{Kept, kept_by}
 use Rattle.etherparse.specs.Layers.{Layers}
-use Rattle.etherparse.specs.PacketFragments.{fragment_of}
+use Rattle.etherparse.specs.FrameFragments.{fragment_of}
 use Rattle.etherparse.specs.Pools.{HoldsTable, TakesFrame}
 use Rattle.etherparse.specs.Streams.{packet_fragment}
 use Rattle.etherparse.specs.Types.IpDefragError.{IpDefragError}

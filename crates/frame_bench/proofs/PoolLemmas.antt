@@ -10,7 +10,7 @@ use Rattle.etherparse.specs.Types.IpFragId.{IpFragId}
 use Rattle.etherparse.specs.Calls.{gives_frame, drops_streams, returns_buffer, Kept, kept_after, kept_after_all, concerns, calls_of, table_after, answer_to, table_with}
 use Rattle.etherparse.specs.Pools.{limit_of, HoldsEntry, HoldsTable, TakesFrame, plain_frame_answer, stream_named, wants_memory}
 use Rattle.etherparse.specs.Streams.{PacketFragment, name_of, same_stream}
-use Rattle.frame_bench.specs.PoolCalls.{NumberCall, PoolHistory, new_pool, with_call, IsAfterLine, IsAfterLines, IsHistory, HoldsHistory, HoldsLines, table_behind}
+use Rattle.frame_bench.specs.LineCalls.{NumberCall, PoolHistory, new_pool, with_call, IsAfterLine, IsAfterLines, IsHistory, HoldsHistory, HoldsLines, table_behind}
 
 -- what holds anyway holds at Ok
 pub at_ok : {T E P : Type 0} (r : Result T E) → P → OnOk r P

@@ -11,7 +11,7 @@ use Rattle.line_io.specs.WatchedWords.{AppendsFront}
 use Rattle.line_io.proofs.LineLemmas.{lines_of-ended, lines_of-within}
 use Rattle.frame_bench.specs.Answers.{AreAnswers, AnswersAfter, AnswersTo, BeginsAnswersAfter, BeginsAnswersTo}
 use Rattle.frame_bench.specs.Answers.{IsAnswer, IsAnswered}
-use Rattle.frame_bench.specs.PoolCalls.{HoldsLines}
+use Rattle.frame_bench.specs.LineCalls.{HoldsLines}
 use Rattle.frame_bench.specs.Advances.{Advances, AdvancesTo, BeginsAnswers}
 
 -- what the lines before are called is no matter

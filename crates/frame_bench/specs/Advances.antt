@@ -3,7 +3,7 @@ use Rattle.std.specs.Prelude.{◌≡◌, ℕ, List, ◌++◌}
 use Rattle.etherparse.specs.Types.IpDefragPool.{IpDefragPool}
 use Rattle.line_io.specs.Lines.{lines_of, IsWithinLine}
 use Rattle.frame_bench.specs.Answers.{AreAnswers, BeginsAnswersAfter}
-use Rattle.frame_bench.specs.PoolCalls.{HoldsLines}
+use Rattle.frame_bench.specs.LineCalls.{HoldsLines}
 
 -- Behind some lines and one that has begun comes a piece of input: these are the answers to the lines that end within
 -- it, and this is what it leaves of the next line.

@@ -1,7 +1,7 @@
 -- The answers to the lines of a text. A line is answered behind the lines before it.
 use Rattle.std.specs.Prelude.{◌≡◌, ℕ, ◌⊎◌, List, [], ◌∷◌, ◌++◌, codes}
 use Rattle.line_io.specs.Lines.{line_feed, lines_of}
-use Rattle.frame_bench.specs.PoolCalls.{PoolHistory, IsHistory}
+use Rattle.frame_bench.specs.LineCalls.{PoolHistory, IsHistory}
 use Rattle.frame_bench.specs.Replies.{IsReply}
 use Rattle.frame_bench.specs.Requests.{Asks}
 use Rattle.frame_bench.specs.declared.requests.Request.{Request}

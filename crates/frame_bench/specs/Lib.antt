@@ -1,8 +1,8 @@
 pub mod Requests
 pub mod SliceReplies
-pub mod PoolCalls
+pub mod LineCalls
 pub mod PoolReplies
 pub mod Replies
 pub mod Answers
 pub mod Advances
-pub mod Texts
+pub mod Endings

@@ -10,7 +10,7 @@ use Rattle.etherparse.specs.Layers.{Layers}
 use Rattle.etherparse.specs.FrameRefusals.{RefusesFrame}
 use Rattle.etherparse.specs.Types.Entry.{Entry}
 use Rattle.line_io.specs.Lines.{words}
-use Rattle.frame_bench.specs.PoolCalls.{NumberCall, PoolHistory, frame_call, table_behind}
+use Rattle.frame_bench.specs.LineCalls.{NumberCall, PoolHistory, frame_call, table_behind}
 use Rattle.frame_bench.specs.SliceReplies.{hex_text, refusal_text}
 
 -- The text of a pool's refusal. An offset is in units of 8 bytes. Want of memory has none: it ends the run.

@@ -1,7 +1,7 @@
 -- What is replied to a request.
 use Rattle.std.specs.Prelude.{◌≡◌, ℕ, List, codes}
 use Rattle.etherparse.specs.Calls.{drops_streams}
-use Rattle.frame_bench.specs.PoolCalls.{PoolHistory}
+use Rattle.frame_bench.specs.LineCalls.{PoolHistory}
 use Rattle.frame_bench.specs.PoolReplies.{IsFragmentReply, call_reply}
 use Rattle.frame_bench.specs.SliceReplies.{IsSliceReply}
 use Rattle.frame_bench.specs.declared.requests.Request.{Request}

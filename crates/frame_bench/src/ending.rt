@@ -2,7 +2,7 @@
 
 ghost use Rattle.std.specs.Prelude.{◌≡◌};
 ghost use Rattle.std.specs.Option.{option_map};
-ghost use Rattle.frame_bench.specs.Texts.{complaint_of, run_error_text, status_of};
+ghost use Rattle.frame_bench.specs.Endings.{complaint_of, run_error_text, status_of};
 
 use line_io::RunError;
 

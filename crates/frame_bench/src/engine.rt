@@ -7,7 +7,7 @@ ghost use Rattle.line_io.specs.Lines.{IsWithinLine, line_feed};
 ghost use Rattle.line_io.specs.Transfers.{Transfers};
 ghost use Rattle.line_io.specs.WatchedWords.{KeepsReads, has_ended, has_failed, inner_of, is_at_end, reads_left};
 ghost use Rattle.frame_bench.specs.Answers.{IsAnswer, AnswersAfter, AnswersTo, BeginsAnswersTo};
-ghost use Rattle.frame_bench.specs.PoolCalls.{HoldsLines};
+ghost use Rattle.frame_bench.specs.LineCalls.{HoldsLines};
 ghost use Rattle.frame_bench.specs.Advances.{AdvancesTo, BeginsAnswers};
 
 use crate::laws;

@@ -4,11 +4,11 @@ ghost use Rattle.std.specs.Prelude.{◌≡◌, ◌∷◌, ◌++◌, [], nat_le, 
 ghost use Rattle.std.specs.Fmt.{decimal};
 ghost use Rattle.etherparse.specs.Calls.{drops_streams, payload_handed_out};
 ghost use Rattle.etherparse.specs.Pools.{plain_frame_answer, plain_payload, wants_memory};
-ghost use Rattle.etherparse.specs.DefragRefusals.{is_want_of_memory};
+ghost use Rattle.etherparse.specs.FragmentRefusals.{is_want_of_memory};
 ghost use Rattle.etherparse.specs.Types.IpDefragError.TheVariants.{SegmentTooBig};
 ghost use Rattle.etherparse.specs.Layers.{layers_of};
 ghost use Rattle.line_io.specs.Lines.{space};
-ghost use Rattle.frame_bench.specs.PoolCalls.{PoolHistory, IsAfterRequest, HoldsHistory, frame_call, with_call};
+ghost use Rattle.frame_bench.specs.LineCalls.{PoolHistory, IsAfterRequest, HoldsHistory, frame_call, with_call};
 ghost use Rattle.frame_bench.specs.PoolReplies.{IsFragmentReply, call_reply, pool_answer_text, pool_error_text};
 ghost use Rattle.frame_bench.specs.declared.requests.Request.TheVariants as request;
 

@@ -3,7 +3,7 @@
 ghost use Rattle.std.specs.Prelude.{◌≡◌, ◌∷◌, ◌++◌, [], ℕ, List, OnOk};
 ghost use Rattle.line_io.specs.Lines.{line_feed};
 ghost use Rattle.frame_bench.specs.Answers.{IsAnswer};
-ghost use Rattle.frame_bench.specs.PoolCalls.{PoolHistory, IsAfterRequest, HoldsHistory, HoldsLines};
+ghost use Rattle.frame_bench.specs.LineCalls.{PoolHistory, IsAfterRequest, HoldsHistory, HoldsLines};
 ghost use Rattle.frame_bench.specs.Replies.{IsReply};
 
 use crate::pool_replies::{drop_below, push_fragment};

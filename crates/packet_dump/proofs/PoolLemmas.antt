@@ -11,7 +11,7 @@ use Rattle.etherparse.specs.Calls.{gives_frame, drops_streams, returns_buffer, K
 use Rattle.etherparse.specs.Pools.{limit_of, HoldsEntry, HoldsTable, TakesFrame, plain_frame_answer, stream_named, wants_memory}
 use Rattle.etherparse.specs.Streams.{PacketFragment, name_of, same_stream}
 use Rattle.etherparse.specs.Layers.{Layers}
-use Rattle.packet_dump.specs.PoolCalls.{NumberCall, PoolHistory, frame_call, with_call, with_sweep, HoldsHistory, table_behind}
+use Rattle.packet_dump.specs.PacketCalls.{NumberCall, PoolHistory, frame_call, with_call, with_sweep, HoldsHistory, table_behind}
 use Rattle.packet_dump.specs.PoolLines.{GivesFrame, GivesWhere, IsCallText, oldest_from, swept_at}
 use Rattle.packet_dump.specs.Sessions.{HoldsPooling}
 use Rattle.packet_dump.specs.declared.pooling.Pooling.{Pooling}

@@ -9,7 +9,7 @@ use Rattle.capture_reader.specs.declared.reader.CaptureReader.{CaptureReader}
 use Rattle.capture_reader.specs.declared.refusal.CaptureError.{CaptureError}
 use Rattle.packet_dump.specs.Dumps.{AreAllTexts, AreFewer, AreTexts, IsItemText, IsLine, IsShownText, Progress, none_read}
 use Rattle.packet_dump.specs.Dumps.{packets_in, progress_after, progress_behind, progress_with}
-use Rattle.packet_dump.specs.PoolCalls.{PoolHistory, new_pool}
+use Rattle.packet_dump.specs.PacketCalls.{PoolHistory, new_pool}
 use Rattle.packet_dump.specs.Sessions.{Counts, Drained, Drains, HoldsPooling, PushesLine, Stands, StandsSo}
 use Rattle.packet_dump.specs.Shown.{first_after, instant_in, latest_after}
 use Rattle.packet_dump.specs.declared.session.Session.{Session}

@@ -2,9 +2,9 @@
 use Rattle.std.specs.Prelude.{◌≡◌, ℕ, ◌+◌, ◌<◌, ◌≤◌, Bool, true, false, List, [], ◌∷◌, ◌++◌, Option, Some, None}
 use Rattle.capture_reader.specs.Captures.{Item, PlainShown, Stage, at_start, shown_in, stage_after}
 use Rattle.capture_reader.specs.Captures.{AreItems, IsCapture, RefusesCapture, items_bytes}
-use Rattle.packet_dump.specs.Contents.{Content, Holds}
+use Rattle.packet_dump.specs.PacketContents.{Content, Holds}
 use Rattle.packet_dump.specs.PacketLines.{shown_text, start_text}
-use Rattle.packet_dump.specs.PoolCalls.{PoolHistory, new_pool}
+use Rattle.packet_dump.specs.PacketCalls.{PoolHistory, new_pool}
 use Rattle.packet_dump.specs.PoolLines.{IsPooled}
 use Rattle.packet_dump.specs.Shown.{first_after, instant_in, latest_after}
 use Rattle.capture_reader.specs.declared.refusal.CaptureError.{CaptureError}

@@ -1,14 +1,14 @@
 pub mod Addresses
-pub mod Contents
+pub mod PacketContents
 pub mod Dumps
 pub mod IcmpTexts
 pub mod LayerTexts
 pub mod Links
 pub mod Nets
 pub mod PacketLines
-pub mod PoolCalls
+pub mod PacketCalls
 pub mod PoolLines
-pub mod RefusalTexts
+pub mod SliceErrorTexts
 pub mod Sessions
 pub mod Shown
 pub mod ErrorTexts

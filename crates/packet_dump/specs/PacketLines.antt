@@ -4,7 +4,7 @@ use Rattle.std.specs.Fmt.{decimal}
 use Rattle.capture_reader.specs.Captures.{PlainShown}
 use Rattle.capture_reader.specs.declared.shown.Time.{Time}
 use Rattle.line_io.specs.Lines.{line_feed, space}
-use Rattle.packet_dump.specs.Contents.{Content, bytes_text, content_kind, content_text, shown_bytes, shows_kind}
+use Rattle.packet_dump.specs.PacketContents.{Content, bytes_text, content_kind, content_text, shown_bytes, shows_kind}
 use Rattle.packet_dump.specs.Shown.{instant_of, is_fine}
 use Rattle.packet_dump.specs.declared.view.View.{View}
 

@@ -6,16 +6,16 @@ use Rattle.etherparse.specs.Types.TcpHeaderSliceError.TheVariants as header_erro
 use Rattle.etherparse.specs.Types.IpDefragError.{IpDefragError}
 use Rattle.etherparse.specs.Calls.{Answer, fragment_refused, payload_handed_out, nothing_handed_out, streams_dropped}
 use Rattle.etherparse.specs.Calls.{buffer_returned, answer_to}
-use Rattle.etherparse.specs.Texts.{error_text}
+use Rattle.etherparse.specs.IpDefragErrorTexts.{error_text}
 use Rattle.etherparse.specs.Types.SliceError.{SliceError}
 use Rattle.etherparse.specs.Types.SliceError.TheVariants as slice_error
 use Rattle.etherparse.specs.Layers.{Layers}
 use Rattle.etherparse.specs.TransportParts.{TransportLayer, IsTransportPart, RefusesTransportPart, payload_in}
 use Rattle.line_io.specs.Lines.{line_feed}
-use Rattle.packet_dump.specs.Contents.{Content, frame, refusal, other_link, bytes_text, header_kind, shows_kind}
+use Rattle.packet_dump.specs.PacketContents.{Content, frame, refusal, other_link, bytes_text, header_kind, shows_kind}
 use Rattle.packet_dump.specs.LayerTexts.{outer_text, protocol_text}
-use Rattle.packet_dump.specs.PoolCalls.{PoolHistory, frame_call, table_behind, with_call, with_sweep}
-use Rattle.packet_dump.specs.RefusalTexts.{refusal_text}
+use Rattle.packet_dump.specs.PacketCalls.{PoolHistory, frame_call, table_behind, with_call, with_sweep}
+use Rattle.packet_dump.specs.SliceErrorTexts.{refusal_text}
 use Rattle.packet_dump.specs.Transports.{len_text, transport_text}
 use Rattle.packet_dump.specs.declared.view.Kind.{Kind}
 use Rattle.packet_dump.specs.declared.view.Kind.TheVariants.{Refused}

@@ -3,7 +3,7 @@ use Rattle.std.specs.Prelude.{◌≡◌, ℕ, ◌+◌, ◌≤◌, Bool, true, Li
 use Rattle.capture_reader.specs.Captures.{Item, IsCapture, PlainShown, RefusesCapture}
 use Rattle.capture_reader.specs.Readers.{Reads, reader_left, reader_offset}
 use Rattle.packet_dump.specs.Dumps.{AreAllTexts, AreFewer, Begin, IsLine, none_read, packets_in, progress_behind}
-use Rattle.packet_dump.specs.PoolCalls.{HoldsHistory, PoolHistory}
+use Rattle.packet_dump.specs.PacketCalls.{HoldsHistory, PoolHistory}
 use Rattle.packet_dump.specs.Shown.{first_after, instant_in, latest_after}
 use Rattle.packet_dump.specs.declared.ending.Ending.{Ending}
 use Rattle.packet_dump.specs.declared.ending.Ending.TheVariants as ending

@@ -4,12 +4,12 @@ ghost use Rattle.std.specs.Prelude.{◌≡◌, ◌<◌, ◌++◌, ℕ, IsTrue, L
 ghost use Rattle.capture_reader.specs.Classic.{knows_link};
 ghost use Rattle.capture_reader.specs.Readers.{shown_of};
 ghost use Rattle.etherparse.specs.Layers.{layers_of};
-ghost use Rattle.packet_dump.specs.Contents.{bytes_text, entry_of, frame, in_row_text, other_link, refusal};
-ghost use Rattle.packet_dump.specs.Contents.{row_start, rows_text};
+ghost use Rattle.packet_dump.specs.PacketContents.{bytes_text, entry_of, frame, in_row_text, other_link, refusal};
+ghost use Rattle.packet_dump.specs.PacketContents.{row_start, rows_text};
 ghost use Rattle.packet_dump.specs.Dumps.{IsLine};
 ghost use Rattle.packet_dump.specs.PacketLines.{cut_text, end_text, fraction_text, shown_text, since_text};
 ghost use Rattle.packet_dump.specs.PacketLines.{seconds_in, span_text, start_text, time_text};
-ghost use Rattle.packet_dump.specs.PoolCalls.{PoolHistory};
+ghost use Rattle.packet_dump.specs.PacketCalls.{PoolHistory};
 ghost use Rattle.packet_dump.specs.PoolLines.{IsPooled};
 ghost use Rattle.packet_dump.specs.Sessions.{HoldsPooling};
 

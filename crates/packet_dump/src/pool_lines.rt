@@ -4,8 +4,8 @@ ghost use Rattle.std.specs.Prelude.{◌≡◌, ◌++◌, ℕ, IfOk, IsFalse, Lis
 ghost use Rattle.std.specs.Option.{option_map};
 ghost use Rattle.capture_reader.specs.Readers.{shown_of};
 ghost use Rattle.etherparse.specs.Pools.{plain_frame_answer, wants_memory};
-ghost use Rattle.etherparse.specs.DefragRefusals.{is_want_of_memory};
-ghost use Rattle.etherparse.specs.Texts.{error_text};
+ghost use Rattle.etherparse.specs.FragmentRefusals.{is_want_of_memory};
+ghost use Rattle.etherparse.specs.IpDefragErrorTexts.{error_text};
 ghost use Rattle.etherparse.specs.Layers.{layers_of};
 ghost use Rattle.etherparse.specs.TransportParts.{payload_in, transport_layer_of};
 ghost use Rattle.packet_dump.specs.PacketLines.{start_text};

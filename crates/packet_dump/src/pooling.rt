@@ -5,7 +5,7 @@ ghost use Rattle.capture_reader.specs.Readers.{shown_of};
 ghost use Rattle.etherparse.specs.Calls.{drops_streams};
 ghost use Rattle.etherparse.specs.Layers.{layers_of};
 ghost use Rattle.packet_dump.specs.PacketLines.{start_text};
-ghost use Rattle.packet_dump.specs.PoolCalls.{HoldsHistory, PoolHistory, frame_call, new_pool, with_call, with_sweep};
+ghost use Rattle.packet_dump.specs.PacketCalls.{HoldsHistory, PoolHistory, frame_call, new_pool, with_call, with_sweep};
 ghost use Rattle.packet_dump.specs.PoolLines.{GivesFrame, IsCallText, oldest_from};
 ghost use Rattle.packet_dump.specs.Sessions.{HoldsPooling};
 

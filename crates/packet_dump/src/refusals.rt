@@ -1,7 +1,7 @@
 //! The text of a refusal.
 
 ghost use Rattle.std.specs.Prelude.{◌≡◌, ◌++◌, OnOk};
-ghost use Rattle.packet_dump.specs.RefusalTexts.{len_error_text, limit_text, needed_text, reason_text, refusal_text};
+ghost use Rattle.packet_dump.specs.SliceErrorTexts.{len_error_text, limit_text, needed_text, reason_text, refusal_text};
 
 use etherparse::err::packet::SliceError;
 use etherparse::err::{LenError, ip, ip_auth, ipv4, ipv6, ipv6_exts, linux_sll, macsec, tcp};

@@ -4,7 +4,7 @@ ghost use Rattle.std.specs.Prelude.{◌≡◌, ◌<◌, ◌≤◌, ◌+◌, ◌^
 ghost use Rattle.capture_reader.specs.Captures.{Item};
 ghost use Rattle.capture_reader.specs.Readers.{reader_shown};
 ghost use Rattle.packet_dump.specs.Dumps.{AreAllTexts};
-ghost use Rattle.packet_dump.specs.PoolCalls.{PoolHistory, new_pool};
+ghost use Rattle.packet_dump.specs.PacketCalls.{PoolHistory, new_pool};
 ghost use Rattle.packet_dump.specs.Sessions.{Counts, Drains, HoldsPooling, PushesLine, Stands, ending_of, ends_run};
 ghost use Rattle.packet_dump.specs.Sessions.{taken_by};
 ghost use Rattle.packet_dump.specs.declared.view.View.{View};

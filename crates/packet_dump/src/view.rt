@@ -4,7 +4,7 @@ ghost use Rattle.std.specs.Prelude.{◌≡◌, Some};
 ghost use Rattle.std.specs.Option.{option_map};
 ghost use Rattle.etherparse.specs.Layers.{layers_of};
 ghost use Rattle.etherparse.specs.TransportParts.{transport_layer_of};
-ghost use Rattle.packet_dump.specs.Contents.{content_kind, frame, same_kind, shows_kind};
+ghost use Rattle.packet_dump.specs.PacketContents.{content_kind, frame, same_kind, shows_kind};
 ghost use Rattle.packet_dump.specs.PoolLines.{inner_kind, part};
 
 use etherparse::{NetSlice, SlicedPacket, TransportSlice};

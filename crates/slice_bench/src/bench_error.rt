@@ -1,7 +1,7 @@
 //! Why nothing was measured.
 
 ghost use Rattle.std.specs.Prelude.{◌≡◌, ◌≢◌};
-ghost use Rattle.slice_bench.specs.Texts.{error_line};
+ghost use Rattle.slice_bench.specs.BenchTexts.{error_line};
 ghost use Rattle.slice_bench.specs.declared.bench_error.BenchError.TheVariants.{OutOfMemory};
 
 use std::alloc::AllocError;

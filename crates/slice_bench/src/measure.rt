@@ -1,7 +1,7 @@
 //! Rounds over frames, and how long they take.
 
 ghost use Rattle.std.specs.Prelude.{◌≡◌, ◌*◌, ◌/◌, ◌<◌, ◌^◌};
-ghost use Rattle.slice_bench.specs.Texts.{measurement_name};
+ghost use Rattle.slice_bench.specs.BenchTexts.{measurement_name};
 
 use crate::bench_error::BenchError;
 use crate::building::{FrameParts, built};

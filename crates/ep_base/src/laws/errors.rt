@@ -1,6 +1,6 @@
 //! Laws of the errors, each the contract of a function that does nothing.
 
-ghost use Rattle.ep_base.specs.Comparisons.{TellsSame, ClonesExactly};
+ghost use Rattle.ep_base.specs.NumberComparisons.{TellsSame, ClonesExactly};
 
 use crate::err::{ip, ip_auth, ip_exts, ipv4, ipv4_exts, ipv6, ipv6_exts, linux_sll, macsec, tcp};
 use crate::laws;

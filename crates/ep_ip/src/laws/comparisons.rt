@@ -2,7 +2,7 @@
 //! nothing.
 
 ghost use Rattle.std.specs.Prelude.{◌≡◌, ◌↔◌, IsTrue};
-ghost use Rattle.ep_base.specs.Comparisons.{TellsSame, ClonesExactly};
+ghost use Rattle.ep_base.specs.NumberComparisons.{TellsSame, ClonesExactly};
 ghost use Rattle.ep_ip.specs.declared.ip_slice.IpSlice.{IpSlice};
 ghost use Rattle.ep_ip.specs.declared.ipv4_header_slice.Ipv4HeaderSlice.{Ipv4HeaderSlice};
 ghost use Rattle.ep_ip.specs.declared.ipv4_slice.Ipv4Slice.{Ipv4Slice};

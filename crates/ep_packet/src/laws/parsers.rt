@@ -5,7 +5,7 @@ ghost use Rattle.ep_base.specs.Bytes.{AreBytes};
 ghost use Rattle.ep_base.specs.Layer.{headers};
 ghost use Rattle.ep_packet.specs.Frame.{IsFrame, IsFrameIn, most_link_exts};
 ghost use Rattle.ep_packet.specs.Layers.{Layers};
-ghost use Rattle.ep_packet.specs.Refusals.{RefusesFrame, RefusesFrameIn};
+ghost use Rattle.ep_packet.specs.FrameRefusals.{RefusesFrame, RefusesFrameIn};
 ghost use Rattle.ep_packet.specs.TwoParsers.{Agree, HasNoSecondKind, IsUdpLengthRefusal, StopsAtSecondKind};
 
 use crate::entry::Entry;

@@ -1,6 +1,6 @@
 use Rattle.std.proofs.Common.{◌≡◌}
-use Rattle.ep_ext.specs.Ipv6Slices.{ipv6_slice_parts, parts_left}
-use Rattle.ep_packet.specs.Fragments.{first_fragment}
+use Rattle.ep_ext.specs.Ipv6ExtensionSlices.{ipv6_slice_parts, parts_left}
+use Rattle.ep_packet.specs.FrameFragments.{first_fragment}
 use Rattle.ep_defrag.proofs.carried_fragment.first_fragment_header.Given as goal
 
 -- No header that is passed is a fragment header.

@@ -1,5 +1,5 @@
 use Rattle.std.proofs.lemmas.List.Elements.{recursion_from_All}
-use Rattle.ep_defrag.specs.Cuts.{IsCut}
+use Rattle.ep_defrag.specs.PayloadCuts.{IsCut}
 use Rattle.ep_defrag.proofs.CutLemmas.{complete_cuts, assembled-cuts}
 use Rattle.ep_defrag.proofs.laws.complete_cuts_are_the_payload.Goals as goal
 

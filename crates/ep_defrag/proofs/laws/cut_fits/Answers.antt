@@ -1,5 +1,5 @@
 use Rattle.std.proofs.lemmas.List.Elements.{recursion_from_All}
-use Rattle.ep_defrag.specs.Cuts.{IsCut}
+use Rattle.ep_defrag.specs.PayloadCuts.{IsCut}
 use Rattle.ep_defrag.proofs.CutLemmas.{cut_fits_after}
 use Rattle.ep_defrag.proofs.laws.cut_fits.Goals as goal
 

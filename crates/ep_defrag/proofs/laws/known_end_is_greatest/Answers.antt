@@ -1,6 +1,6 @@
 use Rattle.std.proofs.Common.{sym, ap, ◌∙◌}
 use Rattle.std.specs.Option.{unwrap_or}
-use Rattle.ep_defrag.specs.Fragments.{reach_of}
+use Rattle.ep_defrag.specs.IpFragments.{reach_of}
 use Rattle.ep_defrag.proofs.DataLemmas.{end_is_greatest, length-assembled}
 use Rattle.ep_defrag.proofs.HeldLemmas.{data_len}
 use Rattle.ep_defrag.proofs.laws.known_end_is_greatest.Goals as goal

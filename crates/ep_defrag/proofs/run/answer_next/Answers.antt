@@ -1,7 +1,7 @@
 use Rattle.std.proofs.Common.{◌≡◌, true, false, sym, ap, ◌∙◌, inl, inr}
 use Rattle.std.proofs.lemmas.Bool.{false≢true}
-use Rattle.ep_defrag.specs.Fragments.{fragment_with, reach_of, end_of}
-use Rattle.ep_defrag.specs.Refusals.{is_want_of_memory}
+use Rattle.ep_defrag.specs.IpFragments.{fragment_with, reach_of, end_of}
+use Rattle.ep_defrag.specs.FragmentRefusals.{is_want_of_memory}
 use Rattle.ep_defrag.specs.Runs.{ok_unless}
 use Rattle.ep_defrag.proofs.RunLemmas.{no_memory}
 use Rattle.ep_defrag.proofs.run.answer_next.Goals as goal

@@ -1,5 +1,5 @@
 use Rattle.std.proofs.Common.{◌≡◌, ◌+◌, length}
-use Rattle.ep_ext.specs.Ipv6Slices.{bytes_left, ipv6_slice_bytes, ipv6_slice_parts, parts_left}
+use Rattle.ep_ext.specs.Ipv6ExtensionSlices.{bytes_left, ipv6_slice_bytes, ipv6_slice_parts, parts_left}
 use Rattle.ep_packet.specs.Offsets.{parts_len}
 use Rattle.ep_packet.proofs.net_slice.extensions_len.Given as goal
 

@@ -5,7 +5,7 @@ use Rattle.ep_link.specs.LinkExtensions.{link_extension_of}
 use Rattle.ep_link.proofs.LinkExtensionLemmas.{extension_len}
 use Rattle.ep_packet.specs.declared.err.slice_error.SliceError.TheVariants.{Len, Macsec}
 use Rattle.ep_packet.specs.Frame.{most_link_exts}
-use Rattle.ep_packet.specs.Refusals.{extension_refusal}
+use Rattle.ep_packet.specs.FrameRefusals.{extension_refusal}
 use Rattle.ep_packet.proofs.SliceWalkLemmas.{extensions_end, known_begins_none, reads_nothing, reads_one}
 use Rattle.ep_packet.proofs.SliceWalkLemmas.{reads_refused, unknown_begins_none}
 use Rattle.ep_packet.proofs.WalkLemmas.{found_there, none_there}

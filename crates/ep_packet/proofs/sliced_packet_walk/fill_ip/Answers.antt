@@ -1,7 +1,7 @@
 use Rattle.std.proofs.Common.{subst, sym, ap, inl, ◌∙◌, length, length-append, arith}
 use Rattle.std.proofs.lemmas.Result.{err_from_is_err_and}
 use Rattle.ep_packet.specs.Frame.{any_ip}
-use Rattle.ep_packet.specs.Refusals.{ip_content_refusal, ip_refusal}
+use Rattle.ep_packet.specs.FrameRefusals.{ip_content_refusal, ip_refusal}
 use Rattle.ep_packet.specs.ShownBytes.{net_slice_bytes}
 use Rattle.ep_packet.proofs.NetWalkLemmas.{IsShown, ip_shown, net_holds, net_refused}
 use Rattle.ep_packet.proofs.sliced_packet_walk.fill_ip.Goals as goal

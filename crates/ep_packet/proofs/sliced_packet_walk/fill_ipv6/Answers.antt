@@ -5,7 +5,7 @@ use Rattle.ep_base.specs.declared.err.len_error.LenError.{LenError}
 use Rattle.ep_ip.proofs.RefusalPlaceLemmas.{ipv6_start, ipv6_within}
 use Rattle.ep_packet.specs.declared.net_slice.NetSlice.TheVariants as slice
 use Rattle.ep_packet.specs.Frame.{only_ipv6}
-use Rattle.ep_packet.specs.Refusals.{ipv6_refusal}
+use Rattle.ep_packet.specs.FrameRefusals.{ipv6_refusal}
 use Rattle.ep_ip.specs.Ipv6Slices.{ipv6_slice_bytes}
 use Rattle.ep_packet.proofs.NetWalkLemmas.{ipv6_shown, net_holds, net_refused}
 use Rattle.ep_packet.proofs.sliced_packet_walk.fill_ipv6.Goals as goal

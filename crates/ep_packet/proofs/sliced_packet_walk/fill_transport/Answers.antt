@@ -5,7 +5,7 @@ use Rattle.std.proofs.lemmas.Result.{IfOk-weaker, IfErr-weaker}
 use Rattle.ep_base.specs.IpPayload.{IpPayload, ip_payload_of}
 use Rattle.ep_base.specs.Layer.{slices}
 use Rattle.ep_ext.specs.Ipv4Chains.{ipv4_slice_bytes as extension_bytes}
-use Rattle.ep_ext.specs.Ipv6Slices.{ipv6_slice_bytes as extensions_bytes}
+use Rattle.ep_ext.specs.Ipv6ExtensionSlices.{ipv6_slice_bytes as extensions_bytes}
 use Rattle.ep_ip.specs.declared.ipv4_slice.Ipv4Slice.{Ipv4Slice}
 use Rattle.ep_ip.specs.declared.ipv6_slice.Ipv6Slice.{Ipv6Slice}
 use Rattle.ep_ip.specs.Ipv4Slices.{ipv4_header_slice_bytes, ipv4_slice_bytes, ipv4_slice_content, ipv4_slice_payload}
@@ -15,7 +15,7 @@ use Rattle.ep_packet.specs.declared.net_slice.NetSlice.{NetSlice}
 use Rattle.ep_packet.specs.declared.net_slice.NetSlice.TheVariants as slice
 use Rattle.ep_packet.specs.Layers.{net_layer_of, net_payload}
 use Rattle.ep_packet.specs.Frame.{IsTransportBehind, IsTransportIn}
-use Rattle.ep_packet.specs.Refusals.{RefusesTransportBehind, RefusesTransportIn, net_header_len}
+use Rattle.ep_packet.specs.FrameRefusals.{RefusesTransportBehind, RefusesTransportIn, net_header_len}
 use Rattle.ep_packet.specs.ShownBytes.{ShowsTransport, net_slice_bytes, net_slice_payload}
 use Rattle.ep_packet.specs.Walk.{HasHeaders}
 use Rattle.ep_packet.proofs.NetWalkLemmas.{headers_len, ipv4_payload_refused}

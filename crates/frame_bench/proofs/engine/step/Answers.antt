@@ -3,7 +3,7 @@ use Rattle.std.proofs.lemmas.Result.{on_err_weaker, on_ok_weaker}
 use Rattle.std.specs.Io.KnownBytes.{Appends}
 use Rattle.line_io.specs.WatchedWords.{AppendsFront, inner_of}
 use Rattle.line_io.proofs.ResultLemmas.{at_exit}
-use Rattle.frame_bench.specs.PoolCalls.{HoldsLines}
+use Rattle.frame_bench.specs.LineCalls.{HoldsLines}
 use Rattle.frame_bench.proofs.StreamLemmas.{Moves-front, Moves-kept, Moves-read}
 use Rattle.frame_bench.proofs.engine.step.Goals as goal
 

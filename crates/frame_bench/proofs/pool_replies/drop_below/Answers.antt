@@ -1,6 +1,6 @@
 use Rattle.std.proofs.Common.{rules, of_calls, nat_le, ◌∙◌}
 use Rattle.etherparse.specs.Calls.{drops_streams}
-use Rattle.frame_bench.specs.PoolCalls.{table_behind}
+use Rattle.frame_bench.specs.LineCalls.{table_behind}
 use Rattle.frame_bench.proofs.PoolLemmas.{HoldsHistory-push}
 use Rattle.frame_bench.proofs.pool_replies.drop_below.Goals as goal
 

@@ -1,5 +1,5 @@
 use Rattle.std.proofs.Common.{◌∙◌}
-use Rattle.frame_bench.specs.PoolCalls.{table_behind}
+use Rattle.frame_bench.specs.LineCalls.{table_behind}
 use Rattle.frame_bench.proofs.pool_replies.give_back.Goals as goal
 
 pub returns-in-Ok-Some : goal.returns-in-Ok-Some

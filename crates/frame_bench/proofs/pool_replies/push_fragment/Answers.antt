@@ -1,7 +1,7 @@
 use Rattle.std.proofs.Common.{inl, inr, refl}
 use Rattle.std.proofs.lemmas.Result.{on_ok_weaker}
 use Rattle.etherparse.specs.Layers.{layers_of}
-use Rattle.frame_bench.specs.PoolCalls.{frame_call, with_call}
+use Rattle.frame_bench.specs.LineCalls.{frame_call, with_call}
 use Rattle.frame_bench.specs.PoolReplies.{call_reply}
 use Rattle.frame_bench.specs.SliceReplies.{refusal_text}
 use Rattle.frame_bench.proofs.pool_replies.push_fragment.Goals as goal

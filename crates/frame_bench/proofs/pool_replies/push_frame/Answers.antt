@@ -2,7 +2,7 @@ use Rattle.std.proofs.Common.{◌++◌, ◌∙◌, ap}
 use Rattle.etherparse.specs.Calls.{Answer}
 use Rattle.etherparse.specs.Pools.{fragment_in}
 use Rattle.etherparse.specs.Layers.{layers_of}
-use Rattle.frame_bench.specs.PoolCalls.{frame_call, with_call}
+use Rattle.frame_bench.specs.LineCalls.{frame_call, with_call}
 use Rattle.frame_bench.specs.PoolReplies.{pool_answer_text}
 use Rattle.frame_bench.proofs.PoolLemmas.{HoldsHistory-frame, frame_answered}
 use Rattle.frame_bench.proofs.pool_replies.push_frame.Goals as goal

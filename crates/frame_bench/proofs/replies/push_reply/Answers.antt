@@ -1,7 +1,7 @@
 use Rattle.std.proofs.Common.{refl}
 use Rattle.std.proofs.lemmas.Result.{on_ok_weaker}
 use Rattle.etherparse.specs.Calls.{drops_streams}
-use Rattle.frame_bench.specs.PoolCalls.{new_pool, with_call}
+use Rattle.frame_bench.specs.LineCalls.{new_pool, with_call}
 use Rattle.frame_bench.proofs.PoolLemmas.{HoldsHistory-new, at_ok}
 use Rattle.frame_bench.proofs.replies.push_reply.Goals as goal
 

@@ -2,7 +2,7 @@ use Rattle.std.proofs.Common.{◌++◌, [], refl, sym, ◌∙◌}
 use Rattle.std.proofs.lemmas.List.{append-nil}
 use Rattle.std.proofs.lemmas.Result.{on_ok_weaker}
 use Rattle.capture_reader.specs.Readers.{shown_of}
-use Rattle.packet_dump.specs.Contents.{other_link}
+use Rattle.packet_dump.specs.PacketContents.{other_link}
 use Rattle.packet_dump.specs.PacketLines.{shown_text}
 use Rattle.packet_dump.proofs.lines.push_line.Goals as goal
 

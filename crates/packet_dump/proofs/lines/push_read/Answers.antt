@@ -5,7 +5,7 @@ use Rattle.capture_reader.specs.Readers.{shown_of}
 use Rattle.etherparse.specs.Frame.{IsFrame}
 use Rattle.etherparse.specs.Layers.{layers_of}
 use Rattle.etherparse.specs.FrameRefusals.{RefusesFrame}
-use Rattle.packet_dump.specs.Contents.{frame, refusal}
+use Rattle.packet_dump.specs.PacketContents.{frame, refusal}
 use Rattle.packet_dump.specs.PacketLines.{shown_text}
 use Rattle.packet_dump.proofs.lines.push_read.Goals as goal
 

@@ -1,5 +1,5 @@
 use Rattle.std.proofs.Common.{◌≡◌, ◌++◌, drop}
-use Rattle.packet_dump.specs.Contents.{rows_text}
+use Rattle.packet_dump.specs.PacketContents.{rows_text}
 use Rattle.packet_dump.proofs.lines.push_rows.Given as goal
 
 -- what is appended and what is still to be appended are what is to be appended from here on

@@ -3,7 +3,7 @@ use Rattle.std.proofs.lemmas.List.{append-nil}
 use Rattle.std.proofs.lemmas.Result.{on_ok_weaker}
 use Rattle.capture_reader.specs.Readers.{shown_of}
 use Rattle.etherparse.specs.Layers.{layers_of}
-use Rattle.packet_dump.specs.Contents.{frame}
+use Rattle.packet_dump.specs.PacketContents.{frame}
 use Rattle.packet_dump.specs.PacketLines.{shown_text, start_text}
 use Rattle.packet_dump.proofs.PoolLemmas.{given, not_given}
 use Rattle.packet_dump.proofs.lines.push_whole.Goals as goal

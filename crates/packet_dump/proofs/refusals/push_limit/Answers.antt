@@ -2,7 +2,7 @@ use Rattle.std.proofs.Common.{◌++◌, ◌∙◌}
 use Rattle.std.proofs.lemmas.Result.{on_ok_weaker}
 use Rattle.std.specs.Prelude.{codes}
 use Rattle.std.specs.Fmt.{decimal}
-use Rattle.packet_dump.specs.RefusalTexts.{limit_text}
+use Rattle.packet_dump.specs.SliceErrorTexts.{limit_text}
 use Rattle.packet_dump.proofs.LineLemmas.{three_parts}
 use Rattle.packet_dump.proofs.refusals.push_limit.Goals as goal
 

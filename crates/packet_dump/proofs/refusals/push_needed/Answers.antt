@@ -2,7 +2,7 @@ use Rattle.std.proofs.Common.{◌++◌, ◌∙◌}
 use Rattle.std.proofs.lemmas.Result.{on_ok_weaker}
 use Rattle.std.specs.Prelude.{codes}
 use Rattle.std.specs.Fmt.{decimal}
-use Rattle.packet_dump.specs.RefusalTexts.{needed_text}
+use Rattle.packet_dump.specs.SliceErrorTexts.{needed_text}
 use Rattle.packet_dump.proofs.LineLemmas.{three_parts}
 use Rattle.packet_dump.proofs.refusals.push_needed.Goals as goal
 

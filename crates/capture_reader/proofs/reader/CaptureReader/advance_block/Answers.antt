@@ -1,6 +1,6 @@
 use Rattle.std.proofs.Common.{ℕ, ◌≤◌, ◌-◌, List, ◌∙◌, refl, sym, ap, subst, length-drop, slice_range, arith}
 use Rattle.capture_reader.specs.Blocks.{RefusesBlock}
-use Rattle.capture_reader.specs.Contents.{FitsLen, content_interfaces, content_shown, section_of}
+use Rattle.capture_reader.specs.BlockContents.{FitsLen, content_interfaces, content_shown, section_of}
 use Rattle.capture_reader.specs.Readers.{Answers, reader_rest}
 use Rattle.capture_reader.specs.declared.interface.Interface.{Interface}
 use Rattle.capture_reader.proofs.ReaderLemmas.{refused_answers, refused_block}

@@ -3,8 +3,8 @@ use Rattle.std.specs.List.{list_any}
 use Rattle.std.proofs.lemmas.Bool.{false≢true}
 use Rattle.ep_defrag.specs.declared.ip_defrag_error.IpDefragError.TheVariants.{AllocationFailure}
 use Rattle.ep_defrag.specs.Ranges.{merges}
-use Rattle.ep_defrag.specs.Fragments.{IpFragment, fragment_with}
-use Rattle.ep_defrag.specs.Refusals.{RefusesFragment}
+use Rattle.ep_defrag.specs.IpFragments.{IpFragment, fragment_with}
+use Rattle.ep_defrag.specs.FragmentRefusals.{RefusesFragment}
 use Rattle.ep_defrag.specs.Buffers.{HoldsFragments, IsUnchanged, data_of, sections_of}
 use Rattle.ep_defrag.proofs.HeldLemmas.{data_len, HoldsFragments-push, HoldsFragments-same, in_place_when_held}
 use Rattle.ep_defrag.proofs.ip_defrag_buf.IpDefragBuf.add.Goals as goal

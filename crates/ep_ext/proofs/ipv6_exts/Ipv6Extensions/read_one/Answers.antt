@@ -2,7 +2,7 @@ use Rattle.std.proofs.Common.{◌≡◌, ◌-◌, length, take, drop, sym, ap, s
 use Rattle.std.proofs.lemmas.List.{length-append}
 use Rattle.ep_base.proofs.BytesLemmas.{rest_of}
 use Rattle.ep_ext.specs.ExtensionParts.{IsExtensionPart}
-use Rattle.ep_ext.specs.Ipv6Slices.{extension_slice_bytes, extension_slice_part}
+use Rattle.ep_ext.specs.Ipv6ExtensionSlices.{extension_slice_bytes, extension_slice_part}
 use Rattle.ep_ext.proofs.ipv6_exts.Ipv6Extensions.read_one.Goals as goal
 
 pub slice_bounds-result-count : goal.slice_bounds-result-count

@@ -4,7 +4,7 @@ use Rattle.ep_base.specs.Bytes.{AreBytes}
 use Rattle.ep_base.proofs.BytesLemmas.{rest_of}
 use Rattle.ep_base.specs.Layer.{slices}
 use Rattle.ep_ext.specs.Chains.{ipv6}
-use Rattle.ep_ext.specs.Ipv6Slices.{extension_slice_part, extension_slice_bytes}
+use Rattle.ep_ext.specs.Ipv6ExtensionSlices.{extension_slice_part, extension_slice_bytes}
 use Rattle.ep_ext.proofs.HeaderLawLemmas.{header_laws}
 use Rattle.ep_ext.proofs.ChainLemmas.{one_chain, refused_no_chain}
 use Rattle.ep_ext.proofs.RefusalLemmas.{part_at_start}

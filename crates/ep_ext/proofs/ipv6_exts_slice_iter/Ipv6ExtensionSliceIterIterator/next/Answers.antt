@@ -2,7 +2,7 @@ use Rattle.std.proofs.Common.{◌≡◌, ◌-◌, true, false, ◌∷◌, ◌++�
 use Rattle.ep_base.proofs.BytesLemmas.{rest_of}
 use Rattle.ep_ext.specs.Chains.{is_ipv6_extension}
 use Rattle.ep_ext.specs.ShownChains.{shown_parts}
-use Rattle.ep_ext.specs.Ipv6Slices.{extension_slice_part, extension_slice_bytes}
+use Rattle.ep_ext.specs.Ipv6ExtensionSlices.{extension_slice_part, extension_slice_bytes}
 use Rattle.ep_ext.proofs.ShownLemmas.{shown_next, shown_none, no_kind_shown, refused_shown}
 use Rattle.ep_ext.proofs.ipv6_exts_slice_iter.Ipv6ExtensionSliceIterIterator.next.Goals as goal
 

@@ -5,7 +5,7 @@ use Rattle.ep_base.specs.Layer.{slices}
 use Rattle.ep_base.specs.declared.err.len_error.LenError.{LenError}
 use Rattle.ep_base.specs.declared.ip_number.IpNumber.{IpNumber}
 use Rattle.ep_ext.specs.Chains.{chain_of}
-use Rattle.ep_ext.specs.Ipv6Slices.{ipv6_slice_parts}
+use Rattle.ep_ext.specs.Ipv6ExtensionSlices.{ipv6_slice_parts}
 use Rattle.ep_ip.specs.Ipv6Slices.{ipv6_header_slice_bytes}
 use Rattle.ep_ip.proofs.ExtensionLawLemmas.{exts_within}
 use Rattle.ep_ip.proofs.PacketLemmas.{ipv6_refused, ipv6_shown}

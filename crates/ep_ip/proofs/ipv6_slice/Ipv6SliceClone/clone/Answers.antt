@@ -1,7 +1,7 @@
 use mathlib.Core.HLevel.{is_prop→PathP}
 use Rattle.std.proofs.Common.{◌≡◌, refl, rules}
 use Rattle.std.proofs.Props.{props}
-use Rattle.ep_ext.specs.Ipv6Slices.{ipv6_slice_number as extension_number}
+use Rattle.ep_ext.specs.Ipv6ExtensionSlices.{ipv6_slice_number as extension_number}
 use Rattle.ep_ip.specs.declared.ipv6_slice.Ipv6Slice.{Ipv6Slice}
 use Rattle.ep_ip.specs.Ipv6.{ipv6_header_of}
 use Rattle.ep_ip.proofs.ipv6_slice.Ipv6SliceClone.clone.Goals as goal

@@ -15,7 +15,7 @@ use Rattle.ep_packet.specs.Frame.{most_link_exts, net_kind}
 use Rattle.ep_packet.specs.HeadersWalk.{FillsInside, ending_by}
 use Rattle.ep_packet.specs.PacketHeaders.{headers_of}
 use Rattle.ep_packet.specs.PayloadParts.{macsec_modified}
-use Rattle.ep_packet.specs.Refusals.{RefusesExtensionAt, RefusesInside, RefusesNetPart, extension_refusal}
+use Rattle.ep_packet.specs.FrameRefusals.{RefusesExtensionAt, RefusesInside, RefusesNetPart, extension_refusal}
 use Rattle.ep_packet.proofs.HeadersLemmas.{fills_no_more}
 use Rattle.ep_packet.proofs.InsideHeadersLemmas.{fills_one, fills_modified, tag_refused, with_tag}
 use Rattle.ep_packet.proofs.WalkLemmas.{found_there, none_there}

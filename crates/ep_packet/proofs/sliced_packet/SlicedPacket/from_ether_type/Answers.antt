@@ -5,7 +5,7 @@ use Rattle.ep_base.proofs.DecidedLemmas.{only_of}
 use Rattle.ep_packet.specs.Frame.{IsFrame}
 use Rattle.ep_packet.specs.declared.entry.Entry.TheVariants.{EtherType as ether_type}
 use Rattle.ep_packet.specs.Layers.{layers_of}
-use Rattle.ep_packet.specs.Refusals.{RefusesFrame}
+use Rattle.ep_packet.specs.FrameRefusals.{RefusesFrame}
 use Rattle.ep_packet.proofs.LayerLawLemmas.{frame_law}
 use Rattle.ep_packet.proofs.sliced_packet.SlicedPacket.from_ether_type.Goals as goal
 

@@ -1,5 +1,5 @@
 use Rattle.std.proofs.Common.{◌≡◌, ◌++◌, List, ℕ, length}
-use Rattle.frame_bench.specs.PoolCalls.{HoldsLines}
+use Rattle.frame_bench.specs.LineCalls.{HoldsLines}
 use Rattle.frame_bench.specs.Advances.{AdvancesTo}
 use Rattle.frame_bench.proofs.engine.Session.take.Given as goal
 

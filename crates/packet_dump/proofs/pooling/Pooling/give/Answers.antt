@@ -3,7 +3,7 @@ use Rattle.std.proofs.lemmas.Result.{on_ok_weaker}
 use Rattle.capture_reader.specs.Readers.{shown_of}
 use Rattle.etherparse.specs.Layers.{layers_of}
 use Rattle.packet_dump.specs.PacketLines.{start_text}
-use Rattle.packet_dump.specs.PoolCalls.{with_sweep}
+use Rattle.packet_dump.specs.PacketCalls.{with_sweep}
 use Rattle.packet_dump.proofs.PoolLemmas.{gives}
 use Rattle.packet_dump.proofs.pooling.Pooling.give.Goals as goal
 

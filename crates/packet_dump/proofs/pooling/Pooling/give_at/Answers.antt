@@ -4,7 +4,7 @@ use Rattle.etherparse.specs.Calls.{Answer}
 use Rattle.etherparse.specs.Pools.{fragment_in}
 use Rattle.etherparse.specs.Layers.{layers_of}
 use Rattle.packet_dump.specs.PacketLines.{start_text}
-use Rattle.packet_dump.specs.PoolCalls.{frame_call, with_call}
+use Rattle.packet_dump.specs.PacketCalls.{frame_call, with_call}
 use Rattle.packet_dump.specs.PoolLines.{IsAnswerText}
 use Rattle.packet_dump.proofs.PoolLemmas.{HoldsHistory-frame, frame_answered}
 use Rattle.packet_dump.proofs.pooling.Pooling.give_at.Goals as goal

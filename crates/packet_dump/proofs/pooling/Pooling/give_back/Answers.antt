@@ -1,5 +1,5 @@
 use Rattle.std.proofs.Common.{◌∙◌}
-use Rattle.packet_dump.specs.PoolCalls.{table_behind}
+use Rattle.packet_dump.specs.PacketCalls.{table_behind}
 use Rattle.packet_dump.proofs.pooling.Pooling.give_back.Goals as goal
 
 pub returns-in-Ok-Some : goal.returns-in-Ok-Some

@@ -1,6 +1,6 @@
 use Rattle.std.proofs.Common.{rules, of_calls, nat_le, refl}
 use Rattle.std.proofs.lemmas.Bool.{le-ltb, lt-ltb}
-use Rattle.packet_dump.specs.PoolCalls.{table_behind}
+use Rattle.packet_dump.specs.PacketCalls.{table_behind}
 use Rattle.packet_dump.proofs.PoolLemmas.{sweeps, sweeps_nothing}
 use Rattle.packet_dump.proofs.pooling.Pooling.sweep.Goals as goal
 

@@ -2,7 +2,7 @@ use Rattle.std.proofs.Common.{◌≡◌, ℕ, List}
 use Rattle.capture_reader.specs.Captures.{Item}
 use Rattle.capture_reader.specs.Readers.{reader_left}
 use Rattle.packet_dump.specs.Dumps.{AreAllTexts}
-use Rattle.packet_dump.specs.PoolCalls.{PoolHistory}
+use Rattle.packet_dump.specs.PacketCalls.{PoolHistory}
 use Rattle.packet_dump.specs.Sessions.{Counts, Drained, Stands, taken_by}
 use Rattle.packet_dump.specs.declared.view.View.{View}
 use Rattle.packet_dump.proofs.session.Session.drain.Given as goal

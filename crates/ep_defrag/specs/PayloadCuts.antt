@@ -1,6 +1,6 @@
 -- Fragments that a payload was cut into.
 use Rattle.std.specs.Prelude.{◌≡◌, ℕ, ◌≤◌, IsTrue, List, length, slice_range}
-use Rattle.ep_defrag.specs.Fragments.{IpFragment, is_final, fragment_start, fragment_end}
+use Rattle.ep_defrag.specs.IpFragments.{IpFragment, is_final, fragment_start, fragment_end}
 
 -- it lies within the payload, has its bytes, and ends where the payload does if it is final
 pub record IsCut (payload : List ℕ) (fragment : IpFragment) : Type 0 where

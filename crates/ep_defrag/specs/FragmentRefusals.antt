@@ -5,7 +5,7 @@ use Rattle.ep_base.specs.Tables.{first_row}
 use Rattle.ep_defrag.specs.declared.ip_defrag_error.IpDefragError.{IpDefragError}
 use Rattle.ep_defrag.specs.declared.ip_defrag_error.IpDefragError.TheVariants.{UnalignedFragmentPayloadLen, SegmentTooBig, ConflictingEnd, AllocationFailure}
 use Rattle.ep_defrag.specs.Ranges.{touches}
-use Rattle.ep_defrag.specs.Fragments.{IpFragment, is_final, fragment_end, range_of, is_touched, reach_of, end_of, assembled}
+use Rattle.ep_defrag.specs.IpFragments.{IpFragment, is_final, fragment_end, range_of, is_touched, reach_of, end_of, assembled}
 
 -- more fragments follow, and the length is no multiple of 8
 abbrev pub is_unaligned : IpFragment → Bool

@@ -6,7 +6,7 @@ use Rattle.etherparse.specs.Types.IpFragId.{IpFragId}
 use Rattle.etherparse.specs.Calls.{Call, gives_frame, drops_streams, Kept, table_after}
 use Rattle.etherparse.specs.Pools.{limit_of, HoldsTable}
 use Rattle.etherparse.specs.Streams.{packet_fragment}
-use Rattle.etherparse.specs.PacketFragments.{fragment_of}
+use Rattle.etherparse.specs.FrameFragments.{fragment_of}
 use Rattle.etherparse.specs.Layers.{Layers}
 
 -- a call of the program's pool

@@ -7,7 +7,7 @@ use Rattle.etherparse.specs.Calls.{Call, gives_frame, drops_streams, Kept, table
 use Rattle.etherparse.specs.Pools.{limit_of, HoldsTable}
 use Rattle.etherparse.specs.Streams.{packet_fragment}
 use Rattle.etherparse.specs.Types.SliceError.{SliceError}
-use Rattle.etherparse.specs.PacketFragments.{fragment_of}
+use Rattle.etherparse.specs.FrameFragments.{fragment_of}
 use Rattle.etherparse.specs.Frame.{IsFrame}
 use Rattle.etherparse.specs.Layers.{Layers}
 use Rattle.etherparse.specs.FrameRefusals.{RefusesFrame}

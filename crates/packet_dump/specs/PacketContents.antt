@@ -15,7 +15,7 @@ use Rattle.etherparse.specs.TransportParts.{TransportLayer}
 use Rattle.line_io.specs.Lines.{line_feed, space}
 use Rattle.packet_dump.specs.Addresses.{hex_pair}
 use Rattle.packet_dump.specs.LayerTexts.{layers_text}
-use Rattle.packet_dump.specs.RefusalTexts.{refusal_text}
+use Rattle.packet_dump.specs.SliceErrorTexts.{refusal_text}
 use Rattle.packet_dump.specs.declared.view.Kind.{Kind}
 use Rattle.packet_dump.specs.declared.view.Kind.TheVariants.{Udp, Tcp, Icmp, Arp, Refused}
 
