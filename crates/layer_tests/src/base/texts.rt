@@ -287,6 +287,11 @@ fn texts_of_walk_errors(rt: HostRuntime) {
         }),
         "ExtNotReferenced 44",
     );
+}
+
+#[test]
+fn texts_of_refused_writes_of_extensions(rt: HostRuntime) {
+    let alloc = rt.alloc();
     shows(
         &rt,
         alloc,

@@ -62,9 +62,9 @@ fn refusals_of_neither_version(rt: HostRuntime) {
     );
 }
 
-/// Bytes of version 4, and what the open entry and that of the version say of them.
+/// Headers of version 4, and what the open entry and that of the version say of them.
 #[test]
-fn ipv4_refusals(rt: HostRuntime) {
+fn ipv4_header_refusals(rt: HostRuntime) {
     refuses_ipv4(
         &rt,
         rt.alloc(),
@@ -93,6 +93,11 @@ fn ipv4_refusals(rt: HostRuntime) {
         "Ipv4Header: 24 bytes needed, 20 there (limit Slice, offset 0)",
         "Ipv4Header: 24 bytes needed, 20 there (limit Slice, offset 0)",
     );
+}
+
+/// Packets of version 4, whose total length or extension header does not fit.
+#[test]
+fn ipv4_packet_refusals(rt: HostRuntime) {
     refuses_ipv4(
         &rt,
         rt.alloc(),
@@ -130,9 +135,9 @@ fn ipv4_refusals(rt: HostRuntime) {
     );
 }
 
-/// Bytes of version 6, and what the open entry and that of the version say of them.
+/// Packets of version 6 that are too short, and what the open entry and that of the version say of them.
 #[test]
-fn ipv6_refusals(rt: HostRuntime) {
+fn ipv6_packet_refusals(rt: HostRuntime) {
     refuses_ipv6(
         &rt,
         rt.alloc(),
@@ -157,6 +162,11 @@ fn ipv6_refusals(rt: HostRuntime) {
         b"\x60\x00\x00\x00\x00\x18\x2c\x40\x00\x00\x00\x00\x00\x00\x00\x00\x00\x00\x00\x00\x00\x00\x00\x00\x00\x00\x00\x00\x00\x00\x00\x00\x00\x00\x00\x00\x00\x00\x00\x00\x2c\x00\x00\x00\x00\x00\x00\x01\x11\x00\x00\x01\x00\x00\x00\x02\x00\x01\x02\x03\x04\x05\x06",
         "Ipv6Packet: 64 bytes needed, 63 there (limit Slice, offset 0)",
     );
+}
+
+/// Packets of version 6 whose extension headers are refused.
+#[test]
+fn ipv6_extension_refusals(rt: HostRuntime) {
     refuses_ipv6(
         &rt,
         rt.alloc(),
