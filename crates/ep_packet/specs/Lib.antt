@@ -26,6 +26,7 @@ pub use Rattle.ep_base.specs.Layer
 pub use Rattle.ep_base.specs.Missing
 pub use Rattle.ep_base.specs.Tables
 pub use Rattle.ep_link.specs.EtherPayloads
+pub use Rattle.ep_link.specs.LinkExtensions
 pub use Rattle.ep_link.specs.LinkSlices
 pub use Rattle.ep_ext.specs.Chains
 pub use Rattle.ep_ext.specs.ExtensionParts

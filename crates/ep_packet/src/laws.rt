@@ -1,15 +1,19 @@
 //! What holds of every list of bytes, and how values compare: each law the contract of a function that does nothing.
 
-ghost use Rattle.std.specs.Prelude.{◌≡◌, ◌↔◌, ◌+◌, ◌≤◌, ◌++◌, ℕ, List, IsTrue, length};
+ghost use Rattle.std.specs.Prelude.{◌≡◌, ◌↔◌, ◌+◌, ◌≤◌, ◌++◌, ℕ, List, Option, IsTrue, length};
 ghost use Rattle.ep_base.specs.Bytes.{AreBytes};
 ghost use Rattle.ep_base.specs.Layer.{Reading};
 ghost use Rattle.ep_base.specs.Missing.{CountsMissing, HasExactLength, IsOfBytesAtHand, TellsCut, that_row};
 ghost use Rattle.ep_base.specs.Tables.{IsDecided};
 ghost use Rattle.ep_base.specs.declared.err.len_error.LenError.{LenError};
+ghost use Rattle.ep_link.specs.LinkExtensions.{EncodesTag, LinkExtension};
+ghost use Rattle.ep_link.specs.LinkSlices.{LinkLayer};
 ghost use Rattle.ep_packet.specs.FrameCuts.{frame_cut_limit};
-ghost use Rattle.ep_packet.specs.Layers.{Layers};
+ghost use Rattle.ep_packet.specs.Layers.{Layers, NetLayer};
+ghost use Rattle.ep_packet.specs.Offsets.{link_len, net_len, tag_len, tags_len, transport_len};
+ghost use Rattle.ep_transport.specs.TransportParts.{EncodesTransport, TransportLayer};
 ghost use Rattle.ep_packet.specs.Frame.{IsFrame, IsFrameIn, most_link_exts};
-ghost use Rattle.ep_packet.specs.FrameBytes.{AreInOrder};
+ghost use Rattle.ep_packet.specs.FrameBytes.{AreInOrder, EncodesLink, EncodesNet, EncodesTags};
 ghost use Rattle.ep_packet.specs.FrameRefusals.{RefusesFrame, RefusesFrameIn};
 ghost use Rattle.ep_packet.specs.UncutTags.{HasNoShortLength};
 ghost use Rattle.ep_packet.specs.declared.err.slice_error.SliceError.TheVariants as slice_error;
@@ -66,6 +70,21 @@ pub fn frame_bytes()
     ep_transport::laws::transport();
     ep_transport::laws::transport_bytes();
 }
+
+/// Bytes that encode a header are as many as the header says: a link header, a link extension and some of them, the
+/// headers of a net layer, and a transport header. So each part of a frame begins where the summed lengths of those
+/// before it say.
+pub fn header_lens()
+    ensures link { (link : Option LinkLayer) (bytes : List ℕ) → EncodesLink link bytes
+        → length bytes ≡ link_len link }
+    ensures tag { (extension : LinkExtension) (bytes : List ℕ) → EncodesTag extension bytes
+        → length bytes ≡ tag_len extension }
+    ensures tags { (extensions : List LinkExtension) (bytes : List ℕ) → EncodesTags extensions bytes
+        → length bytes ≡ tags_len extensions }
+    ensures net { (net : Option NetLayer) (bytes : List ℕ) → EncodesNet net bytes → length bytes ≡ net_len net }
+    ensures transport { (transport : Option TransportLayer) (bytes : List ℕ) → EncodesTransport transport bytes
+        → length bytes ≡ transport_len transport }
+{}
 
 /// A cut says how much is missing. Where bytes are refused for a length whose limit is the bytes at hand, of a layer
 /// that is no timestamp of ICMP, in a frame without a MACsec short length above 0 before that layer, the offset plus
