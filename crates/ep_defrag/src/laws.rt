@@ -12,7 +12,7 @@ ghost use Rattle.ep_defrag.specs.PayloadCuts.{IsCut};
 ghost use Rattle.ep_defrag.specs.Buffers.{IsUnchanged, ip_number_of, data_of, sections_of, HoldsFragments};
 ghost use Rattle.ep_defrag.specs.DefragComparisons.{range_cmp, buffer_cmp, error_cmp};
 ghost use Rattle.ep_defrag.specs.Streams.{same_stream};
-ghost use Rattle.ep_defrag.specs.Calls.{Call, Kept, accepted_in, calls_of, answers_to};
+ghost use Rattle.ep_defrag.specs.Calls.{Call, Kept, accepted_in, calls_of, answers_to, table_after, table_with};
 ghost use Rattle.ep_defrag.specs.Isolation.{answers_of, fragments_of, GivesCut, HandsOut, HandsOutAtMost};
 ghost use Rattle.ep_defrag.specs.Pools.{limit_of, stream_named, HoldsTable, plain_payload, plain_answer};
 ghost use Rattle.ep_defrag.specs.BuiltCuts.{BuiltCut, IsBuiltCut, IsUnder, KeepsAll, answers_to_frames, cut_answers};
@@ -146,6 +146,15 @@ pub fn streams_are_alone<Timestamp, CustomChannelId: Eq, V>()
         calls_of CustomChannelId.eq name a ≡ calls_of CustomChannelId.eq name b →
         answers_of CustomChannelId.eq name a (answers_to limit CustomChannelId.eq keep a)
         ≡ answers_of CustomChannelId.eq name b (answers_to limit CustomChannelId.eq keep b) }
+{}
+
+/// A call at the end of a list makes of what was kept of each stream what it makes of it alone. So who makes calls one
+/// by one, by the contract of each, knows what the list of them made.
+pub fn one_more_call<Timestamp, CustomChannelId: Eq, V>()
+    ensures { (limit : ℕ) (keep : V → Timestamp → Bool) (calls : List (Call Timestamp CustomChannelId V))
+        (call : Call Timestamp CustomChannelId V) (name : IpFragId CustomChannelId) →
+        table_after limit CustomChannelId.eq keep (calls ++ call ∷ []) name
+        ≡ table_with limit CustomChannelId.eq keep (table_after limit CustomChannelId.eq keep calls) call name }
 {}
 
 /// Where all fragments of a stream are cuts of a payload that is no longer than the limit, in whatever order and with
