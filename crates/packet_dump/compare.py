@@ -13,7 +13,8 @@ microseconds and nanoseconds, and pcapng.
 python3 compare.py --reassembled PROGRAM CAPTURE.. compares the payloads that are put together from fragments: behind
 which packet each comes, its transport header and its bytes, with those of tshark, which keeps fragments without an end.
 
-python3 compare.py --corpus FILE.. writes beside each file of slice_bench's corpora.py a capture of its frames.
+python3 compare.py --corpus TIMES FILE.. writes beside each file of slice_bench's corpora.py a capture of its frames, as
+many times over.
 """
 import os
 import re
@@ -39,11 +40,17 @@ PAYLOAD_FIELDS = [
 FLAGS = {"F": 1, "S": 2, "R": 4, "P": 8, "A": 16, "U": 32, "E": 64, "C": 128, "N": 256}
 ICMPV4 = {"echo-reply": 0, "destination-unreachable": 3, "source-quench": 4, "redirect": 5, "echo-request": 8,
           "router-advertisement": 9, "router-solicitation": 10, "time-exceeded": 11, "parameter-problem": 12,
-          "timestamp-request": 13, "timestamp-reply": 14}
+          "timestamp-request": 13, "timestamp-reply": 14, "address-mask-request": 17, "address-mask-reply": 18,
+          "photuris": 40, "extended-echo-request": 42, "extended-echo-reply": 43}
 ICMPV6 = {"destination-unreachable": 1, "packet-too-big": 2, "time-exceeded": 3, "parameter-problem": 4,
           "echo-request": 128, "echo-reply": 129, "listener-query": 130, "listener-report": 131, "listener-done": 132,
           "router-solicitation": 133, "router-advertisement": 134, "neighbor-solicitation": 135,
-          "neighbor-advertisement": 136, "redirect": 137, "listener-report-v2": 143}
+          "neighbor-advertisement": 136, "redirect": 137, "inverse-neighbor-solicitation": 141,
+          "inverse-neighbor-advertisement": 142, "listener-report-v2": 143, "home-agent-address-request": 144,
+          "home-agent-address-reply": 145, "mobile-prefix-solicitation": 146, "mobile-prefix-advertisement": 147,
+          "certification-path-solicitation": 148, "certification-path-advertisement": 149,
+          "multicast-router-advertisement": 151, "multicast-router-solicitation": 152,
+          "multicast-router-termination": 153, "extended-echo-request": 160, "extended-echo-reply": 161}
 # Blocks of packets that packet_dump reads, obsolete ones, which tcpdump and tshark read, and those that tshark counts.
 READ, OBSOLETE = {3, 6}, 2
 TOLD = READ | {OBSOLETE, 0xBAD, 0x40000BAD}
@@ -381,8 +388,8 @@ def reassembled(tally, program, path):
                 tally.compared(path, at, name, found[name], value, value is not None and found[name] == number(value))
 
 
-def corpus(path):
-    """The capture of the frames of a corpus of slice_bench."""
+def corpus(path, times):
+    """The capture of the frames of a corpus of slice_bench, as many times over."""
     data, frames, start = open(path, "rb").read(), [], 0
     while start < len(data):
         (length,) = struct.unpack_from("<I", data, start)
@@ -390,7 +397,7 @@ def corpus(path):
         start += 4 + length
     with open(path + ".pcap", "wb") as out:
         out.write(struct.pack("<IHHIIII", 0xA1B2C3D4, 2, 4, 0, 0, 262144, 1))
-        for index, frame in enumerate(frames):
+        for index, frame in enumerate(frames * times):
             out.write(struct.pack("<IIII", index // 1000, index % 1000 * 1000, len(frame), len(frame)) + frame)
 
 
@@ -405,8 +412,8 @@ def files_of(paths):
 
 
 if sys.argv[1] == "--corpus":
-    for path in sys.argv[2:]:
-        corpus(path)
+    for path in sys.argv[3:]:
+        corpus(path, int(sys.argv[2]))
 else:
     ways = {"--forms": in_forms, "--reassembled": reassembled}
     way, arguments = ways.get(sys.argv[1], compare), sys.argv[1:]

@@ -1,7 +1,8 @@
 -- What a map of counts becomes with a segment.
-use Rattle.std.proofs.Common.{◌≡◌, ℕ, Option, Some, None, Ok, sym}
-use Rattle.std.specs.Prelude.{unwrap_or}
-use Rattle.std.specs.BTreeMap.{BTreeMap, get, Updates}
+use Rattle.std.proofs.Common.{◌≡◌, ℕ, Option, Some, None, Ok, Err, sym}
+use Rattle.std.specs.Prelude.{IsErr, Result, unwrap_or}
+use Rattle.std.proofs.lemmas.Bool.{false≢true}
+use Rattle.std.specs.BTreeMap.{BTreeMap, get, Updates, IsUnchanged}
 use Rattle.std.specs.Option.{UnwrapsOrElse}
 use Rattle.std.specs.declared.cmp.Ordering.{Ordering}
 use Rattle.std.specs.declared.net.socket_addr.SocketAddr.{SocketAddr}
@@ -27,3 +28,18 @@ counted E cmp found old new segment source destination flow source_port destinat
     destination_port_is found_is seen_is updates = rw
     found_is
     (flow, rw (flow_is, sym source_port_is, sym destination_port_is) its, rw (sym seen_is) updates)
+
+-- there was no memory for a flow that was not seen
+pub lacked : (E : Type 0) (result : Result (Unit {0}) E)
+    (cmp : SocketAddr × SocketAddr → SocketAddr × SocketAddr → Ordering) (found : Option Segment)
+    (old new : BTreeMap (SocketAddr × SocketAddr) Count) (segment : Segment) (source destination : SocketAddr)
+    (flow : SocketAddr × SocketAddr) (source_port destination_port : ℕ) → IsErr result
+    → IsFlow segment.addresses source_port destination_port (source, destination) → flow ≡ (source, destination)
+    → source_port ≡ segment.tcp.source_port → destination_port ≡ segment.tcp.destination_port → found ≡ Some segment
+    → get cmp old flow ≡ None → IsUnchanged old new → CountsSegment cmp found old new result
+lacked E (Ok done) cmp found old new segment source destination flow source_port destination_port fails its flow_is
+    source_port_is destination_port_is found_is absent unchanged = absurd (false≢true fails)
+lacked E (Err error) cmp found old new segment source destination flow source_port destination_port fails its flow_is
+    source_port_is destination_port_is found_is absent unchanged = rw
+    found_is
+    (flow, rw (flow_is, sym source_port_is, sym destination_port_is) its, absent, unchanged)

@@ -72,16 +72,20 @@ with_segment count tcp len = record {
   bytes = min (count.bytes + len) (2 ^ 64 - 1);
 }
 
+-- the flow of a segment
+abbrev pub IsFlowOf : Segment → SocketAddr × SocketAddr → Type 0
+IsFlowOf segment flow = IsFlow segment.addresses segment.tcp.source_port segment.tcp.destination_port flow
+
 -- What a map of counts becomes with a segment, where there is one: the count of the segment's flow has it, and the
--- others are as they were. Without memory the map is as it was.
+-- others are as they were. Memory may be wanting only for a flow that was not seen, and then the map is as it was.
 abbrev pub CountsSegment : {E : Type 0} → (SocketAddr × SocketAddr → SocketAddr × SocketAddr → Ordering)
     → Option Segment → BTreeMap (SocketAddr × SocketAddr) Count → BTreeMap (SocketAddr × SocketAddr) Count
     → Result (Unit {0}) E → Type 0
 CountsSegment cmp (Some segment) old new (Ok done) =
-    (flow : SocketAddr × SocketAddr)
-    × IsFlow segment.addresses segment.tcp.source_port segment.tcp.destination_port flow
+    (flow : SocketAddr × SocketAddr) × IsFlowOf segment flow
     × Updates cmp old new flow (Some (with_segment (unwrap_or (get cmp old flow) nothing) segment.tcp segment.len))
-CountsSegment cmp (Some segment) old new (Err error) = IsUnchanged old new
+CountsSegment cmp (Some segment) old new (Err error) =
+    (flow : SocketAddr × SocketAddr) × IsFlowOf segment flow × (get cmp old flow ≡ None) × IsUnchanged old new
 CountsSegment cmp None old new result = (new ≡ old) × (result ≡ Ok tt)
 
 -- what it becomes with the frame of these layers

@@ -11,9 +11,9 @@ use Rattle.etherparse.specs.Types.IpHeaders.TheVariants as version
 use Rattle.etherparse.specs.Types.LinkPart.{LinkPart}
 use Rattle.etherparse.specs.Types.LinkPart.TheVariants as link
 
--- where the cut that begins here ends: behind 16 bytes, or where the payload does
+-- where the cut that begins here ends: behind 1480 bytes, or where the payload does
 abbrev pub cut_end : List ℕ → ℕ → ℕ
-cut_end payload start = min (length payload) (start + 16)
+cut_end payload start = min (length payload) (start + 1480)
 
 -- the cut that begins here, and whether more follow it; none behind the payload's end
 abbrev pub cut_from : List ℕ → ℕ → Option (List ℕ × Bool)

@@ -1,4 +1,4 @@
-//! Prints the fragments of a long payload of UDP over IPv4 as Ethernet frames in lines of hexadecimal.
+//! Prints a datagram of UDP over IPv4 that is too long for one Ethernet frame, as fragments in lines of hexadecimal.
 #![tactic(auto)]
 
 ghost use Rattle.std.specs.Prelude.{◌≡◌, ◌*◌, IfSome};
@@ -11,16 +11,16 @@ use etherparse::err::packet::BuildWriteError;
 use etherparse::{IpFragOffset, IpHeaders, IpNumber, Ipv4Header, PacketBuilder};
 use std::io;
 
-/// How many bytes of a payload a frame carries, a multiple of 8.
-const CUT_LEN: usize = 16;
+/// How many bytes of a payload a frame carries, a multiple of 8: those of 1500 that the header of IPv4 leaves.
+const CUT_LEN: usize = 1480;
 
 fn main(rt: HostRuntime) -> io::Result<()> {
-    let payload = [7; 40];
+    let mut payload = [7; 4000];
+    // the header of UDP: from port 4000 to 53, the length 4000, and no checksum
+    payload[..8].copy_from_slice(&[0x0f, 0xa0, 0, 53, 0x0f, 0xa0, 0, 0]);
     let mut frame = Vec::new(rt.alloc());
-    for index in 0..4096 {
-        let Ok(place) = IpFragOffset::try_new(2 * index) else {
-            break;
-        };
+    for index in 0..45 {
+        let place = IpFragOffset::try_new(185 * index).unwrap();
         let Some((cut, more)) = cut_at(&payload, place) else {
             break;
         };

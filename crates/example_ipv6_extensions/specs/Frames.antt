@@ -23,14 +23,18 @@ ethernet_header = link.Ethernet2 (record {
   ether_type = no_type;
 })
 
--- the address 192.0.2.last of IPv4 as one of IPv6
-abbrev pub mapped_address : ℕ → List ℕ
-mapped_address last = 0 ∷ 0 ∷ 0 ∷ 0 ∷ 0 ∷ 0 ∷ 0 ∷ 0 ∷ 0 ∷ 0 ∷ 255 ∷ 255 ∷ 192 ∷ 0 ∷ 2 ∷ last ∷ []
+-- the address 2001:db8::last
+abbrev pub documentation_address : ℕ → List ℕ
+documentation_address last = 32 ∷ 1 ∷ 13 ∷ 184 ∷ 0 ∷ 0 ∷ 0 ∷ 0 ∷ 0 ∷ 0 ∷ 0 ∷ 0 ∷ 0 ∷ 0 ∷ 0 ∷ last ∷ []
 
 -- the header of IPv6, with hop by hop options and destination options
 abbrev pub ip_headers : IpHeaders
 ip_headers = version.Ipv6
-    (record default_ipv6_header { hop_limit = 64; source = mapped_address 1; destination = mapped_address 2 })
+    (record default_ipv6_header {
+      hop_limit = 64;
+      source = documentation_address 1;
+      destination = documentation_address 2;
+    })
     (record no_ipv6_extensions {
       hop_by_hop_options = Some (raw_extension_with (record { 0 = 0 }) (5 ∷ 2 ∷ 0 ∷ 0 ∷ 1 ∷ 0 ∷ []));
       destination_options = Some (raw_extension_with (record { 0 = 0 }) (1 ∷ 4 ∷ 0 ∷ 0 ∷ 0 ∷ 0 ∷ []));

@@ -28,15 +28,15 @@ pub fn write_report(payload: &[u8], buf: &mut Vec<u8>) -> Result<(), BuildWriteE
         .write(buf, payload)
 }
 
-/// The header of IPv6, between the addresses of IPv4 as those of IPv6 (RFC 4291, 2.5.5.2), with the hop by hop option
-/// of a router alert (RFC 2711) and with destination options that say nothing.
+/// The header of IPv6, between addresses for documentation (RFC 3849), with the hop by hop option of a router alert
+/// (RFC 2711) and with destination options that say nothing.
 fn ip_headers() -> IpHeaders
     ensures { result ≡ ip_headers }
 {
     let header = Ipv6Header {
         hop_limit: 64,
-        source: [0, 0, 0, 0, 0, 0, 0, 0, 0, 0, 0xff, 0xff, 192, 0, 2, 1],
-        destination: [0, 0, 0, 0, 0, 0, 0, 0, 0, 0, 0xff, 0xff, 192, 0, 2, 2],
+        source: [0x20, 1, 0x0d, 0xb8, 0, 0, 0, 0, 0, 0, 0, 0, 0, 0, 0, 1],
+        destination: [0x20, 1, 0x0d, 0xb8, 0, 0, 0, 0, 0, 0, 0, 0, 0, 0, 0, 2],
         ..Default::default()
     };
     let alert = Ipv6RawExtHeader::new_raw(IpNumber(0), &[5, 2, 0, 0, 1, 0]).unwrap();

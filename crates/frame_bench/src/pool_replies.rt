@@ -15,6 +15,7 @@ ghost use Rattle.frame_bench.specs.declared.requests.Request.TheVariants as requ
 use crate::hex_text;
 use crate::slice_replies::push_refusal;
 use etherparse::defrag::{IpDefragError, IpDefragPayloadVec, IpDefragPool};
+use etherparse::laws::defrag::one_more_call;
 use etherparse::{Entry, SlicedPacket};
 use line_io::decimals;
 use std::alloc::AllocError;
@@ -55,6 +56,7 @@ fn push_frame(
     ensures holds { OnOk result ((history : PoolHistory) → HoldsHistory history pool.old →
         HoldsHistory (with_call history (frame_call (layers_of packet.now) timestamp channel)) pool.new) }
 {
+    one_more_call::<u64, u64, u64>();
     let answer = pool.process_sliced_packet(packet, timestamp, channel);
     push_pool_answer(output, &answer)?;
     give_back(pool, answer);
@@ -78,6 +80,7 @@ pub fn drop_below(pool: &mut IpDefragPool<u64, u64>, timestamp: u64)
     ensures { (history : PoolHistory) → HoldsHistory history pool.old →
         HoldsHistory (with_call history (drops_streams timestamp)) pool.new }
 {
+    one_more_call::<u64, u64, u64>();
     pool.retain(
         |kept: &u64| -> bool
             ensures { result ≡ nat_le timestamp kept.now }

@@ -3,7 +3,7 @@ use Rattle.std.specs.Prelude.{unwrap_or}
 use Rattle.etherparse.specs.Layers.{layers_of}
 use Rattle.etherparse.specs.TcpSlices.{tcp_slice_header, tcp_slice_payload}
 use Rattle.example_flows.specs.Flows.{Addresses, Segment, nothing, segment_in, v4, v6}
-use Rattle.example_flows.proofs.CountingLemmas.{seen_before, counted}
+use Rattle.example_flows.proofs.CountingLemmas.{seen_before, counted, lacked}
 use Rattle.example_flows.proofs.add_packet.Goals as goal
 use Rattle.example_flows.proofs.add_packet.Goals.{in-Some-Ipv4, in-Some-Ipv6}
 
@@ -24,4 +24,22 @@ returns c =
           (segment (v6 _ _)) _ _ c.match-packet-4.flow _ _ _
           (w.from-in-Some-Ipv6.ensures, w.from-in-Some-Ipv6-2.ensures) w.flow-is
           (search rules) (search rules) (search rules) (search rules) c.in_ok-insert.ensures.updates
+    ]
+
+pub returns-in_err-insert : goal.returns-in_err-insert
+returns-in_err-insert c =
+    let segment : Addresses → Segment = λ addresses. record {
+      addresses = addresses;
+      tcp = tcp_slice_header c.in-Some-Tcp.tcp;
+      len = length (tcp_slice_payload c.in-Some-Tcp.tcp);
+    } in
+    elim c.match-packet-4.branch [
+      | in-Some-Ipv4 w ↦ lacked _ _ _ (segment_in (layers_of c.args.packet.now)) c.args.flows.now c.insert.new.self
+          (segment (v4 _ _)) _ _ c.match-packet-4.flow _ _ c.from_residual.ensures.0
+          (w.from.ensures, w.from-in-Some-Ipv4.ensures) w.flow-is
+          (search rules) (search rules) (search rules) c.in_err-insert.ensures.absent c.in_err-insert.ensures.err
+      | in-Some-Ipv6 w ↦ lacked _ _ _ (segment_in (layers_of c.args.packet.now)) c.args.flows.now c.insert.new.self
+          (segment (v6 _ _)) _ _ c.match-packet-4.flow _ _ c.from_residual.ensures.0
+          (w.from-in-Some-Ipv6.ensures, w.from-in-Some-Ipv6-2.ensures) w.flow-is
+          (search rules) (search rules) (search rules) c.in_err-insert.ensures.absent c.in_err-insert.ensures.err
     ]

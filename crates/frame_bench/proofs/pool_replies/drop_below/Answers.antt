@@ -6,7 +6,7 @@ use Rattle.frame_bench.proofs.pool_replies.drop_below.Goals as goal
 
 pub returns : goal.returns
 returns c = λ history held.
-    HoldsHistory-push c.retain.new.self history (drops_streams c.args.timestamp)
+    HoldsHistory-push c.one_more_call.ensures c.retain.new.self history (drops_streams c.args.timestamp)
     (c.retain.ensures.answered.limit ∙ held.limit)
     (c.retain.ensures.holds (table_behind history) held.table (nat_le c.args.timestamp)
     (λ timestamp answer met. search (rules, of_calls)))

@@ -19,6 +19,6 @@ pub returns-clause-holds : goal.returns-clause-holds
 returns-clause-holds c = λ history held.
     c.give_back.ensures
     (with_call history (frame_call (layers_of c.args.packet.now) c.args.timestamp c.args.channel))
-    (HoldsHistory-frame c.args.pool.now c.process_sliced_packet-answer.new.self (fragment_in c.args.packet.now)
+    (HoldsHistory-frame c.one_more_call.ensures c.args.pool.now c.process_sliced_packet-answer.new.self (fragment_in c.args.packet.now)
     c.args.timestamp c.args.channel c.process_sliced_packet-answer.result c.process_sliced_packet-answer.ensures
     c.in_ok-push_pool_answer.ensures.memory history held)
