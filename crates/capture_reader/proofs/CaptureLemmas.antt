@@ -326,7 +326,7 @@ decide bytes (items, Some refusal, run) = inr (
   },
 )
 
-same_some : (a b : Refusal) → Some a ≡ Some b → a ≡ b
+pub same_some : (a b : Refusal) → Some a ≡ Some b → a ≡ b
 same_some a b same = cc
 
 one_refusal : (bytes : List ℕ) (found other : List Item × CaptureError) → RefusesCapture bytes found

@@ -9,5 +9,6 @@ pub mod SaysLemmas
 pub mod InterfaceLemmas
 pub mod CaptureLemmas
 pub mod ClassicRefusalLemmas
+pub mod WantLemmas
 pub mod StepLemmas
 pub mod ReaderLemmas

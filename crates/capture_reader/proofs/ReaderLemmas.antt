@@ -16,7 +16,7 @@ use Rattle.capture_reader.specs.Captures.{stage_after, stage_behind}
 use Rattle.capture_reader.specs.BlockContents.{section_of}
 use Rattle.capture_reader.specs.Readers.{AdvancesTo, Answers, BlocksStand, IsOther, IsUnmoved, Passes, Reads}
 use Rattle.capture_reader.specs.Readers.{ReadsBlocks}
-use Rattle.capture_reader.specs.Readers.{ReadsMore, ShowsItem, StepsOver, StopsAt, Waits, most_held}
+use Rattle.capture_reader.specs.Readers.{ReadsMore, ShowsItem, StepsOver, StopsAt, Waits, WantsBytes, most_held}
 use Rattle.capture_reader.specs.Readers.{reader_left, reader_offset, reader_rest, reader_stage}
 use Rattle.capture_reader.specs.Readers.{refused_at}
 use Rattle.capture_reader.specs.Readers.{stage_of}
@@ -37,6 +37,7 @@ use Rattle.capture_reader.proofs.CaptureLemmas.{item_some, start_rows}
 use Rattle.capture_reader.proofs.NumberLemmas.{word32_at-more}
 use Rattle.capture_reader.proofs.ClassicRefusalLemmas.{final_5, heading_few, heading_more, last_rows, record_few}
 use Rattle.capture_reader.proofs.ClassicRefusalLemmas.{record_more}
+use Rattle.capture_reader.proofs.WantLemmas.{item_wants}
 
 -- ---- an item more
 
@@ -144,6 +145,16 @@ ends reader taken items ended reads =
           ∙ ap (may_end (reader_stage reader)) (sym none) ∙ ended;
     }
 
+left_is : (reader : CaptureReader) → reader_left reader ≡ length (reader_rest reader)
+left_is reader = sym (length-drop reader.end reader.buffer.items)
+
+unmoved_left : (reader next : CaptureReader) → IsUnmoved reader next
+    → (reader_offset next + reader_left next ≡ reader_offset reader + reader_left reader)
+    × (reader_left next ≡ length (reader_rest reader))
+unmoved_left reader next same =
+    let len = ap length same.rest in
+    (omega (arith, len, same.offset, left_is reader, left_is next), left_is next ∙ len)
+
 -- what a step answers is what its reader came upon
 pub advances : (reader next : CaptureReader) (answer : Result Advance CaptureError) → Answers reader next answer
     → (taken : List ℕ) (items : List Item) → Reads reader taken items → AdvancesTo next taken items answer
@@ -163,6 +174,7 @@ advances reader next (Ok (Cut error)) step taken items reads = (
   still_reads reader next taken items step.0 reads,
   subst (λ (s : List ℕ). RefusesCapture s (items, error)) (append-nil taken)
       (refuses reader [] taken items error step.1 reads),
+  subst (λ (n : ℕ). WantsBytes n error.refusal) (sym (unmoved_left reader next step.0).1) step.3,
 )
 advances reader next (Err error) step taken items reads = (
   still_reads reader next taken items step.0 reads,
@@ -170,9 +182,6 @@ advances reader next (Err error) step taken items reads = (
 )
 
 -- ---- how many bytes are left
-
-left_is : (reader : CaptureReader) → reader_left reader ≡ length (reader_rest reader)
-left_is reader = sym (length-drop reader.end reader.buffer.items)
 
 step_left : (reader next : CaptureReader) (item : Item) → StepsOver reader next item
     → (reader_offset next + reader_left next ≡ reader_offset reader + reader_left reader)
@@ -183,13 +192,6 @@ step_left reader next item step =
     ap length step.parts ∙ length-append one (reader_rest next) in
     let some = item_some (reader_stage reader) item step.fits in
     (omega (arith, len, step.offset, left_is reader, left_is next), omega (arith, len, some, left_is reader, left_is next))
-
-unmoved_left : (reader next : CaptureReader) → IsUnmoved reader next
-    → (reader_offset next + reader_left next ≡ reader_offset reader + reader_left reader)
-    × (reader_left next ≡ length (reader_rest reader))
-unmoved_left reader next same =
-    let len = ap length same.rest in
-    (omega (arith, len, same.offset, left_is reader, left_is next), left_is next ∙ len)
 
 pub keeps_total : (reader next : CaptureReader) (answer : Result Advance CaptureError) → Answers reader next answer
     → reader_offset next + reader_left next ≡ reader_offset reader + reader_left reader
@@ -321,6 +323,7 @@ refused_answers reader next (refusal.Cut required len) same goes_on refused =
         refused = ap (λ (s : List ℕ). first_row (item_rows stage s)) (sym rest) ∙ refused;
       },
       item_few stage (reader_rest reader) required len refused,
+      item_wants stage (reader_rest reader) required len refused,
     )
 refused_answers reader next (refusal.UnknownMagic magic) same goes_on refused =
     final_answers reader next (refusal.UnknownMagic magic) tt same goes_on refused

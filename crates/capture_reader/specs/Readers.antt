@@ -100,15 +100,21 @@ pub record ShowsItem (reader : CaptureReader) (stage : Stage) (item : Item) : Ty
 abbrev pub IsOther : Stage → Item → Type 0
 IsOther stage item = shown_in stage item ≡ None
 
+-- a refusal for want of bytes, where so many are left: more are needed
+abbrev pub WantsBytes : ℕ → Refusal → Type 0
+WantsBytes left (refusal.Cut required there) = (there ≡ left) × (left < required)
+WantsBytes left other = ⊥
+
 -- Behind these bytes and items the reader came upon this: a packet, which it shows, or another item; the end of a
--- capture; bytes that end too early; or bytes that are refused whatever follows.
+-- capture; bytes that end too early, so that more are needed; or bytes that are refused whatever follows.
 abbrev pub AdvancesTo : CaptureReader → List ℕ → List Item → Result Advance CaptureError → Type 0
 AdvancesTo reader taken items (Ok Packet) =
     (item : Item) × ReadsMore reader taken items item × ShowsItem reader (stage_behind at_start items) item
 AdvancesTo reader taken items (Ok Other) =
     (item : Item) × IsOther (stage_behind at_start items) item × ReadsMore reader taken items item
 AdvancesTo reader taken items (Ok MayEnd) = Reads reader taken items × IsCapture taken items
-AdvancesTo reader taken items (Ok (Cut error)) = Reads reader taken items × RefusesCapture taken (items, error)
+AdvancesTo reader taken items (Ok (Cut error)) =
+    Reads reader taken items × RefusesCapture taken (items, error) × WantsBytes (reader_left reader) error.refusal
 AdvancesTo reader taken items (Err error) =
     Reads reader taken items × ((more : List ℕ) → RefusesCapture (taken ++ more) (items, error))
 
@@ -169,6 +175,7 @@ Answers reader next (Ok MayEnd) =
     IsUnmoved reader next × (may_end (reader_stage reader) (reader_rest reader) ≡ true)
 Answers reader next (Ok (Cut error)) =
     IsUnmoved reader next × StopsAt reader [] error × (length (reader_rest reader) < most_held (reader_stage reader))
+    × WantsBytes (length (reader_rest reader)) error.refusal
 Answers reader next (Err error) = IsUnmoved reader next × ((more : List ℕ) → StopsAt reader more error)
 
 -- what is answered where bytes are refused: those that end too early may go on

@@ -1,5 +1,6 @@
--- The names of the types and codes of ICMP (RFC 792, RFC 1122, RFC 1812, RFC 4443, RFC 4861), and what messages hold.
-use Rattle.std.specs.Prelude.{ℕ, ◌==◌, if◌then◌else◌, List, [], ◌++◌, Option, Some, None, codes}
+-- The names of the types and codes of ICMP (RFC 792, 950, 1108, 1122, 1256, 1812, 2521, 8335) and of ICMPv6 (RFC 2710,
+-- 3122, 3810, 3971, 4286, 4443, 4861, 6275, 6550, 7112, 8335), and what messages hold.
+use Rattle.std.specs.Prelude.{ℕ, ◌==◌, nat_lt, if◌then◌else◌, List, [], ◌++◌, Option, Some, None, codes}
 use Rattle.std.specs.Fmt.{decimal}
 use Rattle.etherparse.specs.Types.IcmpEchoHeader.{IcmpEchoHeader}
 use Rattle.etherparse.specs.Types.Icmpv4Type.{Icmpv4Type}
@@ -23,7 +24,12 @@ icmpv4_type_name type =
     (if type == 11 then Some (codes "time-exceeded") else
     (if type == 12 then Some (codes "parameter-problem") else
     (if type == 13 then Some (codes "timestamp-request") else
-    (if type == 14 then Some (codes "timestamp-reply") else None))))))))))
+    (if type == 14 then Some (codes "timestamp-reply") else
+    (if type == 17 then Some (codes "address-mask-request") else
+    (if type == 18 then Some (codes "address-mask-reply") else
+    (if type == 40 then Some (codes "photuris") else
+    (if type == 42 then Some (codes "extended-echo-request") else
+    (if type == 43 then Some (codes "extended-echo-reply") else None)))))))))))))))
 
 -- the name of a code of an ICMP message about a destination that cannot be reached
 abbrev pub icmpv4_unreachable_name : ℕ → Option (List ℕ)
@@ -58,21 +64,33 @@ abbrev pub exceeded_name : ℕ → Option (List ℕ)
 exceeded_name code =
     if code == 0 then Some (codes "in-transit") else (if code == 1 then Some (codes "reassembly") else None)
 
+-- the name of a code of a parameter problem
+abbrev pub icmpv4_problem_name : ℕ → Option (List ℕ)
+icmpv4_problem_name code =
+    if code == 0 then Some (codes "pointer") else
+    (if code == 1 then Some (codes "missing-option") else
+    (if code == 2 then Some (codes "bad-length") else None))
+
 -- the name of a code of ICMP
 abbrev pub icmpv4_code_name : ℕ → ℕ → Option (List ℕ)
 icmpv4_code_name type code =
     if type == 3 then icmpv4_unreachable_name code else
     (if type == 5 then icmpv4_redirect_name code else
-    (if type == 11 then exceeded_name code else None))
+    (if type == 11 then exceeded_name code else
+    (if type == 12 then icmpv4_problem_name code else None)))
 
--- the name of a type of ICMPv6
-abbrev pub icmpv6_type_name : ℕ → Option (List ℕ)
-icmpv6_type_name type =
+-- the name of a type of an error of ICMPv6
+abbrev pub icmpv6_error_name : ℕ → Option (List ℕ)
+icmpv6_error_name type =
     if type == 1 then Some (codes "destination-unreachable") else
     (if type == 2 then Some (codes "packet-too-big") else
     (if type == 3 then Some (codes "time-exceeded") else
-    (if type == 4 then Some (codes "parameter-problem") else
-    (if type == 128 then Some (codes "echo-request") else
+    (if type == 4 then Some (codes "parameter-problem") else None)))
+
+-- the name of a type of ICMPv6 that tells something, below 144
+abbrev pub icmpv6_neighbor_name : ℕ → Option (List ℕ)
+icmpv6_neighbor_name type =
+    if type == 128 then Some (codes "echo-request") else
     (if type == 129 then Some (codes "echo-reply") else
     (if type == 130 then Some (codes "listener-query") else
     (if type == 131 then Some (codes "listener-report") else
@@ -82,7 +100,30 @@ icmpv6_type_name type =
     (if type == 135 then Some (codes "neighbor-solicitation") else
     (if type == 136 then Some (codes "neighbor-advertisement") else
     (if type == 137 then Some (codes "redirect") else
-    (if type == 143 then Some (codes "listener-report-v2") else None))))))))))))))
+    (if type == 141 then Some (codes "inverse-neighbor-solicitation") else
+    (if type == 142 then Some (codes "inverse-neighbor-advertisement") else
+    (if type == 143 then Some (codes "listener-report-v2") else None))))))))))))
+
+-- the same from 144 on
+abbrev pub icmpv6_further_name : ℕ → Option (List ℕ)
+icmpv6_further_name type =
+    if type == 144 then Some (codes "home-agent-address-request") else
+    (if type == 145 then Some (codes "home-agent-address-reply") else
+    (if type == 146 then Some (codes "mobile-prefix-solicitation") else
+    (if type == 147 then Some (codes "mobile-prefix-advertisement") else
+    (if type == 148 then Some (codes "certification-path-solicitation") else
+    (if type == 149 then Some (codes "certification-path-advertisement") else
+    (if type == 151 then Some (codes "multicast-router-advertisement") else
+    (if type == 152 then Some (codes "multicast-router-solicitation") else
+    (if type == 153 then Some (codes "multicast-router-termination") else
+    (if type == 160 then Some (codes "extended-echo-request") else
+    (if type == 161 then Some (codes "extended-echo-reply") else None))))))))))
+
+-- the name of a type of ICMPv6
+abbrev pub icmpv6_type_name : ℕ → Option (List ℕ)
+icmpv6_type_name type =
+    if nat_lt type 128 then icmpv6_error_name type else
+    (if nat_lt type 144 then icmpv6_neighbor_name type else icmpv6_further_name type)
 
 -- the name of a code of an ICMPv6 message about a destination that cannot be reached
 abbrev pub icmpv6_unreachable_name : ℕ → Option (List ℕ)
@@ -93,12 +134,23 @@ icmpv6_unreachable_name code =
     (if code == 3 then Some (codes "address") else
     (if code == 4 then Some (codes "port") else
     (if code == 5 then Some (codes "source-policy") else
-    (if code == 6 then Some (codes "reject-route") else None))))))
+    (if code == 6 then Some (codes "reject-route") else
+    (if code == 7 then Some (codes "source-routing-header") else None)))))))
+
+-- the name of a code of a parameter problem of ICMPv6
+abbrev pub icmpv6_problem_name : ℕ → Option (List ℕ)
+icmpv6_problem_name code =
+    if code == 0 then Some (codes "erroneous-header") else
+    (if code == 1 then Some (codes "unrecognized-next-header") else
+    (if code == 2 then Some (codes "unrecognized-option") else
+    (if code == 3 then Some (codes "incomplete-header-chain") else None)))
 
 -- the name of a code of ICMPv6
 abbrev pub icmpv6_code_name : ℕ → ℕ → Option (List ℕ)
 icmpv6_code_name type code =
-    if type == 1 then icmpv6_unreachable_name code else (if type == 3 then exceeded_name code else None)
+    if type == 1 then icmpv6_unreachable_name code else
+    (if type == 3 then exceeded_name code else
+    (if type == 4 then icmpv6_problem_name code else None))
 
 -- a type, by its name or else by its number
 abbrev pub type_text : Option (List ℕ) → ℕ → List ℕ
@@ -114,7 +166,8 @@ code_text None code = if code == 0 then [] else codes " code " ++ decimal code
 abbrev pub echo_text : IcmpEchoHeader → List ℕ
 echo_text echo = codes " id " ++ decimal echo.id ++ codes " seq " ++ decimal echo.seq
 
--- what a message of ICMP says beside its type and code: an echo's numbers, how much the next network takes, a gateway
+-- what a message of ICMP says beside its type and code: an echo's numbers, how much the next network takes, a gateway,
+-- where the byte stands that is wrong
 abbrev pub icmpv4_content_text : Icmpv4Type → List ℕ
 icmpv4_content_text (message4.Unknown type code bytes5to8) = []
 icmpv4_content_text (message4.EchoReply echo) = echo_text echo
@@ -123,7 +176,8 @@ icmpv4_content_text (message4.DestinationUnreachable code next_hop_mtu) =
 icmpv4_content_text (message4.Redirect code gateway) = codes " to " ++ ipv4_text gateway
 icmpv4_content_text (message4.EchoRequest echo) = echo_text echo
 icmpv4_content_text (message4.TimeExceeded code) = []
-icmpv4_content_text (message4.ParameterProblem code pointer) = []
+icmpv4_content_text (message4.ParameterProblem code pointer) =
+    if code == 0 then codes " " ++ decimal pointer else []
 icmpv4_content_text (message4.TimestampRequest times) = codes " id " ++ decimal times.id ++ codes " seq " ++ decimal times.seq
 icmpv4_content_text (message4.TimestampReply times) = codes " id " ++ decimal times.id ++ codes " seq " ++ decimal times.seq
 

@@ -3,9 +3,10 @@
 ghost use Rattle.std.specs.Prelude.{◌≡◌, ◌++◌, OnOk};
 ghost use Rattle.std.specs.Option.{option_copied};
 ghost use Rattle.packet_dump.specs.IcmpTexts.{code_text, echo_text, exceeded_name, icmpv4_code_name, icmpv4_content_text};
-ghost use Rattle.packet_dump.specs.IcmpTexts.{icmpv4_redirect_name, icmpv4_text, icmpv4_type_name, icmpv4_unreachable_name};
-ghost use Rattle.packet_dump.specs.IcmpTexts.{icmpv6_code_name, icmpv6_content_text, icmpv6_text, icmpv6_type_name};
-ghost use Rattle.packet_dump.specs.IcmpTexts.{icmpv6_unreachable_name, type_text};
+ghost use Rattle.packet_dump.specs.IcmpTexts.{icmpv4_problem_name, icmpv4_redirect_name, icmpv4_text, icmpv4_type_name};
+ghost use Rattle.packet_dump.specs.IcmpTexts.{icmpv4_unreachable_name, icmpv6_code_name, icmpv6_content_text};
+ghost use Rattle.packet_dump.specs.IcmpTexts.{icmpv6_error_name, icmpv6_further_name, icmpv6_neighbor_name, icmpv6_problem_name};
+ghost use Rattle.packet_dump.specs.IcmpTexts.{icmpv6_text, icmpv6_type_name, icmpv6_unreachable_name, type_text};
 
 use crate::addresses::push_ipv4;
 use etherparse::{IcmpEchoHeader, Icmpv4Type, Icmpv6Type};
@@ -87,6 +88,11 @@ fn icmpv4_type_name(type_u8: u8) -> Option<&'static str>
         12 => Some("parameter-problem"),
         13 => Some("timestamp-request"),
         14 => Some("timestamp-reply"),
+        17 => Some("address-mask-request"),
+        18 => Some("address-mask-reply"),
+        40 => Some("photuris"),
+        42 => Some("extended-echo-request"),
+        43 => Some("extended-echo-reply"),
         _ => None,
     }
 }
@@ -99,6 +105,7 @@ fn icmpv4_code_name(type_u8: u8, code_u8: u8) -> Option<&'static str>
         3 => icmpv4_unreachable_name(code_u8),
         5 => icmpv4_redirect_name(code_u8),
         11 => exceeded_name(code_u8),
+        12 => icmpv4_problem_name(code_u8),
         _ => None,
     }
 }
@@ -141,6 +148,18 @@ fn icmpv4_redirect_name(code_u8: u8) -> Option<&'static str>
     }
 }
 
+/// The name of a code of a parameter problem.
+fn icmpv4_problem_name(code_u8: u8) -> Option<&'static str>
+    ensures { option_copied result ≡ icmpv4_problem_name code_u8 }
+{
+    match code_u8 {
+        0 => Some("pointer"),
+        1 => Some("missing-option"),
+        2 => Some("bad-length"),
+        _ => None,
+    }
+}
+
 /// The name of a code of a time that is exceeded, which is of ICMPv6 too.
 fn exceeded_name(code_u8: u8) -> Option<&'static str>
     ensures { option_copied result ≡ exceeded_name code_u8 }
@@ -156,11 +175,33 @@ fn exceeded_name(code_u8: u8) -> Option<&'static str>
 fn icmpv6_type_name(type_u8: u8) -> Option<&'static str>
     ensures { option_copied result ≡ icmpv6_type_name type_u8 }
 {
+    if type_u8 < 128 {
+        icmpv6_error_name(type_u8)
+    } else if type_u8 < 144 {
+        icmpv6_neighbor_name(type_u8)
+    } else {
+        icmpv6_further_name(type_u8)
+    }
+}
+
+/// The name of a type of an error of ICMPv6.
+fn icmpv6_error_name(type_u8: u8) -> Option<&'static str>
+    ensures { option_copied result ≡ icmpv6_error_name type_u8 }
+{
     match type_u8 {
         1 => Some("destination-unreachable"),
         2 => Some("packet-too-big"),
         3 => Some("time-exceeded"),
         4 => Some("parameter-problem"),
+        _ => None,
+    }
+}
+
+/// The name of a type of ICMPv6 that tells something, below 144.
+fn icmpv6_neighbor_name(type_u8: u8) -> Option<&'static str>
+    ensures { option_copied result ≡ icmpv6_neighbor_name type_u8 }
+{
+    match type_u8 {
         128 => Some("echo-request"),
         129 => Some("echo-reply"),
         130 => Some("listener-query"),
@@ -171,7 +212,29 @@ fn icmpv6_type_name(type_u8: u8) -> Option<&'static str>
         135 => Some("neighbor-solicitation"),
         136 => Some("neighbor-advertisement"),
         137 => Some("redirect"),
+        141 => Some("inverse-neighbor-solicitation"),
+        142 => Some("inverse-neighbor-advertisement"),
         143 => Some("listener-report-v2"),
+        _ => None,
+    }
+}
+
+/// The same from 144 on.
+fn icmpv6_further_name(type_u8: u8) -> Option<&'static str>
+    ensures { option_copied result ≡ icmpv6_further_name type_u8 }
+{
+    match type_u8 {
+        144 => Some("home-agent-address-request"),
+        145 => Some("home-agent-address-reply"),
+        146 => Some("mobile-prefix-solicitation"),
+        147 => Some("mobile-prefix-advertisement"),
+        148 => Some("certification-path-solicitation"),
+        149 => Some("certification-path-advertisement"),
+        151 => Some("multicast-router-advertisement"),
+        152 => Some("multicast-router-solicitation"),
+        153 => Some("multicast-router-termination"),
+        160 => Some("extended-echo-request"),
+        161 => Some("extended-echo-reply"),
         _ => None,
     }
 }
@@ -183,6 +246,7 @@ fn icmpv6_code_name(type_u8: u8, code_u8: u8) -> Option<&'static str>
     match type_u8 {
         1 => icmpv6_unreachable_name(code_u8),
         3 => exceeded_name(code_u8),
+        4 => icmpv6_problem_name(code_u8),
         _ => None,
     }
 }
@@ -199,12 +263,26 @@ fn icmpv6_unreachable_name(code_u8: u8) -> Option<&'static str>
         4 => Some("port"),
         5 => Some("source-policy"),
         6 => Some("reject-route"),
+        7 => Some("source-routing-header"),
+        _ => None,
+    }
+}
+
+/// The name of a code of a parameter problem of ICMPv6.
+fn icmpv6_problem_name(code_u8: u8) -> Option<&'static str>
+    ensures { option_copied result ≡ icmpv6_problem_name code_u8 }
+{
+    match code_u8 {
+        0 => Some("erroneous-header"),
+        1 => Some("unrecognized-next-header"),
+        2 => Some("unrecognized-option"),
+        3 => Some("incomplete-header-chain"),
         _ => None,
     }
 }
 
 /// Appends what a message of ICMP says beside its type and code: an echo's numbers, how much the next network takes, a
-/// gateway.
+/// gateway, where the byte stands that is wrong.
 fn push_icmpv4_content(output: &mut Vec<u8>, message: &Icmpv4Type) -> Result<(), AllocError>
     ensures { OnOk result (output.new.items ≡ output.old.items ++ icmpv4_content_text message.now) }
 {
@@ -217,6 +295,9 @@ fn push_icmpv4_content(output: &mut Vec<u8>, message: &Icmpv4Type) -> Result<(),
         Icmpv4Type::Redirect { gateway, .. } => {
             output.extend_from_slice(b" to ")?;
             push_ipv4(output, *gateway)
+        }
+        Icmpv4Type::ParameterProblem { code: 0, pointer } => {
+            decimals::push_behind(output, b" ", u64::from(*pointer))
         }
         Icmpv4Type::TimestampRequest(times) | Icmpv4Type::TimestampReply(times) => {
             decimals::push_behind(output, b" id ", u64::from(times.id))?;

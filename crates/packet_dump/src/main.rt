@@ -56,9 +56,12 @@ input is read.
   --hex              the bytes of payloads too, 16 in a row
   --reassemble       put IP payloads together from their fragments: a line more
                      behind the packet that completes one, or is refused for it
-  --timeout SECONDS  give a payload up of which nothing came for so long (30)
-  --limit BYTES      put no payload together that is longer (65535)
-  --summary          behind the lines how much of what was read, and the errors
+  --timeout SECONDS  with --reassemble: give a payload up of which nothing came
+                     for so long (30)
+  --limit BYTES      with --reassemble: put no payload together that is longer
+                     (65535)
+  --summary          behind the lines how much was read of what, and the errors:
+                     of all packets, also of those that --only leaves out
   --help             this text
   --version          the version
 
@@ -147,8 +150,10 @@ fn dump(rt: &HostRuntime, view: View, path: Option<&str>, wanted: bool) -> ExitC
         }
         None => dump_reader(rt, view, &mut summary, rt.stdin()),
     };
-    if wanted && outcome.is_ok() && !summarized(rt, &summary) {
-        return said(rt, error_text(&RunError::Write), 1);
+    if wanted && outcome.is_ok() {
+        if let Err(error) = summarized(rt, &summary) {
+            return said(rt, error_text(&error), 1);
+        }
     }
     ended(rt, outcome)
 }
@@ -180,11 +185,12 @@ fn dump_reader(
     run(rt.alloc(), view, summary, &mut reader, &mut writer)
 }
 
-/// Prints the summary, and tells whether that succeeded.
-fn summarized(rt: &HostRuntime, summary: &Summary) -> bool {
-    match summary.text(rt.alloc()) {
-        Ok(text) => rt.print(text).is_ok(),
-        Err(_) => false,
+/// Prints the summary.
+fn summarized(rt: &HostRuntime, summary: &Summary) -> Result<(), RunError> {
+    let text = summary.text(rt.alloc())?;
+    match rt.print(text) {
+        Ok(()) => Ok(()),
+        Err(_) => Err(RunError::Write),
     }
 }
 

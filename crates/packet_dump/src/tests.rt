@@ -5,8 +5,10 @@ ghost use Rattle.std.specs.Prelude.{◌≤◌, IfOk};
 
 use crate::ending::Ending;
 use crate::engine::{MOST_READS, run};
+use crate::icmp_messages::{push_icmpv4, push_icmpv6};
 use crate::summary::Summary;
 use crate::view::{Kind, View};
+use etherparse::{Icmpv4Slice, Icmpv6Slice};
 use line_io::{RunError, Watched};
 use std::alloc::Global;
 use std::io;
@@ -301,4 +303,94 @@ fn shows_what_is_wanted(rt: HostRuntime) {
     );
     assert_shown(&rt, alloc, VIEW, COOKED, false, COOKED_LINE);
     assert_shown(&rt, alloc, VIEW, CHAIN, false, CHAIN_LINE);
+}
+
+/// Messages of ICMP, whose fifth byte is 20: type, code and text.
+const MESSAGES: &[(u8, u8, &str)] = &[
+    (12, 0, " icmpv4 parameter-problem pointer 20"),
+    (12, 1, " icmpv4 parameter-problem missing-option"),
+    (12, 2, " icmpv4 parameter-problem bad-length"),
+    (12, 3, " icmpv4 parameter-problem code 3"),
+    (17, 0, " icmpv4 address-mask-request"),
+    (18, 0, " icmpv4 address-mask-reply"),
+    (40, 5, " icmpv4 photuris code 5"),
+    (41, 0, " icmpv4 type 41"),
+    (42, 0, " icmpv4 extended-echo-request"),
+    (43, 0, " icmpv4 extended-echo-reply"),
+];
+
+/// Those of ICMPv6, whose eighth byte is 40.
+const MESSAGES_V6: &[(u8, u8, &str)] = &[
+    (1, 6, " icmpv6 destination-unreachable reject-route"),
+    (
+        1,
+        7,
+        " icmpv6 destination-unreachable source-routing-header",
+    ),
+    (1, 8, " icmpv6 destination-unreachable code 8"),
+    (
+        4,
+        0,
+        " icmpv6 parameter-problem erroneous-header pointer 40",
+    ),
+    (
+        4,
+        1,
+        " icmpv6 parameter-problem unrecognized-next-header pointer 40",
+    ),
+    (
+        4,
+        2,
+        " icmpv6 parameter-problem unrecognized-option pointer 40",
+    ),
+    (4, 3, " icmpv6 parameter-problem incomplete-header-chain"),
+    (127, 0, " icmpv6 type 127"),
+    (140, 1, " icmpv6 type 140 code 1"),
+    (141, 0, " icmpv6 inverse-neighbor-solicitation"),
+    (142, 0, " icmpv6 inverse-neighbor-advertisement"),
+    (143, 0, " icmpv6 listener-report-v2"),
+    (144, 0, " icmpv6 home-agent-address-request"),
+    (145, 0, " icmpv6 home-agent-address-reply"),
+    (146, 0, " icmpv6 mobile-prefix-solicitation"),
+    (147, 0, " icmpv6 mobile-prefix-advertisement"),
+    (148, 0, " icmpv6 certification-path-solicitation"),
+    (149, 0, " icmpv6 certification-path-advertisement"),
+    (150, 0, " icmpv6 type 150"),
+    (151, 0, " icmpv6 multicast-router-advertisement"),
+    (152, 0, " icmpv6 multicast-router-solicitation"),
+    (153, 0, " icmpv6 multicast-router-termination"),
+    (160, 0, " icmpv6 extended-echo-request"),
+    (161, 0, " icmpv6 extended-echo-reply"),
+];
+
+/// The text of a message of ICMP.
+fn assert_icmpv4(rt: &impl Abort, alloc: Global, type_u8: u8, code_u8: u8, wanted: &str) {
+    let bytes = [type_u8, code_u8, 0, 0, 20, 0, 0, 0];
+    let mut output = Vec::new(alloc);
+    if let Ok(message) = Icmpv4Slice::from_slice(&bytes) {
+        let told = push_icmpv4(&mut output, &message.icmp_type());
+        assert!(rt; told.is_ok());
+    }
+    assert!(rt; output.as_slice() == wanted.as_bytes());
+}
+
+/// The text of a message of ICMPv6.
+fn assert_icmpv6(rt: &impl Abort, alloc: Global, type_u8: u8, code_u8: u8, wanted: &str) {
+    let bytes = [type_u8, code_u8, 0, 0, 0, 0, 0, 40];
+    let mut output = Vec::new(alloc);
+    if let Ok(message) = Icmpv6Slice::from_slice(&bytes) {
+        let told = push_icmpv6(&mut output, &message.icmp_type());
+        assert!(rt; told.is_ok());
+    }
+    assert!(rt; output.as_slice() == wanted.as_bytes());
+}
+
+#[test]
+fn names_messages(rt: HostRuntime) {
+    for (type_u8, code_u8, wanted) in MESSAGES {
+        assert_icmpv4(&rt, rt.alloc(), *type_u8, *code_u8, wanted);
+    }
+    for (type_u8, code_u8, wanted) in MESSAGES_V6 {
+        assert_icmpv6(&rt, rt.alloc(), *type_u8, *code_u8, wanted);
+    }
 }

@@ -1,0 +1,74 @@
+-- A refusal for want of bytes says how many there are, and that more are needed.
+use Rattle.std.proofs.Common.{◌≡◌, ℕ, ◌+◌, ◌-◌, ◌<◌, Bool, true, false, nat_lt, List, [], ◌∷◌, Some, length, slice_range}
+use Rattle.std.proofs.Common.{refl, subst}
+use Rattle.std.proofs.lemmas.Bool.{ltb-true}
+use Rattle.std.proofs.lemmas.Option.{none-some}
+use Rattle.ep_base.specs.Tables.{first_row}
+use Rattle.capture_reader.specs.Numbers.{word32_at}
+use Rattle.capture_reader.specs.Blocks.{Section, block_rows, body_rows, kind_in, no_section, order_in}
+use Rattle.capture_reader.specs.Classic.{heading_rows, record_rows}
+use Rattle.capture_reader.specs.Captures.{Stage, at_start, in_records, in_section, begins_section, item_rows}
+use Rattle.capture_reader.specs.Readers.{WantsBytes}
+use Rattle.capture_reader.specs.declared.block.BlockKind.{BlockKind}
+use Rattle.capture_reader.specs.declared.block.BlockKind.TheVariants.{SectionHeader, InterfaceDescription, SimplePacket}
+use Rattle.capture_reader.specs.declared.block.BlockKind.TheVariants.{EnhancedPacket, Other}
+use Rattle.capture_reader.specs.declared.byte_order.ByteOrder.{ByteOrder}
+use Rattle.capture_reader.specs.declared.interface.Interface.{Interface}
+use Rattle.capture_reader.specs.declared.refusal.Refusal.{Refusal}
+use Rattle.capture_reader.specs.declared.refusal.Refusal.TheVariants as refusal
+use Rattle.capture_reader.proofs.CaptureLemmas.{same_some, start_rows}
+
+-- where so many bytes are left, a row about too few tells how many they are, and refuses where more are needed
+abbrev TellsWant : ℕ → Bool → Refusal → Type 0
+TellsWant left short (refusal.Cut required there) = (there ≡ left) × (short ≡ true → left < required)
+TellsWant left holds other = Unit {0}
+
+abbrev TellWants : ℕ → List (Bool × Refusal) → Type 0
+TellWants left [] = Unit {0}
+TellWants left (row ∷ rows) = TellsWant left row.0 row.1 × TellWants left rows
+
+row_wants : (left : ℕ) (rows : List (Bool × Refusal)) (required there : ℕ) → TellWants left rows
+    → first_row rows ≡ Some (refusal.Cut required there) → WantsBytes left (refusal.Cut required there)
+row_wants left [] required there tell refused = absurd (none-some (refusal.Cut required there) refused)
+row_wants left ((true, error) ∷ rows) required there tell refused =
+    let tells = subst (TellsWant left true) (same_some error (refusal.Cut required there) refused) tell.0 in
+    (tells.0, tells.1 refl)
+row_wants left ((false, error) ∷ rows) required there tell refused = row_wants left rows required there tell.1 refused
+
+body_wants : (left : ℕ) (interfaces : List Interface) (order : ByteOrder) (kind : BlockKind) (len : ℕ) (body : List ℕ)
+    → TellWants left (body_rows interfaces order kind len body)
+body_wants left interfaces order SectionHeader len body = (tt, tt)
+body_wants left interfaces order InterfaceDescription len body = (tt, (tt, (tt, (tt, (tt, tt)))))
+body_wants left interfaces order SimplePacket len body = (tt, (tt, (tt, tt)))
+body_wants left interfaces order EnhancedPacket len body = (tt, (tt, (tt, tt)))
+body_wants left interfaces order Other len body = tt
+
+block_wants : (section : Section) (bytes : List ℕ) → TellWants (length bytes) (block_rows section bytes)
+block_wants section bytes =
+    let n = length bytes in
+    let order = order_in section.order bytes in
+    let len = word32_at order bytes 4 in
+    let body = slice_range bytes 8 (len - 4) in
+    let wants = body_wants n section.interfaces order (kind_in section.order bytes) len body in
+    ((refl, ltb-true n 12), (tt, (tt, (tt, ((refl, ltb-true n len), (tt, wants))))))
+
+start_wants : (begins : Bool) (bytes : List ℕ) → TellWants (length bytes) (start_rows begins bytes)
+start_wants true bytes = block_wants no_section bytes
+start_wants false bytes =
+    let n = length bytes in
+    ((refl, ltb-true n 4), (tt, ((refl, ltb-true n 24), (tt, (tt, tt)))))
+
+stage_wants : (stage : Stage) (bytes : List ℕ) → TellWants (length bytes) (item_rows stage bytes)
+stage_wants at_start bytes = start_wants (begins_section bytes) bytes
+stage_wants (in_records first) bytes =
+    let n = length bytes in
+    let kept = word32_at first.order bytes 8 in
+    ((refl, ltb-true n 16), (tt, ((refl, ltb-true n (16 + kept)), tt)))
+stage_wants (in_section section) bytes = block_wants section bytes
+
+-- what stands next and is refused for want of bytes needs more of them
+pub item_wants : (stage : Stage) (bytes : List ℕ) (required there : ℕ)
+    → first_row (item_rows stage bytes) ≡ Some (refusal.Cut required there)
+    → WantsBytes (length bytes) (refusal.Cut required there)
+item_wants stage bytes required there refused =
+    row_wants (length bytes) (item_rows stage bytes) required there (stage_wants stage bytes) refused
