@@ -2,3 +2,5 @@ pub mod SessionLemmas
 pub mod DumpLemmas
 pub mod LineLemmas
 pub mod PoolLemmas
+pub mod ValueLemmas
+pub mod OptionLemmas

@@ -13,3 +13,5 @@ pub mod Sessions
 pub mod Shown
 pub mod ErrorTexts
 pub mod Transports
+pub mod Options
+pub mod OptionSteps

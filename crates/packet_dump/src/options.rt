@@ -1,5 +1,11 @@
 //! The words of the command line.
 
+ghost use Rattle.std.specs.Prelude.{◌≡◌, IfOk, IfErr, IfSome, IfNone, OnOk};
+ghost use Rattle.packet_dump.specs.Options.{Asked, Fault, IsRequest, IsValue, Item, RefusesWords, answer_of, asked_of};
+ghost use Rattle.packet_dump.specs.Options.{bad_value, fault_of, is_dashed, kind_name, option_word, texts, view_with};
+ghost use Rattle.packet_dump.specs.OptionSteps.{StepGives, finished, first_state, reading_state, step, word_named};
+ghost use Rattle.packet_dump.specs.declared.view.Kind.{Kind};
+
 use crate::view::{Kind, View};
 
 /// What a command line asks for.
@@ -39,7 +45,7 @@ pub enum UsageError<'a> {
 
 /// An option whose value is the next word.
 #[derive(Clone, Copy)]
-enum Awaited {
+pub enum Awaited {
     Count,
     Only,
     Timeout,
@@ -48,7 +54,9 @@ enum Awaited {
 
 impl Awaited {
     /// The option's word.
-    fn word(self) -> &'static str {
+    fn word(self) -> &'static str
+        ensures { result.now ≡ option_word self }
+    {
         match self {
             Awaited::Count => "--count",
             Awaited::Only => "--only",
@@ -58,61 +66,150 @@ impl Awaited {
     }
 }
 
-/// Reads the words behind the program's name.
-pub fn parse(words: &[String]) -> Result<Request<'_>, UsageError<'_>> {
-    let mut view = View {
-        only: None,
-        most: u64::MAX,
-        hex: false,
-        reassemble: false,
-        timeout: 30,
-        limit: u16::MAX,
-    };
-    let mut path = None;
-    let mut is_named = false;
-    let mut summary = false;
-    let mut awaited = None;
-    for word in words {
-        let text = word.as_str();
-        match awaited {
-            Some(option) => {
-                set(&mut view, option, text)?;
-                awaited = None;
-            }
-            None => match text {
-                "-h" | "--help" => return Ok(Request::Help),
-                "-V" | "--version" => return Ok(Request::Version),
-                "--hex" => view.hex = true,
-                "--summary" => summary = true,
-                "--reassemble" => view.reassemble = true,
-                "--count" => awaited = Some(Awaited::Count),
-                "--only" => awaited = Some(Awaited::Only),
-                "--timeout" => awaited = Some(Awaited::Timeout),
-                "--limit" => awaited = Some(Awaited::Limit),
-                _ if text.starts_with("-") && text != "-" => {
-                    return Err(UsageError::UnknownOption(text));
-                }
-                _ if is_named => return Err(UsageError::SecondFile(text)),
-                "-" => is_named = true,
-                _ => {
-                    path = Some(text);
-                    is_named = true;
-                }
-            },
+/// What a word is that is no option's value.
+#[derive(Clone, Copy)]
+pub enum Word {
+    Help,
+    Version,
+    Hex,
+    Summary,
+    Reassemble,
+    /// An option whose value is the next word.
+    Option(Awaited),
+    StandardInput,
+    File,
+    /// It begins with `-` and is no option.
+    Unknown,
+}
+
+impl Word {
+    /// What this word is.
+    fn of(text: &str) -> Word
+        ensures { result ≡ word_named text.now }
+    {
+        match text {
+            "-h" | "--help" => Word::Help,
+            "-V" | "--version" => Word::Version,
+            "--hex" => Word::Hex,
+            "--summary" => Word::Summary,
+            "--reassemble" => Word::Reassemble,
+            "--count" => Word::Option(Awaited::Count),
+            "--only" => Word::Option(Awaited::Only),
+            "--timeout" => Word::Option(Awaited::Timeout),
+            "--limit" => Word::Option(Awaited::Limit),
+            "-" => Word::StandardInput,
+            _ if begins_with_dash(text) => Word::Unknown,
+            _ => Word::File,
         }
-    }
-    match awaited {
-        Some(option) => Err(UsageError::NoValue(option.word())),
-        None => Ok(Request::Dump {
-            view,
-            path,
-            summary,
-        }),
     }
 }
 
+/// Whether a word begins with `-`.
+fn begins_with_dash(text: &str) -> bool
+    ensures { result ≡ is_dashed text.now }
+{
+    text.as_bytes().starts_with(b"-")
+}
+
+/// What the words so far ask.
+#[derive(Drop)]
+pub struct Reading<'a> {
+    view: View,
+    path: Option<&'a str>,
+    summary: bool,
+    /// Whether a file is named, or standard input.
+    is_named: bool,
+    /// The option whose value is the next word, where there is one.
+    awaited: Option<Awaited>,
+}
+
+impl<'a> Reading<'a> {
+    /// What no words ask.
+    fn new() -> Reading<'a>
+        ensures { reading_state result ≡ first_state }
+    {
+        Reading {
+            view: View {
+                only: None,
+                most: u64::MAX,
+                hex: false,
+                reassemble: false,
+                timeout: 30,
+                limit: u16::MAX,
+            },
+            path: None,
+            summary: false,
+            is_named: false,
+            awaited: None,
+        }
+    }
+
+    /// Reads a word. The answer is the request, where no word behind this one matters.
+    fn push(&mut self, text: &'a str) -> Result<Option<Request<'a>>, UsageError<'a>>
+        ensures { StepGives (step (reading_state self.old) text.now) (reading_state self.new) result }
+    {
+        if let Some(option) = self.awaited {
+            set(&mut self.view, option, text)?;
+            self.awaited = None;
+            return Ok(None);
+        }
+        match Word::of(text) {
+            Word::Help => return Ok(Some(Request::Help)),
+            Word::Version => return Ok(Some(Request::Version)),
+            Word::Hex => self.view.hex = true,
+            Word::Summary => self.summary = true,
+            Word::Reassemble => self.view.reassemble = true,
+            Word::Option(option) => self.awaited = Some(option),
+            Word::Unknown => return Err(UsageError::UnknownOption(text)),
+            Word::StandardInput | Word::File if self.is_named => {
+                return Err(UsageError::SecondFile(text));
+            }
+            Word::StandardInput => self.is_named = true,
+            Word::File => {
+                self.path = Some(text);
+                self.is_named = true;
+            }
+        }
+        Ok(None)
+    }
+
+    /// The request, where there is no word behind those that were read.
+    fn finish(self) -> Result<Request<'a>, UsageError<'a>>
+        ensures { answer_of result ≡ finished (reading_state self.entry) }
+    {
+        match self.awaited {
+            Some(option) => Err(UsageError::NoValue(option.word())),
+            None => Ok(Request::Dump {
+                view: self.view,
+                path: self.path,
+                summary: self.summary,
+            }),
+        }
+    }
+}
+
+/// Reads the words behind the program's name.
+pub fn parse(words: &[String]) -> Result<Request<'_>, UsageError<'_>>
+    ensures ok { IfOk result (λ request. IsRequest (texts words.now) (asked_of request)) }
+    ensures err { IfErr result (λ error. RefusesWords (texts words.now) (fault_of error)) }
+    ensures asked { (asked : Asked) → IsRequest (texts words.now) asked → answer_of result ≡ Ok asked }
+    ensures refused { (fault : Fault) → RefusesWords (texts words.now) fault → answer_of result ≡ Err fault }
+{
+    let mut reading = Reading::new();
+    for word in words {
+        if let Some(request) = reading.push(word.as_str())? {
+            return Ok(request);
+        }
+    }
+    reading.finish()
+}
+
 /// Sets an option to the value that a word says.
-fn set<'a>(view: &mut View, option: Awaited, text: &'a str) -> Result<(), UsageError<'a>> {
+fn set<'a>(view: &mut View, option: Awaited, text: &'a str) -> Result<(), UsageError<'a>>
+    ensures ok { OnOk result ((item : Item) × IsValue option text.now item × (view.new ≡ view_with view.old item)) }
+    ensures err { IfErr result (λ error. fault_of error ≡ bad_value option text.now) }
+    ensures bad { IfErr result (λ _. (item : Item) → IsValue option text.now item → ⊥) }
+{
     match option {
         Awaited::Count => {
             view.most = text
@@ -137,7 +234,10 @@ fn set<'a>(view: &mut View, option: Awaited, text: &'a str) -> Result<(), UsageE
 }
 
 /// The kind of packets of this name.
-fn kind_of(name: &str) -> Option<Kind> {
+fn kind_of(name: &str) -> Option<Kind>
+    ensures some { IfSome result (λ kind. name.now ≡ kind_name kind) }
+    ensures none { IfNone result ((kind : Kind) → name.now ≡ kind_name kind → ⊥) }
+{
     match name {
         "udp" => Some(Kind::Udp),
         "tcp" => Some(Kind::Tcp),

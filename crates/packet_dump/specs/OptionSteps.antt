@@ -1,0 +1,136 @@
+-- How the words of the command line are read, one at a time. Only private calls cite this.
+use Rattle.std.specs.Prelude.{◌≡◌, ℕ, ◌^◌, Bool, true, false, ◌&&◌, if◌then◌else◌, nat_lt, List, [], ◌∷◌, length}
+use Rattle.std.specs.Prelude.{Option, Some, None, Result, Ok, Err, codes, find}
+use Rattle.std.specs.Option.{option_map}
+use Rattle.std.specs.List.{list_all}
+use Rattle.std.specs.Char.{digit_value}
+use Rattle.std.specs.Str.{bytes_eq}
+use Rattle.std.specs.Str.Parse.{digits_value, without_leading_plus}
+use Rattle.packet_dump.specs.Options.{Asked, Fault, Item, Settings, asked_of, bad_value, count, default_settings, dump}
+use Rattle.packet_dump.specs.Options.{fault_of, file, help, hex, is_dashed, kind_name, limit, no_value, only, option_word}
+use Rattle.packet_dump.specs.Options.{reassemble, second_file, standard_input, summary, timeout, unknown_option, version}
+use Rattle.packet_dump.specs.Options.{with_item}
+use Rattle.packet_dump.specs.declared.options.Awaited.{Awaited}
+use Rattle.packet_dump.specs.declared.options.Awaited.TheVariants.{Count, Only, Timeout, Limit}
+use Rattle.packet_dump.specs.declared.options.Reading.{Reading}
+use Rattle.packet_dump.specs.declared.options.Request.{Request}
+use Rattle.packet_dump.specs.declared.options.UsageError.{UsageError}
+use Rattle.packet_dump.specs.declared.options.Word.{Word}
+use Rattle.packet_dump.specs.declared.options.Word.TheVariants as word
+use Rattle.packet_dump.specs.declared.view.Kind.{Kind}
+use Rattle.packet_dump.specs.declared.view.Kind.TheVariants as kind
+
+-- the words that begin with `-`, with what they are
+abbrev pub word_table : List (List ℕ × Word)
+word_table =
+    (codes "-h", word.Help) ∷ (codes "--help", word.Help) ∷ (codes "-V", word.Version)
+    ∷ (codes "--version", word.Version) ∷ (codes "--hex", word.Hex) ∷ (codes "--summary", word.Summary)
+    ∷ (codes "--reassemble", word.Reassemble)
+    ∷ (codes "--count", word.Option Count) ∷ (codes "--only", word.Option Only)
+    ∷ (codes "--timeout", word.Option Timeout) ∷ (codes "--limit", word.Option Limit)
+    ∷ (codes "-", word.StandardInput) ∷ []
+
+-- what a word is that is no option's value, by such a table
+abbrev pub word_in : List (List ℕ × Word) → List ℕ → Word
+word_in [] text = if is_dashed text then word.Unknown else word.File
+word_in (row ∷ rows) text = if bytes_eq text row.0 then row.1 else word_in rows text
+
+abbrev pub word_named : List ℕ → Word
+word_named text = word_in word_table text
+
+-- the number that a word says, of so many bits
+abbrev pub number_in : ℕ → List ℕ → Option ℕ
+number_in bits word =
+    let digits = without_leading_plus word in
+    if nat_lt 0 (length digits) && list_all (λ digit. nat_lt (digit_value digit) 10) digits
+    && nat_lt (digits_value 10 digits) (2 ^ bits)
+    then Some (digits_value 10 digits)
+    else None
+
+-- the kind of packets of this name
+abbrev pub kind_named : List ℕ → Option Kind
+kind_named name =
+    find (λ kind. bytes_eq name (kind_name kind)) (kind.Udp ∷ kind.Tcp ∷ kind.Icmp ∷ kind.Arp ∷ kind.Refused ∷ [])
+
+-- what a word says of an option
+abbrev pub value_in : Awaited → List ℕ → Option Item
+value_in Count word = option_map count (number_in 64 word)
+value_in Only word = option_map only (kind_named word)
+value_in Timeout word = option_map timeout (number_in 32 word)
+value_in Limit word = option_map limit (number_in 16 word)
+
+-- how far the words are read
+pub record State : Type 0 where
+  pub settings : Settings
+  pub named : Bool
+  pub awaited : Option Awaited
+
+abbrev pub first_state : State
+first_state = record { settings = default_settings; named = false; awaited = None }
+
+abbrev pub reading_state : Reading → State
+reading_state reading = record {
+  settings = record {
+    view = reading.view;
+    path = option_map (λ name. name.now) reading.path;
+    summary = reading.summary;
+  };
+  named = reading.is_named;
+  awaited = reading.awaited;
+}
+
+-- what a word comes to: more words are read, or this is the answer
+pub data Step : Type 0 where
+  more : State → Step
+  done : Result Asked Fault → Step
+
+-- behind an item
+abbrev pub behind : State → Item → Step
+behind state item =
+    more (record { settings = with_item state.settings item; named = state.named; awaited = None })
+
+-- behind a word that says what is read
+abbrev pub named_by : State → List ℕ → Item → Step
+named_by state text item =
+    if state.named
+    then done (Err (second_file text))
+    else more (record { settings = with_item state.settings item; named = true; awaited = None })
+
+-- behind a word that is no value
+abbrev pub behind_word : State → List ℕ → Word → Step
+behind_word state text word.Help = done (Ok help)
+behind_word state text word.Version = done (Ok version)
+behind_word state text word.Hex = behind state hex
+behind_word state text word.Summary = behind state summary
+behind_word state text word.Reassemble = behind state reassemble
+behind_word state text (word.Option option) = more (record state { awaited = Some option })
+behind_word state text word.StandardInput = named_by state text standard_input
+behind_word state text word.File = named_by state text (file text)
+behind_word state text word.Unknown = done (Err (unknown_option text))
+
+-- behind the value of an option
+abbrev pub behind_value : State → Awaited → List ℕ → Option Item → Step
+behind_value state option text (Some item) = behind state item
+behind_value state option text None = done (Err (bad_value option text))
+
+-- what a word comes to
+abbrev pub step_from : State → List ℕ → Option Awaited → Step
+step_from state text (Some option) = behind_value state option text (value_in option text)
+step_from state text None = behind_word state text (word_named text)
+
+abbrev pub step : State → List ℕ → Step
+step state text = step_from state text state.awaited
+
+-- the answer where no word follows
+abbrev pub finished_from : State → Option Awaited → Result Asked Fault
+finished_from state (Some option) = Err (no_value (option_word option))
+finished_from state None = Ok (dump state.settings)
+
+abbrev pub finished : State → Result Asked Fault
+finished state = finished_from state state.awaited
+
+-- a step gives this, and leaves this state
+abbrev pub StepGives : Step → State → Result (Option Request) UsageError → Type 0
+StepGives step state (Ok None) = step ≡ more state
+StepGives step state (Ok (Some request)) = step ≡ done (Ok (asked_of request))
+StepGives step state (Err error) = step ≡ done (Err (fault_of error))
