@@ -1,22 +1,33 @@
 -- Where in a frame the bytes are that C is told of.
-use Rattle.std.proofs.Common.{◌≡◌, ℕ, ◌+◌, ◌-◌, ◌<◌, ◌≤◌, ◌^◌, List, [], ◌∷◌, ◌++◌, length, take, drop, refl, sym, ap, subst, ◌∙◌, arith, append_assoc, length-append}
+use Rattle.std.proofs.Common.{◌≡◌, ℕ, ◌+◌, ◌-◌, ◌≤◌, List, [], ◌∷◌, ◌++◌, length, take, drop, Option, refl, sym, ap, subst, ◌∙◌, arith, append_assoc, length-append}
 use Rattle.std.proofs.Math.Seq.{drop-append_seam, take-append_seam}
-use Rattle.ep_base.specs.Layer.{slices}
-use Rattle.ep_link.specs.LinkExtensions.{LinkExtension, EncodesTag}
-use Rattle.ep_transport.specs.TransportParts.{EncodesTransport}
-use Rattle.ep_packet.specs.declared.entry.Entry.{Entry}
-use Rattle.ep_packet.specs.Frame.{IsFrame}
-use Rattle.ep_packet.specs.FrameBytes.{AreInOrder, EncodesLink, EncodesNet, EncodesTags, last_payload}
-use Rattle.ep_packet.specs.Layers.{Layers}
-use Rattle.ep_packet.proofs.FrameBytesLemmas.{frame_in_order}
-use Rattle.ep_packet.proofs.LayerLawLemmas.{layer_laws}
+use Rattle.etherparse.specs.Layer.{Reading, slices}
+use Rattle.etherparse.specs.LinkExtensions.{LinkExtension, EncodesTag}
+use Rattle.etherparse.specs.LinkSlices.{LinkLayer}
+use Rattle.etherparse.specs.TransportParts.{TransportLayer, EncodesTransport}
+use Rattle.etherparse.specs.Types.Entry.{Entry}
+use Rattle.etherparse.specs.Frame.{IsFrame, IsFrameIn}
+use Rattle.etherparse.specs.FrameBytes.{AreInOrder, EncodesLink, EncodesNet, EncodesTags, last_payload}
+use Rattle.etherparse.specs.Layers.{Layers, NetLayer}
 use Rattle.etherparse_c.specs.declared.packet.Packet.{Packet}
-use Rattle.etherparse_c.specs.Description.{description, link_len, net_len, net_offset, payload_offset, tag_len, transport_len, transport_offset}
+use Rattle.etherparse_c.specs.Description.{description, link_len, net_len, net_offset, payload_offset, tag_len, tags_len, transport_len, transport_offset}
 use Rattle.etherparse_c.specs.Places.{AreTagsAt, Describes, bytes_at}
-use Rattle.ep_packet.proofs.OffsetLemmas.{link_encoded, net_encoded, tag_encoded, tags_encoded, transport_encoded}
+
+-- what the laws of frames say: the bytes are in order, and those that encode a header are as many as it says
+pub record FrameLaws : Type 0 where
+  pub order : (reading : Reading) (entry : Entry) (bytes : List ℕ) (layers : Layers)
+      → IsFrameIn reading entry bytes layers → AreInOrder bytes layers
+  pub link : (layer : Option LinkLayer) (bytes : List ℕ) → EncodesLink layer bytes → length bytes ≡ link_len layer
+  pub tag : (extension : LinkExtension) (bytes : List ℕ) → EncodesTag extension bytes
+      → length bytes ≡ tag_len extension
+  pub tags : (extensions : List LinkExtension) (bytes : List ℕ) → EncodesTags extensions bytes
+      → length bytes ≡ tags_len extensions
+  pub net : (layer : Option NetLayer) (bytes : List ℕ) → EncodesNet layer bytes → length bytes ≡ net_len layer
+  pub transport : (layer : Option TransportLayer) (bytes : List ℕ) → EncodesTransport layer bytes
+      → length bytes ≡ transport_len layer
 
 -- bytes behind so many others
-pub bytes_behind : (bytes front part behind : List ℕ) (offset len : ℕ) → bytes ≡ front ++ (part ++ behind)
+bytes_behind : (bytes front part behind : List ℕ) (offset len : ℕ) → bytes ≡ front ++ (part ++ behind)
     → length front ≡ offset → length part ≡ len → bytes_at bytes offset len ≡ part
 bytes_behind bytes front part behind offset len same front_len part_len =
     let cut : (offset + len) - offset ≡ length part = omega (arith, part_len) in
@@ -27,17 +38,17 @@ bytes_behind bytes front part behind offset len same front_len part_len =
     ∙ take-append_seam part behind
 
 -- tags that stand one after the other behind other bytes
-tags_behind : (bytes front tags behind : List ℕ) (offset : ℕ) (extensions : List LinkExtension)
+tags_behind : FrameLaws → (bytes front tags behind : List ℕ) (offset : ℕ) (extensions : List LinkExtension)
     → bytes ≡ front ++ (tags ++ behind) → length front ≡ offset → EncodesTags extensions tags
     → AreTagsAt bytes offset extensions
-tags_behind bytes front tags behind offset [] same front_len encodes = tt
-tags_behind bytes front tags behind offset (extension ∷ others) same front_len (tag, rest, first, more, parts) =
+tags_behind laws bytes front tags behind offset [] same front_len encodes = tt
+tags_behind laws bytes front tags behind offset (extension ∷ others) same front_len (tag, rest, first, more, parts) =
     let here : bytes ≡ front ++ (tag ++ (rest ++ behind)) =
     same ∙ ap (λ (x : List ℕ). front ++ (x ++ behind)) parts ∙ ap (λ (x : List ℕ). front ++ x) (append_assoc tag rest behind) in
-    let len = tag_encoded extension tag first in (
+    let len = laws.tag extension tag first in (
       subst (EncodesTag extension)
           (sym (bytes_behind bytes front tag (rest ++ behind) offset (tag_len extension) here front_len len)) first,
-      tags_behind bytes (front ++ tag) rest behind (offset + tag_len extension) others
+      tags_behind laws bytes (front ++ tag) rest behind (offset + tag_len extension) others
           (here ∙ sym (append_assoc front tag (rest ++ behind)))
           (length-append front tag ∙ omega (arith, front_len, len)) more,
     )
@@ -49,12 +60,12 @@ record Lens (bytes : List ℕ) (layers : Layers) (order : AreInOrder bytes layer
   net : length ((order.link ++ order.tags) ++ order.net) ≡ transport_offset layers
   transport : length (((order.link ++ order.tags) ++ order.net) ++ order.transport) ≡ payload_offset layers
 
-lens : (bytes : List ℕ) (layers : Layers) (order : AreInOrder bytes layers) → Lens bytes layers order
-lens bytes layers order =
-    let link = link_encoded layers.link order.link order.link_header in
-    let tags = tags_encoded layers.link_exts order.tags order.tag_headers in
-    let net = net_encoded layers.net order.net order.net_header in
-    let transport = transport_encoded layers.transport order.transport order.transport_header in
+lens : FrameLaws → (bytes : List ℕ) (layers : Layers) (order : AreInOrder bytes layers) → Lens bytes layers order
+lens laws bytes layers order =
+    let link = laws.link layers.link order.link order.link_header in
+    let tags = laws.tags layers.link_exts order.tags order.tag_headers in
+    let net = laws.net layers.net order.net order.net_header in
+    let transport = laws.transport layers.transport order.transport order.transport_header in
     let two = length-append order.link order.tags in
     let three = length-append (order.link ++ order.tags) order.net in
     let four = length-append ((order.link ++ order.tags) ++ order.net) order.transport in
@@ -84,21 +95,24 @@ grouped bytes layers order =
     }
 
 -- the payload of a frame's last layer ends within the frame
-pub within : (bytes : List ℕ) (layers : Layers) → AreInOrder bytes layers
+pub within : FrameLaws → (entry : Entry) (bytes : List ℕ) (layers : Layers) → IsFrame entry bytes layers
     → payload_offset layers + length (last_payload layers) ≤ length bytes
-within bytes layers order = omega (
-  arith,
-  ap length (grouped bytes layers order).payload,
-  (lens bytes layers order).transport,
-  length-append (((order.link ++ order.tags) ++ order.net) ++ order.transport) (last_payload layers ++ order.left),
-  length-append (last_payload layers) order.left,
-)
+within laws entry bytes layers frame =
+    let order = laws.order slices entry bytes layers frame in
+    omega (
+      arith,
+      ap length (grouped bytes layers order).payload,
+      (lens laws bytes layers order).transport,
+      length-append (((order.link ++ order.tags) ++ order.net) ++ order.transport) (last_payload layers ++ order.left),
+      length-append (last_payload layers) order.left,
+    )
 
 -- what is said of a frame is where its layers are
-pub describes : (entry : Entry) (bytes : List ℕ) (layers : Layers) → IsFrame entry bytes layers
-    → AreInOrder bytes layers → Describes entry bytes layers (description layers)
-describes entry bytes layers frame order =
-    let len = lens bytes layers order in
+describes : FrameLaws → (entry : Entry) (bytes : List ℕ) (layers : Layers) → IsFrame entry bytes layers
+    → Describes entry bytes layers (description layers)
+describes laws entry bytes layers frame =
+    let order = laws.order slices entry bytes layers frame in
+    let len = lens laws bytes layers order in
     let group = grouped bytes layers order in
     record {
       frame = frame;
@@ -106,16 +120,16 @@ describes entry bytes layers frame order =
       link = subst (EncodesLink layers.link)
           (sym (bytes_behind bytes [] order.link _ 0 (link_len layers.link) order.parts refl len.link))
           order.link_header;
-      tags = tags_behind bytes order.link order.tags _ (link_len layers.link) layers.link_exts order.parts len.link
+      tags = tags_behind laws bytes order.link order.tags _ (link_len layers.link) layers.link_exts order.parts len.link
           order.tag_headers;
       net = subst (EncodesNet layers.net)
           (sym (bytes_behind bytes (order.link ++ order.tags) order.net _ (net_offset layers) (net_len layers.net)
-          group.net len.tags (net_encoded layers.net order.net order.net_header)))
+          group.net len.tags (laws.net layers.net order.net order.net_header)))
           order.net_header;
       transport = subst (EncodesTransport layers.transport)
           (sym (bytes_behind bytes ((order.link ++ order.tags) ++ order.net) order.transport _
           (transport_offset layers) (transport_len layers.transport) group.transport len.net
-          (transport_encoded layers.transport order.transport order.transport_header)))
+          (laws.transport layers.transport order.transport order.transport_header)))
           order.transport_header;
       payload = sym (bytes_behind bytes (((order.link ++ order.tags) ++ order.net) ++ order.transport)
           (last_payload layers) _ (payload_offset layers) (length (last_payload layers)) group.payload len.transport
@@ -123,14 +137,7 @@ describes entry bytes layers frame order =
     }
 
 -- the same of any packet that says it
-pub frame_describes : (entry : Entry) (bytes : List ℕ) (layers : Layers) (packet : Packet)
+pub places : FrameLaws → (entry : Entry) (bytes : List ℕ) (layers : Layers) (packet : Packet)
     → IsFrame entry bytes layers → packet ≡ description layers → Describes entry bytes layers packet
-frame_describes entry bytes layers packet frame same =
-    subst (Describes entry bytes layers) (sym same)
-    (describes entry bytes layers frame (frame_in_order layer_laws slices entry bytes layers frame))
-
--- no offset in a frame is too great for its type
-pub offsets_fit : (entry : Entry) (bytes : List ℕ) (layers : Layers) → IsFrame entry bytes layers
-    → length bytes < 2 ^ 64 → payload_offset layers < 2 ^ 64
-offsets_fit entry bytes layers frame fits =
-    omega (arith, within bytes layers (frame_in_order layer_laws slices entry bytes layers frame), fits)
+places laws entry bytes layers packet frame same =
+    subst (Describes entry bytes layers) (sym same) (describes laws entry bytes layers frame)

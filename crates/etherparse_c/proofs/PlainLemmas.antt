@@ -1,35 +1,34 @@
 -- That plain frames are frames, and what is said of them.
-use Rattle.std.proofs.Common.{◌≡◌, ℕ, ◌+◌, ◌*◌, ◌-◌, ◌≤◌, false, List, [], ◌∷◌, length, take, drop, Option, Some, None, refl, sym, ap, subst, ◌∙◌, ◌⊎◌, inl, inr, arith}
+use Rattle.std.proofs.Common.{◌≡◌, ℕ, ◌+◌, ◌*◌, ◌-◌, ◌≤◌, false, List, [], ◌∷◌, ◌++◌, length, take, drop, Option, Some, None, refl, sym, ap, subst, ◌∙◌, ◌⊎◌, inl, inr, arith}
 use Rattle.std.specs.Prelude.{suc}
-use Rattle.std.proofs.lemmas.List.{length-append, length-take, length-drop}
-use Rattle.ep_base.specs.Bytes.{bit}
-use Rattle.ep_base.specs.IpNumbers.{authentication_number, tcp_number, udp_number}
-use Rattle.ep_base.specs.IpPayload.{IpPayload}
-use Rattle.ep_base.specs.Layer.{cut_by, slices}
-use Rattle.ep_base.specs.Tables.{parts_of}
-use Rattle.ep_base.specs.declared.ether_type.EtherType.{EtherType}
-use Rattle.ep_base.specs.declared.len_source.LenSource.{LenSource}
-use Rattle.ep_base.specs.declared.len_source.LenSource.TheVariants as source
-use Rattle.ep_ext.specs.Chains.{ipv4 as ipv4_chain, ipv6 as ipv6_chain, demand_of, ends}
-use Rattle.ep_ip.specs.declared.ipv4_header.Ipv4Header.{Ipv4Header}
-use Rattle.ep_ip.specs.declared.ipv6_header.Ipv6Header.{Ipv6Header}
-use Rattle.ep_ip.specs.Ipv4.{IsIpv4Header, IsIpv4Packet, ipv4_header_len, is_ipv4_fragment}
-use Rattle.ep_ip.specs.Ipv6.{IsIpv6Packet, ipv6_payload_source}
-use Rattle.ep_ip.specs.IpPackets.{IpPacket, IsIpv4, IsIpv6, ipv4_part, ipv6_part}
-use Rattle.ep_ip.proofs.CutLemmas.{cut_parts}
-use Rattle.ep_link.specs.declared.link.ethernet2_slice.Ethernet2Slice.{Ethernet2Slice}
-use Rattle.ep_link.specs.declared.link_ext.single_vlan_slice.SingleVlanSlice.{SingleVlanSlice}
-use Rattle.ep_link.specs.Ethernet2.{IsEthernet2}
-use Rattle.ep_link.specs.Ethernet2Slices.{ethernet2_slice_header, ethernet2_slice_parts, ethernet2_slice_payload}
-use Rattle.ep_link.specs.LinkExtensions.{LinkExtension, vlan, BeginsLinkExtension, IsVlanType}
-use Rattle.ep_link.specs.LinkSlices.{LinkLayer, ethernet2}
-use Rattle.ep_link.specs.Vlan.{IsVlan}
-use Rattle.ep_link.specs.VlanSlices.{vlan_slice_header, vlan_slice_parts, vlan_slice_payload}
-use Rattle.ep_packet.specs.declared.entry.Entry.TheVariants.{Ethernet as ethernet_entry}
-use Rattle.ep_packet.specs.Frame.{NetKind, any_ip, only_ipv4, only_ipv6, net_kind, most_link_exts, IsFrame, IsInside, IsNetPart, IsTransportBehind, IsTransportIn}
-use Rattle.ep_packet.specs.Layers.{Layers, NetLayer, ipv4, ipv6, net_payload}
-use Rattle.ep_packet.specs.Payloads.{extensions_len_source}
-use Rattle.ep_transport.specs.TransportParts.{TransportLayer}
+use Rattle.std.proofs.lemmas.List.{append_assoc, drop_at, drop-drop, take-append-drop, length-append, length-take, length-drop}
+use Rattle.etherparse.specs.Bytes.{bit}
+use Rattle.etherparse.specs.IpNumbers.{authentication_number, tcp_number, udp_number}
+use Rattle.etherparse.specs.IpPayload.{IpPayload}
+use Rattle.etherparse.specs.Layer.{cut_by, slices}
+use Rattle.etherparse.specs.Tables.{parts_of}
+use Rattle.etherparse.specs.Types.EtherType.{EtherType}
+use Rattle.etherparse.specs.Types.LenSource.{LenSource}
+use Rattle.etherparse.specs.Types.LenSource.TheVariants as source
+use Rattle.etherparse.specs.Chains.{ipv4 as ipv4_chain, ipv6 as ipv6_chain, demand_of, ends}
+use Rattle.etherparse.specs.Types.Ipv4Header.{Ipv4Header}
+use Rattle.etherparse.specs.Types.Ipv6Header.{Ipv6Header}
+use Rattle.etherparse.specs.Ipv4.{IsIpv4Header, IsIpv4Packet, ipv4_header_len, is_ipv4_fragment}
+use Rattle.etherparse.specs.Ipv6.{IsIpv6Packet, ipv6_payload_source}
+use Rattle.etherparse.specs.IpPackets.{IpPacket, IsIpv4, IsIpv6, ipv4_part, ipv6_part}
+use Rattle.etherparse.specs.Types.Ethernet2Slice.{Ethernet2Slice}
+use Rattle.etherparse.specs.Types.SingleVlanSlice.{SingleVlanSlice}
+use Rattle.etherparse.specs.Ethernet2.{IsEthernet2}
+use Rattle.etherparse.specs.Ethernet2Slices.{ethernet2_slice_header, ethernet2_slice_parts, ethernet2_slice_payload}
+use Rattle.etherparse.specs.LinkExtensions.{LinkExtension, vlan, BeginsLinkExtension, IsVlanType}
+use Rattle.etherparse.specs.LinkSlices.{LinkLayer, ethernet2}
+use Rattle.etherparse.specs.Vlan.{IsVlan}
+use Rattle.etherparse.specs.VlanSlices.{vlan_slice_header, vlan_slice_parts, vlan_slice_payload}
+use Rattle.etherparse.specs.Types.Entry.TheVariants.{Ethernet as ethernet_entry}
+use Rattle.etherparse.specs.Frame.{NetKind, any_ip, only_ipv4, only_ipv6, net_kind, most_link_exts, IsFrame, IsInside, IsNetPart, IsTransportBehind, IsTransportIn}
+use Rattle.etherparse.specs.Layers.{Layers, NetLayer, ipv4, ipv6, net_payload}
+use Rattle.etherparse.specs.Payloads.{extensions_len_source}
+use Rattle.etherparse.specs.TransportParts.{TransportLayer}
 use Rattle.etherparse_c.specs.declared.packet.Packet.{Packet}
 use Rattle.etherparse_c.specs.declared.plain.PlainIp.{PlainIp}
 use Rattle.etherparse_c.specs.declared.vlans.Behind.{Behind}
@@ -96,6 +95,18 @@ ipv6_chain_ends : (number : ℕ) → (number ≡ udp_number) ⊎ (number ≡ tcp
 ipv6_chain_ends number (inl is) = ap (λ (n : ℕ). demand_of ipv6_chain slices [] n) is
 ipv6_chain_ends number (inr is) = ap (λ (n : ℕ). demand_of ipv6_chain slices [] n) is
 
+-- bytes of which n are a header, and t the header and its payload
+cut_bytes : (bytes header rest : List ℕ) (n t : ℕ) → bytes ≡ header ++ rest → length header ≡ n → n ≤ t
+    → bytes ≡ (header ++ take (t - n) (drop n bytes)) ++ drop t bytes
+cut_bytes bytes header rest n t parts len enough =
+    let payload = take (t - n) (drop n bytes) in
+    let left : drop t bytes ≡ drop (t - n) (drop n bytes) =
+    ap (λ (k : ℕ). drop k bytes) (omega arith) ∙ sym (drop-drop (t - n) n bytes) in
+    let behind : payload ++ drop t bytes ≡ rest =
+    ap (λ (s : List ℕ). payload ++ s) left ∙ take-append-drop (t - n) (drop n bytes)
+    ∙ ap (λ (s : List ℕ). drop n s) parts ∙ drop_at header rest n len in
+    parts ∙ ap (λ (s : List ℕ). header ++ s) (sym behind) ∙ sym (append_assoc header payload (drop t bytes))
+
 -- bytes that a header begins, and that its total length cuts, are a packet
 pub cut_packet : (bytes rest : List ℕ) (header : Ipv4Header) (n t : ℕ) → IsIpv4Header bytes (header, rest)
     → n ≡ ipv4_header_len header → n + length rest ≡ length bytes → t ≡ header.total_len → n ≤ t → t ≤ length bytes
@@ -106,7 +117,7 @@ cut_packet bytes rest header n t is of_header len same enough most =
     record {
       encoded = is.encoded;
       encodes = is.encodes;
-      parts = cut_parts bytes is.encoded rest n t is.parts there enough;
+      parts = cut_bytes bytes is.encoded rest n t is.parts (sym there) enough;
       cut = omega (arith, same, there, enough, most, length-take (t - n) (drop n bytes), length-drop n bytes);
     }
 

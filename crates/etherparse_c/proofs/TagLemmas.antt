@@ -1,7 +1,7 @@
 -- The tags of at most three link extensions.
 use Rattle.std.proofs.Common.{◌≡◌, ℕ, ◌+◌, ◌≤◌, List, [], ◌∷◌, length, map, refl, sym, ap, ◌∙◌, arith}
-use Rattle.ep_link.specs.declared.link_ext.link_ext_slice.LinkExtSlice.{LinkExtSlice}
-use Rattle.ep_link.specs.LinkExtensions.{link_extension_of}
+use Rattle.etherparse.specs.Types.LinkExtSlice.{LinkExtSlice}
+use Rattle.etherparse.specs.LinkExtensions.{link_extension_of}
 use Rattle.etherparse_c.specs.declared.packet.LinkExt.{LinkExt}
 use Rattle.etherparse_c.specs.Description.{no_tag, tag_len, tag_part, tag_slots, tags_len}
 

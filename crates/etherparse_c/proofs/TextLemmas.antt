@@ -1,18 +1,18 @@
 -- The texts of refusals.
 use Rattle.std.proofs.Common.{◌≡◌, Some, refl}
-use Rattle.ep_base.specs.declared.err.ip.HeaderError.TheVariants as ip_error
-use Rattle.ep_base.specs.declared.err.ip_auth.HeaderError.TheVariants as auth_error
-use Rattle.ep_base.specs.declared.err.ipv4.HeaderError.TheVariants as ipv4_error
-use Rattle.ep_base.specs.declared.err.ipv6.HeaderError.TheVariants as ipv6_error
-use Rattle.ep_base.specs.declared.err.ipv6_exts.HeaderError.TheVariants as exts_error
-use Rattle.ep_base.specs.declared.err.layer.Layer.{Layer}
-use Rattle.ep_base.specs.declared.err.layer.Layer.TheVariants as layer
-use Rattle.ep_base.specs.declared.err.linux_sll.HeaderError.TheVariants as linux_sll_error
-use Rattle.ep_base.specs.declared.err.macsec.HeaderError.TheVariants as macsec_error
-use Rattle.ep_base.specs.declared.err.tcp.HeaderError.TheVariants as tcp_error
-use Rattle.ep_base.specs.declared.len_source.LenSource.{LenSource}
-use Rattle.ep_base.specs.declared.len_source.LenSource.TheVariants as source
-use Rattle.ep_packet.specs.declared.err.slice_error.SliceError.TheVariants.{Len, LinuxSll, Macsec, Ip, Ipv4, Ipv6, Ipv4Exts, Ipv6Exts, Tcp}
+use Rattle.etherparse.specs.Types.IpHeaderError.TheVariants as ip_error
+use Rattle.etherparse.specs.Types.IpAuthHeaderError.TheVariants as auth_error
+use Rattle.etherparse.specs.Types.Ipv4HeaderError.TheVariants as ipv4_error
+use Rattle.etherparse.specs.Types.Ipv6HeaderError.TheVariants as ipv6_error
+use Rattle.etherparse.specs.Types.Ipv6ExtsHeaderError.TheVariants as exts_error
+use Rattle.etherparse.specs.Types.Layer.{Layer}
+use Rattle.etherparse.specs.Types.Layer.TheVariants as layer
+use Rattle.etherparse.specs.Types.LinuxSllHeaderError.TheVariants as linux_sll_error
+use Rattle.etherparse.specs.Types.MacsecHeaderError.TheVariants as macsec_error
+use Rattle.etherparse.specs.Types.TcpHeaderError.TheVariants as tcp_error
+use Rattle.etherparse.specs.Types.LenSource.{LenSource}
+use Rattle.etherparse.specs.Types.LenSource.TheVariants as source
+use Rattle.etherparse.specs.Types.SliceError.TheVariants.{Len, LinuxSll, Macsec, Ip, Ipv4, Ipv6, Ipv4Exts, Ipv6Exts, Tcp}
 use Rattle.etherparse_c.specs.Description.{source_number}
 use Rattle.etherparse_c.specs.RefusalNumbers.{layer_number, refusal_part}
 use Rattle.etherparse_c.specs.RefusalTexts.{AreTextsOfRefusals, layer_told, len_text_told, source_told}

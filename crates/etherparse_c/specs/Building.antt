@@ -1,19 +1,19 @@
 -- What the calls that build a frame answer.
 use Rattle.std.specs.Prelude.{◌≡◌, ◌==◌, ◌<◌, ◌≤◌, not, Bool, if◌then◌else◌, ℕ, List, ◌++◌, length, drop, bit_and, ◌⊎◌, Option, Some, None}
-use Rattle.ep_build.specs.BuiltFrames.{Held, built_frame, held_transport}
-use Rattle.ep_build.specs.BuildErrors.{IsBuildable, RefusesBuild}
-use Rattle.ep_build.specs.Steps.{ipv4_headers_between, ipv6_headers_between, no_type}
-use Rattle.ep_build.specs.declared.link_part.LinkPart.{LinkPart}
-use Rattle.ep_build.specs.declared.link_part.LinkPart.TheVariants as link
-use Rattle.ep_build.specs.declared.err.build_write_error.BuildWriteError.{BuildWriteError}
-use Rattle.ep_packet.specs.declared.ip_headers.IpHeaders.{IpHeaders}
-use Rattle.ep_transport.specs.Tcp.{default_tcp_header}
-use Rattle.ep_transport.specs.declared.transport_header.TransportHeader.{TransportHeader}
-use Rattle.ep_transport.specs.declared.transport_header.TransportHeader.TheVariants as transport
-use Rattle.ep_transport.specs.declared.icmpv4_type.Icmpv4Type.{Icmpv4Type}
-use Rattle.ep_transport.specs.declared.icmpv4_type.Icmpv4Type.TheVariants as v4
-use Rattle.ep_transport.specs.declared.icmpv6_type.Icmpv6Type.{Icmpv6Type}
-use Rattle.ep_transport.specs.declared.icmpv6_type.Icmpv6Type.TheVariants as v6
+use Rattle.etherparse.specs.BuiltFrames.{Held, built_frame, held_transport}
+use Rattle.etherparse.specs.BuildErrors.{IsBuildable, RefusesBuild}
+use Rattle.etherparse.specs.Steps.{ipv4_headers_between, ipv6_headers_between, no_type}
+use Rattle.etherparse.specs.Types.LinkPart.{LinkPart}
+use Rattle.etherparse.specs.Types.LinkPart.TheVariants as link
+use Rattle.etherparse.specs.Types.BuildWriteError.{BuildWriteError}
+use Rattle.etherparse.specs.Types.IpHeaders.{IpHeaders}
+use Rattle.etherparse.specs.Tcp.{default_tcp_header}
+use Rattle.etherparse.specs.Types.TransportHeader.{TransportHeader}
+use Rattle.etherparse.specs.Types.TransportHeader.TheVariants as transport
+use Rattle.etherparse.specs.Types.Icmpv4Type.{Icmpv4Type}
+use Rattle.etherparse.specs.Types.Icmpv4Type.TheVariants as v4
+use Rattle.etherparse.specs.Types.Icmpv6Type.{Icmpv6Type}
+use Rattle.etherparse.specs.Types.Icmpv6Type.TheVariants as v6
 use Rattle.etherparse_c.specs.declared.route.Route.{Route}
 use Rattle.etherparse_c.specs.declared.route.TcpFields.{TcpFields}
 

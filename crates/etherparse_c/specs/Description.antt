@@ -1,24 +1,24 @@
 -- What C is told of the layers of a frame: what each is, where it begins and how long it is. Each begins where the one
 -- before it ends.
 use Rattle.std.specs.Prelude.{ℕ, ◌+◌, ◌-◌, ◌*◌, ◌==◌, if◌then◌else◌, List, [], ◌∷◌, ◌++◌, length, replicate, Option, Some, None}
-use Rattle.ep_base.specs.Bytes.{bit}
-use Rattle.ep_base.specs.IpPayload.{IpPayload}
-use Rattle.ep_base.specs.Layer.{cut_by}
-use Rattle.ep_base.specs.declared.len_source.LenSource.{LenSource}
-use Rattle.ep_base.specs.declared.len_source.LenSource.TheVariants as source
-use Rattle.ep_ext.specs.declared.ipv6_fragment_header.Ipv6FragmentHeader.{Ipv6FragmentHeader}
-use Rattle.ep_ip.specs.Ipv4.{ipv4_header_len}
-use Rattle.ep_ip.specs.declared.ipv4_header.Ipv4Header.{Ipv4Header}
-use Rattle.ep_link.specs.LinkExtensions.{LinkExtension, vlan, macsec}
-use Rattle.ep_link.specs.LinkSlices.{LinkLayer, ethernet2, linux_sll, ether_payload, linux_sll_payload}
-use Rattle.ep_transport.specs.TransportParts.{TransportLayer}
-use Rattle.ep_transport.specs.declared.transport_header.TransportHeader.{TransportHeader}
-use Rattle.ep_transport.specs.declared.transport_header.TransportHeader.TheVariants as transport
-use Rattle.ep_packet.specs.FrameFragments.{first_fragment}
-use Rattle.ep_packet.specs.FrameBytes.{last_payload}
-use Rattle.ep_packet.specs.Layers.{Layers, NetLayer, ipv4, ipv6, arp}
-pub use Rattle.ep_packet.specs.Offsets.{link_len, tag_len, tags_len, parts_len, net_len, transport_len, payload_offset}
-use Rattle.ep_packet.specs.Payloads.{extensions_len_source}
+use Rattle.etherparse.specs.Bytes.{bit}
+use Rattle.etherparse.specs.IpPayload.{IpPayload}
+use Rattle.etherparse.specs.Layer.{cut_by}
+use Rattle.etherparse.specs.Types.LenSource.{LenSource}
+use Rattle.etherparse.specs.Types.LenSource.TheVariants as source
+use Rattle.etherparse.specs.Types.Ipv6FragmentHeader.{Ipv6FragmentHeader}
+use Rattle.etherparse.specs.Ipv4.{ipv4_header_len}
+use Rattle.etherparse.specs.Types.Ipv4Header.{Ipv4Header}
+use Rattle.etherparse.specs.LinkExtensions.{LinkExtension, vlan, macsec}
+use Rattle.etherparse.specs.LinkSlices.{LinkLayer, ethernet2, linux_sll, ether_payload, linux_sll_payload}
+use Rattle.etherparse.specs.TransportParts.{TransportLayer}
+use Rattle.etherparse.specs.Types.TransportHeader.{TransportHeader}
+use Rattle.etherparse.specs.Types.TransportHeader.TheVariants as transport
+use Rattle.etherparse.specs.FrameFragments.{first_fragment}
+use Rattle.etherparse.specs.FrameBytes.{last_payload}
+use Rattle.etherparse.specs.Layers.{Layers, NetLayer, ipv4, ipv6, arp}
+pub use Rattle.etherparse.specs.Offsets.{link_len, tag_len, tags_len, parts_len, net_len, transport_len, payload_offset}
+use Rattle.etherparse.specs.Payloads.{extensions_len_source}
 use Rattle.etherparse_c.specs.declared.packet.Part.{Part}
 use Rattle.etherparse_c.specs.declared.packet.LinkExt.{LinkExt}
 use Rattle.etherparse_c.specs.declared.packet.Ip.{Ip}

@@ -1,12 +1,12 @@
 -- Where in a frame the bytes are that C is told of.
 use Rattle.std.specs.Prelude.{◌≡◌, ℕ, ◌+◌, List, [], ◌∷◌}
 use Rattle.std.specs.List.{slice_range}
-use Rattle.ep_link.specs.LinkExtensions.{LinkExtension, EncodesTag}
-use Rattle.ep_transport.specs.TransportParts.{EncodesTransport}
-use Rattle.ep_packet.specs.declared.entry.Entry.{Entry}
-use Rattle.ep_packet.specs.Frame.{IsFrame}
-use Rattle.ep_packet.specs.FrameBytes.{EncodesLink, EncodesNet, last_payload}
-use Rattle.ep_packet.specs.Layers.{Layers}
+use Rattle.etherparse.specs.LinkExtensions.{LinkExtension, EncodesTag}
+use Rattle.etherparse.specs.TransportParts.{EncodesTransport}
+use Rattle.etherparse.specs.Types.Entry.{Entry}
+use Rattle.etherparse.specs.Frame.{IsFrame}
+use Rattle.etherparse.specs.FrameBytes.{EncodesLink, EncodesNet, last_payload}
+use Rattle.etherparse.specs.Layers.{Layers}
 use Rattle.etherparse_c.specs.declared.packet.Packet.{Packet}
 use Rattle.etherparse_c.specs.Description.{description, tag_len}
 

@@ -1,15 +1,15 @@
 -- Plain frames, as the private calls on them say.
 use Rattle.std.specs.Prelude.{◌≡◌, ◌≤◌, ℕ, ◌+◌, false, List, length, Option, Some, None}
-use Rattle.ep_base.specs.IpPayload.{IpPayload}
-use Rattle.ep_base.specs.Layer.{cut_by, slices}
-use Rattle.ep_base.specs.declared.ether_type.EtherType.{EtherType}
-use Rattle.ep_base.specs.declared.len_source.LenSource.TheVariants as source
-use Rattle.ep_link.specs.LinkExtensions.{LinkExtension, BeginsLinkExtension}
-use Rattle.ep_packet.specs.Frame.{NetKind, IsInside, IsNetLayer, IsNetPart, most_link_exts, net_kind}
-use Rattle.ep_packet.specs.Layers.{NetLayer, net_payload}
-use Rattle.ep_packet.specs.Payloads.{extensions_len_source}
-use Rattle.ep_transport.specs.TransportHeaders.{transport_header_len}
-use Rattle.ep_transport.specs.TransportParts.{TransportLayer}
+use Rattle.etherparse.specs.IpPayload.{IpPayload}
+use Rattle.etherparse.specs.Layer.{cut_by, slices}
+use Rattle.etherparse.specs.Types.EtherType.{EtherType}
+use Rattle.etherparse.specs.Types.LenSource.TheVariants as source
+use Rattle.etherparse.specs.LinkExtensions.{LinkExtension, BeginsLinkExtension}
+use Rattle.etherparse.specs.Frame.{NetKind, IsInside, IsNetLayer, IsNetPart, most_link_exts, net_kind}
+use Rattle.etherparse.specs.Layers.{NetLayer, net_payload}
+use Rattle.etherparse.specs.Payloads.{extensions_len_source}
+use Rattle.etherparse.specs.TransportHeaders.{transport_header_len}
+use Rattle.etherparse.specs.TransportParts.{TransportLayer}
 use Rattle.etherparse_c.specs.declared.packet.Ip.{Ip}
 use Rattle.etherparse_c.specs.declared.packet.Packet.{Packet}
 use Rattle.etherparse_c.specs.declared.plain.PlainIp.{PlainIp}

@@ -1,19 +1,19 @@
 -- What the calls on a pool that C points to answer.
 use Rattle.std.specs.Prelude.{◌≡◌, ◌<◌, ◌≤◌, ◌⊎◌, ℕ, nat_eq, nat_le, List, [], ◌++◌, drop, length, Option, Some, None, Result, Ok, Err}
 use Rattle.std.specs.Option.{option_map}
-use Rattle.ep_defrag.specs.declared.ip_defrag_error.IpDefragError.{IpDefragError}
-use Rattle.ep_defrag.specs.declared.ip_defrag_error.IpDefragError.TheVariants.{UnalignedFragmentPayloadLen, SegmentTooBig, ConflictingEnd, AllocationFailure}
-use Rattle.ep_defrag.specs.declared.ip_defrag_payload_vec.IpDefragPayloadVec.{IpDefragPayloadVec}
-use Rattle.ep_defrag.specs.declared.ip_frag_id.IpFragId.{IpFragId}
-use Rattle.ep_defrag.specs.Calls.{Kept, kept_by}
-use Rattle.ep_defrag.specs.Pools.{HoldsTable, TakesFrame, limit_of, streams_of}
-use Rattle.ep_defrag.specs.Streams.{packet_fragment}
-use Rattle.ep_packet.specs.declared.entry.Entry.{Entry}
-use Rattle.ep_packet.specs.declared.err.slice_error.SliceError.{SliceError}
-use Rattle.ep_packet.specs.FrameFragments.{fragment_of}
-use Rattle.ep_packet.specs.Frame.{IsFrame}
-use Rattle.ep_packet.specs.Layers.{Layers}
-use Rattle.ep_packet.specs.FrameRefusals.{RefusesFrame}
+use Rattle.etherparse.specs.Types.IpDefragError.{IpDefragError}
+use Rattle.etherparse.specs.Types.IpDefragError.TheVariants.{UnalignedFragmentPayloadLen, SegmentTooBig, ConflictingEnd, AllocationFailure}
+use Rattle.etherparse.specs.Types.IpDefragPayloadVec.{IpDefragPayloadVec}
+use Rattle.etherparse.specs.Types.IpFragId.{IpFragId}
+use Rattle.etherparse.specs.Calls.{Kept, kept_by}
+use Rattle.etherparse.specs.Pools.{HoldsTable, TakesFrame, limit_of, streams_of}
+use Rattle.etherparse.specs.Streams.{packet_fragment}
+use Rattle.etherparse.specs.Types.Entry.{Entry}
+use Rattle.etherparse.specs.Types.SliceError.{SliceError}
+use Rattle.etherparse.specs.FrameFragments.{fragment_of}
+use Rattle.etherparse.specs.Frame.{IsFrame}
+use Rattle.etherparse.specs.Layers.{Layers}
+use Rattle.etherparse.specs.FrameRefusals.{RefusesFrame}
 use Rattle.etherparse_c.specs.declared.handle.Handle.{Handle}
 use Rattle.etherparse_c.specs.declared.pool.Pool.{Pool}
 use Rattle.etherparse_c.specs.declared.pool_answer.PoolAnswer.{PoolAnswer}

@@ -1,18 +1,18 @@
 -- What C is told of a refusal.
 use Rattle.std.specs.Prelude.{ℕ}
-use Rattle.ep_base.specs.declared.err.ip.HeaderError.TheVariants as ip_error
-use Rattle.ep_base.specs.declared.err.ip_auth.HeaderError.TheVariants as auth_error
-use Rattle.ep_base.specs.declared.err.ipv4.HeaderError.TheVariants as ipv4_error
-use Rattle.ep_base.specs.declared.err.ipv6.HeaderError.TheVariants as ipv6_error
-use Rattle.ep_base.specs.declared.err.ipv6_exts.HeaderError.TheVariants as exts_error
-use Rattle.ep_base.specs.declared.err.layer.Layer.{Layer}
-use Rattle.ep_base.specs.declared.err.layer.Layer.TheVariants as layer
-use Rattle.ep_base.specs.declared.err.len_error.LenError.{LenError}
-use Rattle.ep_base.specs.declared.err.linux_sll.HeaderError.TheVariants as linux_sll_error
-use Rattle.ep_base.specs.declared.err.macsec.HeaderError.TheVariants as macsec_error
-use Rattle.ep_base.specs.declared.err.tcp.HeaderError.TheVariants as tcp_error
-use Rattle.ep_packet.specs.declared.err.slice_error.SliceError.{SliceError}
-use Rattle.ep_packet.specs.declared.err.slice_error.SliceError.TheVariants.{Len, LinuxSll, Macsec, Ip, Ipv4, Ipv6, Ipv4Exts, Ipv6Exts, Tcp}
+use Rattle.etherparse.specs.Types.IpHeaderError.TheVariants as ip_error
+use Rattle.etherparse.specs.Types.IpAuthHeaderError.TheVariants as auth_error
+use Rattle.etherparse.specs.Types.Ipv4HeaderError.TheVariants as ipv4_error
+use Rattle.etherparse.specs.Types.Ipv6HeaderError.TheVariants as ipv6_error
+use Rattle.etherparse.specs.Types.Ipv6ExtsHeaderError.TheVariants as exts_error
+use Rattle.etherparse.specs.Types.Layer.{Layer}
+use Rattle.etherparse.specs.Types.Layer.TheVariants as layer
+use Rattle.etherparse.specs.Types.LenError.{LenError}
+use Rattle.etherparse.specs.Types.LinuxSllHeaderError.TheVariants as linux_sll_error
+use Rattle.etherparse.specs.Types.MacsecHeaderError.TheVariants as macsec_error
+use Rattle.etherparse.specs.Types.TcpHeaderError.TheVariants as tcp_error
+use Rattle.etherparse.specs.Types.SliceError.{SliceError}
+use Rattle.etherparse.specs.Types.SliceError.TheVariants.{Len, LinuxSll, Macsec, Ip, Ipv4, Ipv6, Ipv4Exts, Ipv6Exts, Tcp}
 use Rattle.etherparse_c.specs.declared.packet.Refusal.{Refusal}
 use Rattle.etherparse_c.specs.Description.{no_refusal, source_number}
 

@@ -1,7 +1,7 @@
 //! The Internet checksum.
 
 ghost use Rattle.std.specs.Prelude.{◌≡◌};
-ghost use Rattle.ep_base.specs.Checksum.{checksum_of};
+ghost use Rattle.etherparse.specs.Checksum.{checksum_of};
 
 use etherparse::checksum::Sum16BitWords;
 
@@ -10,5 +10,7 @@ use etherparse::checksum::Sum16BitWords;
 pub extern "C" fn etherparse_checksum(bytes: &[u8]) -> u16
     ensures { result ≡ checksum_of bytes.now }
 {
+    // No code: that the sum of no bytes adds nothing.
+    etherparse::laws::base::order_of_sums();
     Sum16BitWords::new().add_slice(bytes).ones_complement()
 }

@@ -2,11 +2,11 @@
 
 ghost use Rattle.std.specs.Prelude.{◌≡◌, ◌+◌, ◌<◌, ◌≤◌, ◌^◌, length, map};
 ghost use Rattle.std.specs.Option.{option_map};
-ghost use Rattle.ep_link.specs.LinkExtensions.{link_extension_of};
-ghost use Rattle.ep_link.specs.LinkSlices.{link_layer_of};
-ghost use Rattle.ep_packet.specs.Layers.{layers_of, net_layer_of};
-ghost use Rattle.ep_packet.specs.Payloads.{extensions_len_source};
-ghost use Rattle.ep_transport.specs.TransportParts.{transport_layer_of};
+ghost use Rattle.etherparse.specs.LinkExtensions.{link_extension_of};
+ghost use Rattle.etherparse.specs.LinkSlices.{link_layer_of};
+ghost use Rattle.etherparse.specs.Layers.{layers_of, net_layer_of};
+ghost use Rattle.etherparse.specs.Payloads.{extensions_len_source};
+ghost use Rattle.etherparse.specs.TransportParts.{transport_layer_of};
 ghost use Rattle.etherparse_c.specs.Description.{description, destination_port_in, link_part, net_end, no_refusal, no_tag, part};
 ghost use Rattle.etherparse_c.specs.Description.{payload_end, payload_offset, source_number, source_port_in, tag_part};
 ghost use Rattle.etherparse_c.specs.Description.{tag_slots, tags_len, transport_end, transport_kind, transport_len};

@@ -2,15 +2,15 @@
 
 ghost use Rattle.std.specs.Prelude.{◌≡◌, ◌+◌, ◌<◌, ◌^◌};
 ghost use Rattle.std.specs.Option.{option_map};
-ghost use Rattle.ep_base.specs.Bytes.{bit};
-ghost use Rattle.ep_ext.specs.FragmentHeaderSlices.{fragment_slice_header};
-ghost use Rattle.ep_ext.specs.Ipv6ExtensionSlices.{extension_slice_part, ipv6_slice_parts};
-ghost use Rattle.ep_ext.specs.ExtensionParts.{part_len};
-ghost use Rattle.ep_ip.specs.Ipv4.{ipv4_header_len};
-ghost use Rattle.ep_ip.specs.Ipv4Slices.{ipv4_slice_extensions, ipv4_slice_header, ipv4_slice_payload};
-ghost use Rattle.ep_ip.specs.Ipv6Slices.{ipv6_slice_extensions, ipv6_slice_payload};
-ghost use Rattle.ep_packet.specs.FrameFragments.{first_fragment};
-ghost use Rattle.ep_packet.specs.Layers.{net_layer_of};
+ghost use Rattle.etherparse.specs.Bytes.{bit};
+ghost use Rattle.etherparse.specs.FragmentHeaderSlices.{fragment_slice_header};
+ghost use Rattle.etherparse.specs.Ipv6ExtensionSlices.{extension_slice_part, ipv6_slice_parts};
+ghost use Rattle.etherparse.specs.ExtensionParts.{part_len};
+ghost use Rattle.etherparse.specs.Ipv4.{ipv4_header_len};
+ghost use Rattle.etherparse.specs.Ipv4Slices.{ipv4_slice_extensions, ipv4_slice_header, ipv4_slice_payload};
+ghost use Rattle.etherparse.specs.Ipv6Slices.{ipv6_slice_extensions, ipv6_slice_payload};
+ghost use Rattle.etherparse.specs.FrameFragments.{first_fragment};
+ghost use Rattle.etherparse.specs.Layers.{net_layer_of};
 ghost use Rattle.etherparse_c.specs.Description.{ip_in, ipv4_part, ipv6_part, net_kind, net_len, no_ip, part, parts_len};
 
 use crate::numbers;

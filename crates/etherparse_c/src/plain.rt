@@ -5,15 +5,15 @@
 //! then is of no use.
 
 ghost use Rattle.std.specs.Prelude.{◌≡◌, ◌≤◌, ◌⊎◌, IfSome, Some, true};
-ghost use Rattle.ep_base.specs.IpNumbers.{tcp_number, udp_number};
-ghost use Rattle.ep_base.specs.Layer.{slices};
-ghost use Rattle.ep_packet.specs.declared.entry.Entry.TheVariants.{Ethernet as ethernet, Ip as ip_entry};
-ghost use Rattle.ep_packet.specs.Frame.{IsFrame, IsTransportIn, net_kind};
-ghost use Rattle.ep_packet.specs.Frame.{any_ip, only_ipv4, only_ipv6};
-ghost use Rattle.ep_packet.specs.Layers.{Layers};
-ghost use Rattle.ep_transport.specs.TransportParts.{TransportLayer};
-ghost use Rattle.ep_transport.specs.UdpSlices.{udp_slice_header};
-ghost use Rattle.ep_transport.specs.declared.transport_header.TransportHeader.TheVariants as transport;
+ghost use Rattle.etherparse.specs.IpNumbers.{tcp_number, udp_number};
+ghost use Rattle.etherparse.specs.Layer.{slices};
+ghost use Rattle.etherparse.specs.Types.Entry.TheVariants.{Ethernet as ethernet, Ip as ip_entry};
+ghost use Rattle.etherparse.specs.Frame.{IsFrame, IsTransportIn, net_kind};
+ghost use Rattle.etherparse.specs.Frame.{any_ip, only_ipv4, only_ipv6};
+ghost use Rattle.etherparse.specs.Layers.{Layers};
+ghost use Rattle.etherparse.specs.TransportParts.{TransportLayer};
+ghost use Rattle.etherparse.specs.UdpSlices.{udp_slice_header};
+ghost use Rattle.etherparse.specs.Types.TransportHeader.TheVariants as transport;
 ghost use Rattle.etherparse_c.specs.Description.{description, header_end};
 ghost use Rattle.etherparse_c.specs.Plain.{HasPlainIp, plain_payload, plain_told};
 

@@ -1,15 +1,15 @@
 //! Slicing a frame.
 
 ghost use Rattle.std.specs.Prelude.{◌≡◌, IfOk, IfErr, MatchOption};
-ghost use Rattle.ep_packet.specs.Layers.{Layers, layers_of, no_layers};
-ghost use Rattle.ep_packet.specs.Frame.{IsFrame};
+ghost use Rattle.etherparse.specs.Layers.{Layers, layers_of, no_layers};
+ghost use Rattle.etherparse.specs.Frame.{IsFrame};
 ghost use Rattle.etherparse_c.specs.SliceAnswers.{IsSliceAnswer, entry_of, nothing_said, refused_packet};
 
 use crate::describing::describe;
-use crate::numbers;
 use crate::packet::Packet;
 use crate::plain::{describe_plain, describe_plain_ip};
 use crate::refusing::refusal_part;
+use crate::{laws, numbers};
 use etherparse::err::packet::SliceError;
 use etherparse::{Entry, EtherType, SlicedPacket};
 
@@ -26,6 +26,8 @@ pub extern "C" fn etherparse_slice(
 ) -> u32
     ensures { IsSliceAnswer (entry_of entry ether_type) bytes.now result packet.new }
 {
+    // No code: that the layers stand where C is told.
+    laws::frame_places();
     if entry == 0 && describe_plain(packet, bytes) {
         return numbers::OK;
     }
@@ -40,6 +42,7 @@ pub extern "C" fn etherparse_slice(
 fn slice_any(entry: u32, ether_type: u16, bytes: &[u8], packet: &mut Packet) -> u32
     ensures { IsSliceAnswer (entry_of entry ether_type) bytes.now result packet.new }
 {
+    laws::frame_places();
     let Some(entry) = entry_of(entry, ether_type) else {
         say_nothing(packet);
         return numbers::UNKNOWN_CHOICE;

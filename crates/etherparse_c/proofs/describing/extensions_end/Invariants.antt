@@ -1,6 +1,6 @@
 use Rattle.std.proofs.Common.{◌≡◌, map, drop}
-use Rattle.ep_link.specs.LinkExtensions.{link_extension_of}
-use Rattle.ep_packet.specs.Payloads.{have_short_len}
+use Rattle.etherparse.specs.LinkExtensions.{link_extension_of}
+use Rattle.etherparse.specs.Payloads.{have_short_len}
 use Rattle.etherparse_c.proofs.describing.extensions_end.Given as goal
 
 -- no tag that is passed has a short length

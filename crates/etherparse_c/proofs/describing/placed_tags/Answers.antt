@@ -1,5 +1,5 @@
 use Rattle.std.proofs.Common.{rules, ◌≡◌, ◌+◌, ◌≤◌, List, [], ◌∷◌, length, ap, ◌∙◌, arith}
-use Rattle.ep_link.specs.declared.link_ext.link_ext_slice.LinkExtSlice.{LinkExtSlice}
+use Rattle.etherparse.specs.Types.LinkExtSlice.{LinkExtSlice}
 use Rattle.etherparse_c.specs.declared.packet.LinkExt.{LinkExt}
 use Rattle.etherparse_c.proofs.TagLemmas.{no_more, is_last, two_slots, three_slots, two_len, three_len}
 use Rattle.etherparse_c.proofs.describing.placed_tags.Goals as goal

@@ -1,5 +1,5 @@
 use Rattle.std.proofs.Common.{◌≡◌, ◌+◌}
-use Rattle.ep_ext.specs.Ipv6ExtensionSlices.{ipv6_slice_parts, parts_left}
+use Rattle.etherparse.specs.Ipv6ExtensionSlices.{ipv6_slice_parts, parts_left}
 use Rattle.etherparse_c.specs.Description.{parts_len}
 use Rattle.etherparse_c.proofs.net_part.extensions_len.Given as goal
 

@@ -1,6 +1,6 @@
 use Rattle.std.proofs.Common.{◌≡◌}
-use Rattle.ep_ext.specs.Ipv6ExtensionSlices.{ipv6_slice_parts, parts_left}
-use Rattle.ep_packet.specs.FrameFragments.{first_fragment}
+use Rattle.etherparse.specs.Ipv6ExtensionSlices.{ipv6_slice_parts, parts_left}
+use Rattle.etherparse.specs.FrameFragments.{first_fragment}
 use Rattle.etherparse_c.proofs.net_part.first_fragment_header.Given as goal
 
 -- no header that is passed is a fragment header

@@ -1,9 +1,9 @@
 use Rattle.std.proofs.Common.{◌+◌, length, ap, refl, sym, ◌∙◌}
 use Rattle.std.proofs.lemmas.Bool.{eqb-true}
-use Rattle.ep_base.specs.Layer.{cut_by}
-use Rattle.ep_base.specs.declared.len_source.LenSource.{LenSource}
-use Rattle.ep_transport.specs.TransportParts.{transport_layer_of}
-use Rattle.ep_transport.specs.declared.transport_slice.TransportSlice.TheVariants as transport
+use Rattle.etherparse.specs.Layer.{cut_by}
+use Rattle.etherparse.specs.Types.LenSource.{LenSource}
+use Rattle.etherparse.specs.TransportParts.{transport_layer_of}
+use Rattle.etherparse.specs.Types.TransportSlice.TheVariants as transport
 use Rattle.etherparse_c.specs.Description.{part, source_number}
 use Rattle.etherparse_c.specs.Plain.{plain_ip}
 use Rattle.etherparse_c.proofs.plain.describe_ip.Goals as goal

@@ -1,9 +1,9 @@
 use Rattle.std.proofs.Common.{ℕ, List, Some, refl, subst}
-use Rattle.ep_base.specs.Layer.{slices}
-use Rattle.ep_base.specs.declared.ether_type.EtherType.{EtherType}
-use Rattle.ep_link.specs.Ethernet2Slices.{ethernet2_slice_header, ethernet2_slice_payload}
-use Rattle.ep_link.specs.LinkSlices.{ethernet2}
-use Rattle.ep_packet.specs.Frame.{IsInside, most_link_exts, net_kind}
+use Rattle.etherparse.specs.Layer.{slices}
+use Rattle.etherparse.specs.Types.EtherType.{EtherType}
+use Rattle.etherparse.specs.Ethernet2Slices.{ethernet2_slice_header, ethernet2_slice_payload}
+use Rattle.etherparse.specs.LinkSlices.{ethernet2}
+use Rattle.etherparse.specs.Frame.{IsInside, most_link_exts, net_kind}
 use Rattle.etherparse_c.specs.Description.{part}
 use Rattle.etherparse_c.specs.Plain.{plain_payload}
 use Rattle.etherparse_c.proofs.PlainLemmas.{begins_none, plain_described, plain_frame, plain_layers, plain_part}

@@ -1,5 +1,5 @@
 use Rattle.std.proofs.Common.{[], ◌∷◌, Some, None, refl}
-use Rattle.ep_packet.specs.Frame.{any_ip}
+use Rattle.etherparse.specs.Frame.{any_ip}
 use Rattle.etherparse_c.specs.Description.{part}
 use Rattle.etherparse_c.specs.Plain.{plain_payload}
 use Rattle.etherparse_c.proofs.PlainLemmas.{plain_described, plain_layers, plain_part}

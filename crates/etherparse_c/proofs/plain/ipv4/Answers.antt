@@ -1,9 +1,9 @@
 use Rattle.std.proofs.Common.{rules, ◌≡◌, length, drop, ap, refl, sym, ◌∙◌, arith}
 use Rattle.std.proofs.lemmas.Bool.{eqb-false}
 use Rattle.std.proofs.lemmas.List.{length-append}
-use Rattle.ep_base.specs.IpNumbers.{authentication_number}
-use Rattle.ep_base.specs.declared.ip_number.IpNumber.{IpNumber}
-use Rattle.ep_ip.specs.Ipv4Slices.{ipv4_header_slice_bytes, ipv4_header_slice_header}
+use Rattle.etherparse.specs.IpNumbers.{authentication_number}
+use Rattle.etherparse.specs.Types.IpNumber.{IpNumber}
+use Rattle.etherparse.specs.Ipv4Slices.{ipv4_header_slice_bytes, ipv4_header_slice_header}
 use Rattle.etherparse_c.proofs.PlainLemmas.{cut_packet, has_ipv4}
 use Rattle.etherparse_c.proofs.plain.ipv4.Goals as goal
 

@@ -1,7 +1,7 @@
 use Rattle.std.proofs.Common.{rules, ◌≡◌, ◌⊎◌, refl, subst, true}
-use Rattle.ep_base.specs.IpNumbers.{tcp_number, udp_number}
-use Rattle.ep_base.specs.declared.ip_number.IpNumber.{IpNumber}
-use Rattle.ep_ip.specs.Ipv6Slices.{ipv6_header_slice_header}
+use Rattle.etherparse.specs.IpNumbers.{tcp_number, udp_number}
+use Rattle.etherparse.specs.Types.IpNumber.{IpNumber}
+use Rattle.etherparse.specs.Ipv6Slices.{ipv6_header_slice_header}
 use Rattle.etherparse_c.proofs.PlainLemmas.{has_ipv6}
 use Rattle.etherparse_c.proofs.plain.ipv6.Goals as goal
 

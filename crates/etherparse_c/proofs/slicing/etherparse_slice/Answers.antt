@@ -1,8 +1,7 @@
 use Rattle.std.proofs.Common.{rules, ◌≡◌, ℕ, Option, Some, inl, refl, ap, subst, sym}
-use Rattle.ep_packet.specs.declared.entry.Entry.{Entry}
-use Rattle.ep_packet.specs.declared.entry.Entry.TheVariants.{Ethernet as ethernet, Ip as ip}
+use Rattle.etherparse.specs.Types.Entry.{Entry}
+use Rattle.etherparse.specs.Types.Entry.TheVariants.{Ethernet as ethernet, Ip as ip}
 use Rattle.etherparse_c.specs.SliceAnswers.{IsSliceAnswer, entry_of}
-use Rattle.etherparse_c.proofs.PlaceLemmas.{frame_describes}
 use Rattle.etherparse_c.proofs.slicing.etherparse_slice.Goals as goal
 
 pub returns-then-describe_plain : goal.returns-then-describe_plain
@@ -13,7 +12,7 @@ returns-then-describe_plain c =
     let found = c.describe_plain.ensures c.if-describe_plain.true in
     let told = c.describe_plain.new.told in
     subst (λ (entry : Option Entry). IsSliceAnswer entry c.args.bytes.now 0 told) (sym known)
-    (inl (refl, (found.0, frame_describes ethernet c.args.bytes.now found.0 told found.1 found.2)))
+    (inl (refl, (found.0, c.frame_places.ensures.places ethernet c.args.bytes.now found.0 told found.1 found.2)))
 
 pub returns-then-describe_plain_ip : goal.returns-then-describe_plain_ip
 returns-then-describe_plain_ip c =
@@ -23,4 +22,4 @@ returns-then-describe_plain_ip c =
     let found = c.describe_plain_ip.ensures c.if-describe_plain_ip.true in
     let told = c.describe_plain_ip.new.told in
     subst (λ (entry : Option Entry). IsSliceAnswer entry c.args.bytes.now 0 told) (sym known)
-    (inl (refl, (found.0, frame_describes ip c.args.bytes.now found.0 told found.1 found.2)))
+    (inl (refl, (found.0, c.frame_places.ensures.places ip c.args.bytes.now found.0 told found.1 found.2)))

@@ -1,7 +1,7 @@
 use Rattle.std.proofs.Common.{rules, ◌≡◌, ℕ, List, [], ◌∷◌, true, refl, subst}
-use Rattle.ep_link.specs.LinkExtensions.{IsVlanType, vlan}
-use Rattle.ep_link.specs.Vlan.{IsVlan}
-use Rattle.ep_link.specs.VlanSlices.{vlan_slice_header, vlan_slice_parts, vlan_slice_payload}
+use Rattle.etherparse.specs.LinkExtensions.{IsVlanType, vlan}
+use Rattle.etherparse.specs.Vlan.{IsVlan}
+use Rattle.etherparse.specs.VlanSlices.{vlan_slice_header, vlan_slice_parts, vlan_slice_payload}
 use Rattle.etherparse_c.proofs.PlainLemmas.{one_vlan, two_vlans}
 use Rattle.etherparse_c.proofs.vlans.place_vlans.Goals as goal
 
