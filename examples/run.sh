@@ -60,12 +60,17 @@ else
     echo "examples: no g++, so the header was not read as C++"
 fi
 
-if cargo --version > /dev/null 2>&1 && cc --version > /dev/null 2>&1; then
+# The wrappers need cargo 1.78 or later: an older one does not read their Cargo.lock.
+needed=1.78
+cargo=$(cargo --version 2> /dev/null | cut -d ' ' -f 2) || true
+if [ -z "$cargo" ] || ! cc --version > /dev/null 2>&1; then
+    echo "examples: no cargo or no cc, so the Rust wrappers and their example were not run"
+elif [ "$(printf '%s\n' "$needed" "$cargo" | sort -V | head -n 1)" != "$needed" ]; then
+    echo "examples: cargo is $cargo, and the Rust wrappers need $needed, so they and their example were not run"
+else
     cd "$top/rust"
     cargo test --quiet --offline
     cargo run --quiet --offline --example filter -- 1234 "$work/capture" | tee "$work/filter.out"
     cmp "$work/filter.out" ../examples/rust/filter.out
     echo "examples: the wrappers' tests passed, and rust/filter.rs printed what it must"
-else
-    echo "examples: no cargo or no cc, so the Rust wrappers and their example were not run"
 fi

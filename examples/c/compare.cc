@@ -1,12 +1,14 @@
 /* Times this library by its C interface beside others that read the same frames, in one process and in turns:
- *     compare FILE ROUNDS
+ *     compare FILE ROUNDS [COLUMN]
  * FILE is a corpus of crates/slice_bench/corpora.py: frames, each its length in four bytes, the lowest first, and its
  * bytes. The walk by hand is crates/slice_bench/compare/walk.c. Where they are installed, libtins (-DWITH_TINS -ltins)
  * and the filter of libpcap (-DWITH_PCAP -lpcap: "udp", compiled once and run over each frame) are measured too. Says
- * nanoseconds a frame, the fastest of the rounds, and how that relates to the walk. */
+ * nanoseconds a frame, the fastest of the rounds, and how that relates to the first, the walk. With COLUMN, a name that
+ * is printed, that one alone runs, so that its instructions can be counted. compare.py builds it and measures both. */
 #include "../../include/etherparse.h"
 #include <cstdio>
 #include <cstdlib>
+#include <cstring>
 #include <ctime>
 #include <vector>
 #ifdef WITH_TINS
@@ -79,11 +81,12 @@ struct column {
 };
 
 int main(int argc, char **argv) {
-    if (argc != 3) return fprintf(stderr, "usage: compare FILE ROUNDS\n"), 2;
+    if (argc != 3 && argc != 4) return fprintf(stderr, "usage: compare FILE ROUNDS [COLUMN]\n"), 2;
     FILE *file = fopen(argv[1], "rb");
     if (!file) return perror(argv[1]), 1;
     std::vector<uint8_t> all;
-    for (int c; (c = fgetc(file)) != EOF;) all.push_back(static_cast<uint8_t>(c));
+    static uint8_t some[1 << 16];
+    for (size_t n; (n = fread(some, 1, sizeof some, file)) != 0;) all.insert(all.end(), some, some + n);
     fclose(file);
     std::vector<frame> frames;
     for (size_t at = 0; at + 4 <= all.size();) {
@@ -93,15 +96,22 @@ int main(int argc, char **argv) {
         frames.push_back({&all[at], len});
         at += len;
     }
-    std::vector<column> columns = {{"walk by hand", by_walk, 1e300, 0}, {"etherparse_slice", by_etherparse, 1e300, 0}};
+    std::vector<column> columns = {{"walk", by_walk, 1e300, 0}, {"etherparse_slice", by_etherparse, 1e300, 0}};
 #ifdef WITH_TINS
     columns.push_back({"libtins", by_tins, 1e300, 0});
 #endif
 #ifdef WITH_PCAP
     pcap_t *pcap = pcap_open_dead(DLT_EN10MB, 65535);
     if (pcap_compile(pcap, &filter, "udp", 1, PCAP_NETMASK_UNKNOWN) != 0) return pcap_perror(pcap, "udp"), 1;
-    columns.push_back({"libpcap's filter", by_pcap, 1e300, 0});
+    columns.push_back({"libpcap", by_pcap, 1e300, 0});
 #endif
+    if (argc == 4) {
+        std::vector<column> chosen;
+        for (const column &c : columns)
+            if (strcmp(c.name, argv[3]) == 0) chosen.push_back(c);
+        if (chosen.empty()) return fprintf(stderr, "compare: no column %s\n", argv[3]), 2;
+        columns = chosen;
+    }
     for (int round = 0, rounds = atoi(argv[2]); round < rounds; round++)
         for (column &c : columns) {
             struct timespec from, to;
@@ -113,7 +123,7 @@ int main(int argc, char **argv) {
         }
     printf("%zu frames\n", frames.size());
     for (const column &c : columns)
-        printf("%-18s %8.1f ns  %6.2f of the walk  (sum %llu)\n", c.name, c.fastest, c.fastest / columns[0].fastest,
+        printf("%-18s %8.1f ns  %6.2f of the first  (sum %llu)\n", c.name, c.fastest, c.fastest / columns[0].fastest,
                static_cast<unsigned long long>(c.sum));
     return 0;
 }

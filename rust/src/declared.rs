@@ -1,4 +1,104 @@
-//! The calls of the static library, as `include/etherparse.h` declares them.
+//! The calls of the static library and their numbers, as `include/etherparse.h` declares them; what each is for is said
+//! there.
+
+// What a call answers.
+pub const OK: u32 = 0;
+pub const REFUSED: u32 = 1;
+pub const UNKNOWN_CHOICE: u32 = 2;
+pub const TOO_SMALL: u32 = 3;
+pub const TOO_LONG: u32 = 4;
+pub const OUT_OF_MEMORY: u32 = 5;
+pub const COMPLETE: u32 = 6;
+pub const FRAGMENT_REFUSED: u32 = 7;
+pub const PAYLOAD_WAITS: u32 = 8;
+
+// What a frame begins with.
+pub const ENTRY_ETHERNET: u32 = 0;
+pub const ENTRY_LINUX_SLL: u32 = 1;
+pub const ENTRY_ETHER_TYPE: u32 = 2;
+pub const ENTRY_IP: u32 = 3;
+
+// The kinds of headers, by their layer. In each layer 0 is none.
+pub const LINK_ETHERNET2: u32 = 1;
+pub const LINK_LINUX_SLL: u32 = 2;
+
+pub const EXT_VLAN: u32 = 1;
+pub const EXT_MACSEC: u32 = 2;
+
+pub const NET_ARP: u32 = 1;
+pub const NET_IPV4: u32 = 4;
+pub const NET_IPV6: u32 = 6;
+
+pub const TRANSPORT_ICMPV4: u32 = 1;
+pub const TRANSPORT_TCP: u32 = 6;
+pub const TRANSPORT_UDP: u32 = 17;
+pub const TRANSPORT_ICMPV6: u32 = 58;
+
+// What set the end of some bytes.
+pub const END_SLICE: u32 = 0;
+pub const END_MACSEC: u32 = 1;
+pub const END_IPV4: u32 = 2;
+pub const END_IPV6: u32 = 3;
+pub const END_UDP: u32 = 4;
+pub const END_ARP: u32 = 5;
+
+// Why bytes are no frame.
+pub const REFUSAL_NONE: u32 = 0;
+pub const REFUSAL_LEN: u32 = 1;
+pub const REFUSAL_SLL_PACKET_TYPE: u32 = 2;
+pub const REFUSAL_SLL_ARP_HARDWARE: u32 = 3;
+pub const REFUSAL_MACSEC_VERSION: u32 = 4;
+pub const REFUSAL_MACSEC_SHORT_LEN: u32 = 5;
+pub const REFUSAL_IP_VERSION: u32 = 6;
+pub const REFUSAL_IP_IHL: u32 = 7;
+pub const REFUSAL_IPV4_VERSION: u32 = 8;
+pub const REFUSAL_IPV4_IHL: u32 = 9;
+pub const REFUSAL_IPV6_VERSION: u32 = 10;
+pub const REFUSAL_IPV4_AUTH: u32 = 11;
+pub const REFUSAL_IPV6_HOP_BY_HOP: u32 = 12;
+pub const REFUSAL_IPV6_AUTH: u32 = 13;
+pub const REFUSAL_TCP_DATA_OFFSET: u32 = 14;
+
+// The layers that a refusal by length names.
+pub const LAYER_ETHERNET2_HEADER: u32 = 1;
+pub const LAYER_LINUX_SLL_HEADER: u32 = 2;
+pub const LAYER_VLAN_HEADER: u32 = 3;
+pub const LAYER_MACSEC_HEADER: u32 = 4;
+pub const LAYER_MACSEC_PACKET: u32 = 5;
+pub const LAYER_ARP: u32 = 6;
+pub const LAYER_IP_HEADER: u32 = 7;
+pub const LAYER_IPV4_HEADER: u32 = 8;
+pub const LAYER_IPV4_PACKET: u32 = 9;
+pub const LAYER_IP_AUTH_HEADER: u32 = 10;
+pub const LAYER_IPV6_HEADER: u32 = 11;
+pub const LAYER_IPV6_PACKET: u32 = 12;
+pub const LAYER_IPV6_EXT_HEADER: u32 = 13;
+pub const LAYER_IPV6_FRAG_HEADER: u32 = 14;
+pub const LAYER_UDP_HEADER: u32 = 15;
+pub const LAYER_UDP_PAYLOAD: u32 = 16;
+pub const LAYER_TCP_HEADER: u32 = 17;
+pub const LAYER_ICMPV4: u32 = 18;
+pub const LAYER_ICMPV4_TIMESTAMP: u32 = 19;
+pub const LAYER_ICMPV4_TIMESTAMP_REPLY: u32 = 20;
+pub const LAYER_ICMPV6: u32 = 21;
+
+// The flags of TCP.
+pub const TCP_FIN: u8 = 1;
+pub const TCP_SYN: u8 = 2;
+pub const TCP_RST: u8 = 4;
+pub const TCP_PSH: u8 = 8;
+pub const TCP_ACK: u8 = 16;
+pub const TCP_URG: u8 = 32;
+pub const TCP_ECE: u8 = 64;
+pub const TCP_CWR: u8 = 128;
+
+// Why a fragment is refused.
+pub const FRAGMENT_UNALIGNED: u32 = 1;
+pub const FRAGMENT_TOO_BIG: u32 = 2;
+pub const FRAGMENT_CONFLICTING_END: u32 = 3;
+
+// The greatest number of bytes of a payload in a pool.
+pub const MAX_PAYLOAD: u16 = 65535;
 
 /// A header, and which bytes of the frame it is.
 #[repr(C)]
@@ -43,7 +143,7 @@ pub struct Payload {
 
 /// Why bytes are no frame.
 #[repr(C)]
-#[derive(Clone, Copy, Debug, Default, PartialEq, Eq)]
+#[derive(Clone, Copy, Debug, Default, PartialEq, Eq, Hash)]
 pub struct Refusal {
     pub kind: u32,
     pub layer: u32,
@@ -95,7 +195,7 @@ pub struct TcpFields {
     pub acknowledgment_number: u32,
     pub window_size: u16,
     pub urgent_pointer: u16,
-    /// FIN is 1, SYN 2, RST 4, PSH 8, ACK 16, URG 32, ECE 64, CWR 128.
+    /// Of the constants `TCP_FIN` and so on, added up.
     pub flags: u8,
 }
 

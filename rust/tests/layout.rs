@@ -1,5 +1,5 @@
-//! That the declarations here, those of the C header and those of the Rattle crate say the same layouts and calls, and
-//! what the calls answer.
+//! That the declarations here, those of the C header and those of the Rattle crate say the same layouts and calls (the
+//! numbers are compared in numbers.rs), and what the calls answer.
 
 use etherparse_c::declared::{self, Ip, LinkExt, Packet, Part, Payload, PoolAnswer, Refusal, Route, TcpFields};
 use std::collections::{BTreeMap, HashMap};
@@ -187,47 +187,6 @@ fn calls_are_the_same() {
     assert_eq!(calls_of_c(&read("include/etherparse.h")), rattle);
 }
 
-/// The numbers that the C header names, without the names' first word.
-fn numbers_of_c(text: &str) -> BTreeMap<String, u32> {
-    let is_name = |name: &str| name.chars().all(|c| c == '_' || c.is_ascii_uppercase() || c.is_ascii_digit());
-    let one = |word: &str| {
-        let (name, rest) = word.split_once(" = ")?;
-        let number = rest.split(|c: char| !c.is_ascii_digit()).next()?.parse().ok()?;
-        is_name(name).then(|| (name.to_string(), number))
-    };
-    text.split("ETHERPARSE_").skip(1).filter_map(one).collect()
-}
-
-#[test]
-fn numbers_are_the_same() {
-    let top = concat!(env!("CARGO_MANIFEST_DIR"), "/..");
-    let read = |path: &str| std::fs::read_to_string(format!("{top}/{path}")).unwrap();
-    let c = numbers_of_c(&read("include/etherparse.h"));
-    let text = read("crates/etherparse_c/src/numbers.rt");
-    let known = text.lines().filter_map(|line| line.strip_prefix("pub const ")?.split_once(": u32 = "));
-    let known: Vec<_> = known.collect();
-    assert_eq!(known.len(), 20);
-    for (name, number) in known {
-        assert_eq!(c.get(name), Some(&number.trim_end_matches(';').parse().unwrap()), "{name}");
-    }
-    // a layer, and what sets an end: the C name is the Rattle name or its beginning
-    let files = [("refusing", "Layer::", "LAYER_", 21), ("describing", "LenSource::", "END_", 6)];
-    for (file, word, first, count) in files {
-        let text = read(&format!("crates/etherparse_c/src/{file}.rt"));
-        let told = text.lines().filter_map(|line| {
-            let (name, number) = line.trim().strip_prefix(word)?.trim_end_matches(',').split_once(" => ")?;
-            Some((name.to_lowercase(), number.parse::<u32>().ok()?))
-        });
-        let told: Vec<_> = told.collect();
-        let named: Vec<_> = c.iter().filter_map(|(name, number)| Some((name.strip_prefix(first)?, *number))).collect();
-        assert_eq!((told.len(), named.len()), (count, count));
-        for (name, number) in told {
-            let (short, _) = named.iter().find(|(_, other)| *other == number).unwrap();
-            assert!(name.starts_with(&short.replace('_', "").to_lowercase()), "{number} is {name} and {short}");
-        }
-    }
-}
-
 /// Every frame that is cut anywhere is a frame or refused, with parts that lie in it, one behind the other.
 #[test]
 fn parts_lie_in_the_frame() {
@@ -240,12 +199,17 @@ fn parts_lie_in_the_frame() {
         match etherparse_c::slice(&frame[..len]) {
             Ok(packet) => {
                 let mut parts = Vec::new();
-                parts.extend(packet.link.map(|layer| layer.header));
-                parts.extend(packet.link_exts.into_iter().flatten().map(|layer| layer.header));
-                parts.extend(packet.net.map(|layer| layer.header));
-                parts.extend(packet.transport.map(|layer| layer.header));
-                parts.push(packet.payload);
-                assert_eq!(parts.concat(), frame[..len], "{len} bytes");
+                parts.extend(packet.link.map(|layer| (layer.offset, layer.header)));
+                parts.extend(packet.link_exts.into_iter().flatten().map(|layer| (layer.offset, layer.header)));
+                parts.extend(packet.net.map(|layer| (layer.offset, layer.header)));
+                parts.extend(packet.transport.map(|layer| (layer.offset, layer.header)));
+                parts.push((packet.payload_offset, packet.payload));
+                let mut end = 0;
+                for (offset, part) in parts {
+                    assert_eq!((offset, part), (end, &frame[end..end + part.len()]), "{len} bytes");
+                    end += part.len();
+                }
+                assert_eq!(end, len);
             }
             Err(refusal) => assert!(!refusal.to_string().is_empty() && len < frame.len()),
         }
@@ -253,6 +217,10 @@ fn parts_lie_in_the_frame() {
     let whole = etherparse_c::slice(&frame).unwrap();
     assert_eq!(whole.ip.map(|ip| (ip.version, ip.number, ip.identification, ip.header_len)), Some((6, 17, 9, 40)));
     assert_eq!((whole.ports, whole.payload), (Some((21, 1234)), &[1u8, 2][..]));
+    let (source, destination) = whole.ip_addresses().unwrap();
+    assert_eq!((source.to_string(), destination.to_string()), ("::1".into(), "::2".into()));
+    assert_eq!(whole.vlan_ids().collect::<Vec<_>>(), [42]);
+    assert_eq!(whole.ethernet2().map(|header| header.ether_type), Some(0x8100));
 }
 
 /// Each kind of layer, and each end of a payload, has its name.
@@ -334,9 +302,65 @@ fn refusals_have_their_texts() {
             let refusal =
                 Refusal { kind: 1, layer, len_source, number: 0, required_len: most, len: 0, layer_start_offset: 7 };
             let text = format!("{name}: {most} bytes needed, 0 there (limit {end}, offset 7)");
-            assert_eq!(etherparse_c::Refusal(refusal).to_string(), text);
+            let refusal = etherparse_c::Refusal(refusal);
+            assert_eq!(refusal.to_string(), text);
+            let error = refusal.len_error().unwrap();
+            assert_eq!((error.required_len, error.len, error.layer_start_offset), (most, 0, 7));
+            assert_eq!((format!("{:?}", error.layer), format!("{:?}", error.len_source)), (name.into(), end.into()));
         }
     }
+}
+
+/// A frame of each kind of refusal, with the number that the kind speaks of.
+#[test]
+fn refusals_have_their_kinds() {
+    use etherparse_c::err::{Layer, LenError};
+    use etherparse_c::{slice_from, Entry, LenSource, RefusalKind};
+    let (v4, v6) = (Entry::EtherType(0x0800), Entry::EtherType(0x86dd));
+    // headers of IP with 12 bytes behind them
+    let ipv4 = |number: u8, behind: [u8; 12]| {
+        [&[0x45, 0, 0, 32, 0, 0, 0, 0, 64, number, 0, 0, 10, 0, 0, 1, 10, 0, 0, 2][..], &behind].concat()
+    };
+    let ipv6 = |number: u8, behind: &[u8]| {
+        let mut header = vec![0x60, 0, 0, 0, 0, behind.len() as u8, number, 64];
+        header.resize(40, 0);
+        [&header, behind].concat()
+    };
+    let cooked = |packet_type: u8| vec![0, packet_type, 0xff, 0, 0, 6, 1, 2, 3, 4, 5, 6, 0, 0, 8, 0];
+    let tcp = [&[0; 12][..], &[0x40, 0, 0, 0, 0, 0, 0, 0]].concat();
+    let refused = [
+        (Entry::LinuxSll, cooked(8), RefusalKind::SllPacketType, Some(8)),
+        (Entry::LinuxSll, cooked(7), RefusalKind::SllArpHardware, Some(0xff00)),
+        (Entry::EtherType(0x88e5), vec![0x80, 0, 0, 0, 0, 0, 8, 0], RefusalKind::MacsecVersion, None),
+        (Entry::EtherType(0x88e5), vec![0, 1, 0, 0, 0, 0, 8, 0], RefusalKind::MacsecShortLen, None),
+        (Entry::Ip, vec![0x50; 20], RefusalKind::IpVersion, Some(5)),
+        (Entry::Ip, vec![0x44; 20], RefusalKind::IpIhl, Some(4)),
+        (v4, vec![0x65; 20], RefusalKind::Ipv4Version, Some(6)),
+        (v4, vec![0x43; 20], RefusalKind::Ipv4Ihl, Some(3)),
+        (v6, vec![0x40; 40], RefusalKind::Ipv6Version, Some(4)),
+        (v4, ipv4(51, [17, 0, 0, 0, 0, 0, 0, 0, 0, 0, 0, 0]), RefusalKind::Ipv4Auth, None),
+        (v6, ipv6(60, &[0, 0, 1, 4, 0, 0, 0, 0, 17, 0, 1, 4, 0, 0, 0, 0]), RefusalKind::Ipv6HopByHop, None),
+        (v6, ipv6(51, &[17, 0, 0, 0, 0, 0, 0, 0, 0, 0, 0, 0]), RefusalKind::Ipv6Auth, None),
+        (v6, ipv6(6, &tcp), RefusalKind::TcpDataOffset, Some(4)),
+    ];
+    for (entry, bytes, kind, number) in refused {
+        let refusal = slice_from(entry, &bytes).unwrap_err();
+        assert_eq!((refusal.kind(), refusal.number(), refusal.len_error()), (Some(kind), number, None));
+    }
+    // a total length of IPv4 that ends in a UDP header
+    let mut cut = ipv4(17, [0; 12]);
+    cut[3] = 25;
+    let refusal = slice_from(v4, &cut).unwrap_err();
+    let error = LenError {
+        required_len: 8,
+        len: 5,
+        len_source: LenSource::Ipv4HeaderTotalLen,
+        layer: Layer::UdpHeader,
+        layer_start_offset: 20,
+    };
+    assert_eq!((refusal.kind(), refusal.number(), refusal.len_error()), (Some(RefusalKind::Len), None, Some(error)));
+    let none = etherparse_c::Refusal(Refusal::default());
+    assert_eq!((none.kind(), none.number(), none.len_error()), (None, None, None));
 }
 
 /// A text is written where it has room, and else nothing is.
