@@ -2,8 +2,9 @@
 """Says what the documents name that is not there: python3 docs/check_names.py
 
 A name in backticks has to stand somewhere in the code, a link has to lead to a file, and to a heading where it names one,
-a definition has to stand in the file that its link leads to, and each public call with a contract and each law of a
-library has to be named in the README of its crate. Where nothing is wrong it prints nothing, and its status is 0.
+a definition has to stand in the file that its link leads to, each public call with a contract and each law of a library
+has to be named in the README of its crate, each of its clauses in a row of its own there. Where nothing is wrong it
+prints nothing, and its status is 0.
 """
 import os
 import re
@@ -12,7 +13,9 @@ from glob import glob
 
 # Names of Rust and of the toolchain, which no file of the repository has.
 OTHERS = {"splice", "in_lanes", "rattle", "kit", "crates", "txt", "antt", "edit", "sh", "rlib"}
-LIBRARIES = "ep_base ep_link ep_ext ep_ip ep_transport ep_packet ep_build ep_defrag etherparse_c capture_reader".split()
+LIBRARIES = "ep_base ep_link ep_ext ep_ip ep_transport ep_packet ep_build ep_defrag etherparse_c capture_reader line_io".split()
+# Laws whose clauses are one for each type or number, and stand in one row.
+ONE_FOR_EACH = {"constants", "comparisons", "pool_comparisons", "equalities", "clones", "clones_succeed"}
 CODE = ["crates/*/src/**/*.rt", "crates/*/specs/**/*.antt", "crates/*/proofs/**/*.antt", "crates/*/*.py"]
 CODE += ["crates/*/compare/*", "crates/*/must-fail/*", "include/*", "rust/**/*.rs", "examples/**/*", "docs/*.*", ".ci/*"]
 
@@ -56,13 +59,45 @@ def names_in(text):
 
 
 def calls_of(crate):
-    """The public functions of a crate that have a contract."""
+    """The public functions of a crate that have a contract, each with the names of its clauses."""
     for path in files([f"crates/{crate}/src/**/*.rt"]):
         if "/tests" not in path:
             # a signature goes up to the line with which the body begins, or to `{}`
             for name, rest in re.findall(r"^ *pub (?:const |extern \"C\" )*fn (\w+)(.*?)^ *\{\}?$", read(path), re.M | re.S):
-                if "ensures" in rest.split("\n    }\n")[0]:
-                    yield name
+                clauses = re.findall(r"ensures\s+(\w*)\s*\{", rest.split("\n    }\n")[0])
+                if clauses and not rest.split("\n")[0].endswith("{"):
+                    yield name, {clause for clause in clauses if clause}
+
+
+def rows_of(crate):
+    """The rows of a crate's tables of calls and laws: the cell of the call, which goes down to the rows without one, and that of the clause."""
+    head = call = ""
+    for line in read(f"crates/{crate}/README.md").split("\n"):
+        cells = [cell.strip() for cell in line.strip("|").split("|")]
+        if not line.startswith("|"):
+            head = ""
+        elif not head:
+            head = cells[0]
+        elif head in ("Call", "Law") and not line.startswith("|---"):
+            call = cells[0] or call
+            yield call, cells[1], cells[2]
+
+
+def missing_rows(crate):
+    """What is wrong with a crate's tables of calls and laws."""
+    rows = list(rows_of(crate))
+    for call, clause, said in rows:
+        if len(re.findall(r"`\w+`", clause)) > 1:
+            yield f"{call} has several clauses in one row: {clause}"
+        if re.match(r"(the same|so (is|are|it)|likewise)\b", said):
+            yield f"{call} has a row that says what another says: {said}"
+    for name, clauses in calls_of(crate):
+        mine = [clause for call, clause, _ in rows if name in re.findall(r"\w+", call)]
+        if not mine:
+            yield f"{name} has no row"
+        elif name not in ONE_FOR_EACH:
+            known = set(re.findall(r"\w+", " ".join(mine)))
+            yield from (f"{name} has no row of its clause {clause}" for clause in sorted(clauses - known))
 
 
 def main():
@@ -94,8 +129,7 @@ def main():
             if anchor and anchor not in anchors(page):
                 wrong.append(f"{path}: {link} names no heading")
     for crate in LIBRARIES:
-        named = set(re.findall(r"\w+", read(f"crates/{crate}/README.md")))
-        wrong += [f"crates/{crate}/README.md: {call} has no row" for call in calls_of(crate) if call not in named]
+        wrong += [f"crates/{crate}/README.md: {what}" for what in missing_rows(crate)]
     for line in wrong:
         print(line)
     sys.exit(bool(wrong))
