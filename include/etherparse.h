@@ -100,7 +100,10 @@ struct etherparse_ip {
     size_t header_len;        /* the IP header's bytes, without extension headers */
 };
 
-/* The payload of the last layer that was read. */
+/* The payload of the last layer that was read. What set its end is the innermost length field that counts it, whether
+ * it cut something off or not: that of UDP where it is not 0, else that of IP (a payload length of 0 counts nothing in
+ * IPv6, where bytes follow), else the short length of a MACsec tag where it is not 0, else the length that was
+ * passed. */
 struct etherparse_payload {
     uint32_t len_source; /* enum etherparse_len_source */
     size_t offset;
@@ -155,7 +158,7 @@ enum etherparse_layer {
 struct etherparse_refusal {
     uint32_t kind;             /* enum etherparse_refusal_kind */
     uint32_t layer;            /* kind LEN: enum etherparse_layer */
-    uint32_t len_source;       /* kind LEN: what set the number of bytes at hand */
+    uint32_t len_source;       /* kind LEN: what set the number of bytes at hand; END_SLICE behind a MACsec tag too */
     uint32_t number;           /* the number that the bytes hold, of the kinds that name it */
     size_t required_len;       /* kind LEN: the number of bytes that the layer needs */
     size_t len;                /* kind LEN: the number of bytes at hand */
