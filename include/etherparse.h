@@ -81,7 +81,8 @@ struct etherparse_part {
     size_t len;
 };
 
-/* The tag of a link extension. */
+/* The tag of a link extension. It begins behind the ether type that names it, and ends with that of what follows (of
+ * MACsec where it can be read): a VLAN tag has 4 bytes, the first two with priority and identifier. */
 struct etherparse_link_ext {
     uint32_t kind;    /* enum etherparse_ext_kind */
     uint16_t vlan_id; /* the identifier of a VLAN tag; 0 of MACsec */
@@ -102,8 +103,8 @@ struct etherparse_ip {
 
 /* The payload of the last layer that was read. What set its end is the innermost length field that counts it, whether
  * it cut something off or not: that of UDP where it is not 0, else that of IP (a payload length of 0 counts nothing in
- * IPv6, where bytes follow), else the short length of a MACsec tag where it is not 0, else the length that was
- * passed. */
+ * IPv6, where bytes follow), else the short length of a MACsec tag where it is not 0, else the length that was passed.
+ * Behind an ARP packet there is no payload: len is 0, and len_source ETHERPARSE_END_ARP. */
 struct etherparse_payload {
     uint32_t len_source; /* enum etherparse_len_source */
     size_t offset;
@@ -113,7 +114,7 @@ struct etherparse_payload {
 /* Why bytes are no frame. */
 enum etherparse_refusal_kind {
     ETHERPARSE_REFUSAL_NONE = 0,
-    ETHERPARSE_REFUSAL_LEN = 1,              /* a layer needs more bytes than there are */
+    ETHERPARSE_REFUSAL_LEN = 1,              /* a layer needs another number of bytes than there are */
     ETHERPARSE_REFUSAL_SLL_PACKET_TYPE = 2,  /* the packet type of a cooked capture is `number`, above 7 */
     ETHERPARSE_REFUSAL_SLL_ARP_HARDWARE = 3, /* its hardware type `number` is not known */
     ETHERPARSE_REFUSAL_MACSEC_VERSION = 4,   /* the version bit of MACsec is set */
@@ -154,11 +155,14 @@ enum etherparse_layer {
     ETHERPARSE_LAYER_ICMPV6 = 21
 };
 
-/* Why bytes are no frame; all 0 of a frame. */
+/* Why bytes are no frame; all 0 of a frame. Of the kind LEN required_len is above len, but for timestamps of ICMPv4,
+ * which have exactly 20 bytes: there len may be the greater one, so compare before you subtract. len_source is what set
+ * the end of the len bytes, but that a MACsec short length did is told as ETHERPARSE_END_SLICE; ETHERPARSE_END_ARP says
+ * what set required_len. */
 struct etherparse_refusal {
     uint32_t kind;             /* enum etherparse_refusal_kind */
     uint32_t layer;            /* kind LEN: enum etherparse_layer */
-    uint32_t len_source;       /* kind LEN: what set the number of bytes at hand; END_SLICE behind a MACsec tag too */
+    uint32_t len_source;       /* kind LEN: what set len, enum etherparse_len_source */
     uint32_t number;           /* the number that the bytes hold, of the kinds that name it */
     size_t required_len;       /* kind LEN: the number of bytes that the layer needs */
     size_t len;                /* kind LEN: the number of bytes at hand */
@@ -211,9 +215,12 @@ uint16_t etherparse_checksum(const uint8_t *bytes, size_t len);
  * - ETHERPARSE_TOO_SMALL: the buffer has too few bytes, and `written` says how many the frame has;
  * - ETHERPARSE_TOO_LONG: the payload is too long;
  * - ETHERPARSE_OUT_OF_MEMORY.
- * But for ETHERPARSE_OK the buffer is as it was, and but for ETHERPARSE_TOO_SMALL `written` is then 0. */
+ * But for ETHERPARSE_OK the buffer is as it was, and but for ETHERPARSE_TOO_SMALL `written` is then 0.
+ *
+ * What is not given is 0, but that IPv4 says not to fragment. A frame is not padded to Ethernet's least length. */
 
-/* The headers before the transport header. The addresses of the other version are not read. */
+/* The headers before the transport header. The addresses of the other version, and those of Ethernet where
+ * with_ethernet is 0, do not matter. */
 struct etherparse_route {
     uint8_t version;       /* 4 or 6 */
     uint8_t with_ethernet; /* 0: the frame begins with the IP header; else with an Ethernet II header */
@@ -267,10 +274,14 @@ uint32_t etherparse_build_icmp_echo(const struct etherparse_route *route, uint8_
 /* ---- Putting fragmented payloads together
  *
  * A pool holds what came of each payload that is not complete yet. Each is put together as if it were alone: fragments
- * belong together where VLAN tags, addresses, identification, protocol and the caller's channel are the same. A pool
- * takes memory by malloc, which etherparse_pool_free gives back. It stays on the thread that made it, for one call at a
- * time; other threads may have pools of their own. Nothing but etherparse_pool_drop_older bounds the number of streams
- * that are not complete: where frames may be hostile, set a limit and drop old streams, or memory grows without end. */
+ * belong together where VLAN identifiers, addresses, identification, protocol and the caller's channel are the same.
+ * Fragments may overlap: of each byte the last that was taken counts. A pool takes memory by malloc, which
+ * etherparse_pool_free gives back. It stays on the thread that made it, for one call at a time; other threads may have
+ * pools of their own.
+ *
+ * Where frames may be hostile, set a limit and drop old streams: nothing but etherparse_pool_drop_older bounds the
+ * number of streams that are not complete, and memory grows without end. Streams are found by a hash whose seed is
+ * fixed, so whoever picks their names can make a call take time in proportion to the number of streams. */
 struct etherparse_pool;
 
 /* The greatest number of bytes of a payload in a pool of etherparse_pool_new. */
@@ -282,24 +293,25 @@ uint32_t etherparse_pool_new(struct etherparse_pool **pool);
 
 /* The same of a pool in which no payload is longer than `limit` bytes: a fragment that ends behind it is refused. The
  * limit bounds what one stream can cost, and a buffer of that many bytes has room for every payload. Below 8 no payload
- * of more than one fragment is ever complete. */
+ * is ever complete. */
 uint32_t etherparse_pool_with_limit(uint16_t limit, struct etherparse_pool **pool);
 
 /* Frees a pool that one of these calls made. It must not be used again. */
 void etherparse_pool_free(struct etherparse_pool *pool);
 
-/* Why a fragment is refused. */
+/* Why a fragment is refused: of several reasons TOO_BIG is told before UNALIGNED, and that before CONFLICTING_END. */
 enum etherparse_fragment_refusal {
     ETHERPARSE_FRAGMENT_UNALIGNED = 1,      /* its length is no multiple of 8, and more fragments follow */
     ETHERPARSE_FRAGMENT_TOO_BIG = 2,        /* it ends behind the pool's limit */
-    ETHERPARSE_FRAGMENT_CONFLICTING_END = 3 /* it ends elsewhere than others say */
+    ETHERPARSE_FRAGMENT_CONFLICTING_END = 3 /* it ends behind the known end, or is the last one and ends before that or
+                                             * before the end of what came */
 };
 
 /* What is told of a frame that is given to a pool. What the status does not speak of is 0. */
 struct etherparse_pool_answer {
     struct etherparse_refusal refusal; /* ETHERPARSE_REFUSED: why the bytes are no frame */
     uint32_t fragment_refusal; /* ETHERPARSE_FRAGMENT_REFUSED: enum etherparse_fragment_refusal */
-    uint32_t len_source; /* of a payload: what gave the lengths of its fragments, enum etherparse_len_source */
+    uint32_t len_source; /* of a payload: ETHERPARSE_END_IPV4 or ETHERPARSE_END_IPV6, by the version of its fragments */
     uint8_t ip_number;   /* of a payload: its protocol number */
     size_t len;          /* of a payload: the number of its bytes */
 };
@@ -311,7 +323,7 @@ struct etherparse_pool_answer {
  *   in the pool until etherparse_pool_take hands it out;
  * - ETHERPARSE_OK: none is complete with it; it carries a fragment that is now held, or none;
  * - ETHERPARSE_REFUSED, ETHERPARSE_FRAGMENT_REFUSED, ETHERPARSE_OUT_OF_MEMORY (for the fragment),
- *   ETHERPARSE_UNKNOWN_CHOICE (of the entry): the streams are as they were;
+ *   ETHERPARSE_UNKNOWN_CHOICE (of the entry, also where a payload waits): the streams are as they were;
  * - ETHERPARSE_PAYLOAD_WAITS: the frame was not looked at, since a payload of `answer->len` bytes waits.
  * But for ETHERPARSE_COMPLETE the buffer is as it was. */
 uint32_t etherparse_pool_push(struct etherparse_pool *pool, uint32_t entry, uint16_t ether_type, const uint8_t *bytes,
@@ -324,7 +336,8 @@ uint32_t etherparse_pool_push(struct etherparse_pool *pool, uint32_t entry, uint
 uint32_t etherparse_pool_take(struct etherparse_pool *pool, uint8_t *buffer, size_t buffer_len,
                               struct etherparse_pool_answer *answer);
 
-/* Drops the streams whose last fragment that was taken came before `timestamp`. */
+/* Drops the streams whose last fragment that was taken came before `timestamp`. What they took is kept for later
+ * streams, until the pool is freed. */
 void etherparse_pool_drop_older(struct etherparse_pool *pool, uint64_t timestamp);
 
 #ifdef __cplusplus

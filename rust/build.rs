@@ -13,7 +13,7 @@ fn main() {
     println!("cargo:rerun-if-changed={}", archive.join("libetherparse_c.a").display());
     println!("cargo:rerun-if-changed={}", heap.display());
     let object = out.join("etherparse_heap.o");
-    run(Command::new("cc").args(["-O2", "-c"]).arg(&heap).arg("-o").arg(&object));
+    run(Command::new("cc").args(["-O2", "-fPIC", "-c"]).arg(&heap).arg("-o").arg(&object));
     run(Command::new("ar").arg("crs").arg(out.join("libetherparse_heap.a")).arg(&object));
     println!("cargo:rustc-link-search=native={}", archive.display());
     println!("cargo:rustc-link-search=native={}", out.display());

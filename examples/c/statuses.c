@@ -223,14 +223,20 @@ static void pools(void) {
     WANT(pushed(pool, 1, 16, 32, true, 39, &told) == ETHERPARSE_TOO_SMALL && told.len == 40 && is_untouched(0));
     WANT(push(pool, 2, 0, 8, true, 1, 40, &told) == ETHERPARSE_PAYLOAD_WAITS && told.len == 40 && is_untouched(0));
     WANT(etherparse_pool_push(pool, 4, 0, payload, 9, 1, 0, buffer, 40, &told) == ETHERPARSE_UNKNOWN_CHOICE);
+    WANT(etherparse_pool_push(pool, ETHERPARSE_ENTRY_IP, 0, payload, 9, 1, 0, buffer, 40, &told)
+         == ETHERPARSE_PAYLOAD_WAITS);
     etherparse_pool_drop_older(pool, 1);
     WANT(etherparse_pool_take(pool, buffer, 39, &told) == ETHERPARSE_TOO_SMALL && told.len == 40 && is_untouched(0));
-    WANT(etherparse_pool_take(pool, buffer, 40, &told) == ETHERPARSE_COMPLETE);
+    unsigned long held = blocks;
+    WANT(etherparse_pool_take(pool, buffer, 40, &told) == ETHERPARSE_COMPLETE && blocks == held - 1);
     WANT(told.len == 40 && told.ip_number == 17 && told.len_source == ETHERPARSE_END_IPV4);
     for (size_t i = 0; i < 40; i++) WANT(buffer[i] == i);
     WANT(is_untouched(40));
     memcpy(buffer, untouched, ROOM);
     WANT(etherparse_pool_take(pool, buffer, ROOM, &told) == ETHERPARSE_OK && told.len == 0 && is_untouched(0));
+    WANT(etherparse_pool_push(pool, ETHERPARSE_ENTRY_IP, 0, payload, 9, 1, 0, buffer, 40, &told)
+         == ETHERPARSE_REFUSED);
+    WANT(told.refusal.kind != ETHERPARSE_REFUSAL_NONE && told.len == 0 && is_untouched(0));
     /* the other stream stayed, until it is dropped */
     etherparse_pool_drop_older(pool, 2);
     WANT(push(pool, 2, 0, 8, true, 2, ROOM, &told) == ETHERPARSE_OK);

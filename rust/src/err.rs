@@ -4,7 +4,7 @@ use crate::numbered::numbered;
 use crate::LenSource;
 
 numbered! {
-    /// A layer that needs more bytes than there are.
+    /// A layer that needs another number of bytes than there are.
     pub enum Layer {
         Ethernet2Header = LAYER_ETHERNET2_HEADER,
         LinuxSllHeader = LAYER_LINUX_SLL_HEADER,
@@ -30,14 +30,14 @@ numbered! {
     }
 }
 
-/// A layer needs more bytes than there are.
+/// A layer needs another number of bytes than there are: more, but of a timestamp of ICMPv4 exactly 20.
 #[derive(Clone, Copy, Debug, PartialEq, Eq, Hash)]
 pub struct LenError {
     /// The number of bytes that the layer needs.
     pub required_len: usize,
     /// The number of bytes at hand.
     pub len: usize,
-    /// What set that number.
+    /// What set that number, a MACsec short length told as `Slice`; `ArpAddrLengths` says what set `required_len`.
     pub len_source: LenSource,
     pub layer: Layer,
     /// Where in the frame the layer begins.

@@ -101,7 +101,7 @@ pub fn slice_from(entry: Entry, frame: &[u8]) -> Result<Packet<'_>, Refusal> {
             told.as_mut_ptr(),
         )
     };
-    // SAFETY: whatever it answers, the call reads nothing there and writes each field.
+    // SAFETY: whatever it answers, it wrote each field, by its contract; what stood there is of no use to it.
     let told = unsafe { told.assume_init_ref() };
     if status != declared::OK {
         return Err(Refusal(told.refusal));

@@ -23,7 +23,7 @@ pub enum PushError {
     Unaligned,
     /// The fragment ends behind the pool's limit.
     TooBig,
-    /// The fragment ends elsewhere than others say.
+    /// The fragment ends behind the known end, or is the last one and ends before that or before the end of what came.
     ConflictingEnd,
     /// There was no memory for the fragment.
     OutOfMemory,
@@ -54,7 +54,7 @@ impl std::error::Error for PushError {}
 pub struct Payload<'a> {
     /// Its protocol number.
     pub ip_number: u8,
-    /// What gave the lengths of its fragments.
+    /// The total length of IPv4 or the payload length of IPv6, by the version of its fragments.
     pub len_source: LenSource,
     pub bytes: &'a [u8],
 }
@@ -90,7 +90,6 @@ pub struct Payload<'a> {
 /// fn sent<T: Send>() {}
 /// sent::<etherparse_c::Pool>();
 /// ```
-#[derive(Debug)]
 pub struct Pool {
     pool: ptr::NonNull<declared::Pool>,
     /// Where payloads are handed out: as many bytes as the longest may have, so that none ever waits in the pool.
@@ -183,6 +182,13 @@ impl Pool {
     pub fn drop_older(&mut self, timestamp: u64) {
         // SAFETY: the pool is one that was made and not freed.
         unsafe { declared::etherparse_pool_drop_older(self.pool.as_ptr(), timestamp) };
+    }
+}
+
+impl fmt::Debug for Pool {
+    /// Without the bytes of payloads.
+    fn fmt(&self, f: &mut fmt::Formatter<'_>) -> fmt::Result {
+        f.debug_struct("Pool").finish_non_exhaustive()
     }
 }
 

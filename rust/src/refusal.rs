@@ -6,7 +6,7 @@ use std::fmt;
 numbered! {
     /// What is wrong with bytes that are no frame. Where a line speaks of a number, [`Refusal::number`] has it.
     pub enum RefusalKind {
-        /// A layer needs more bytes than there are: [`Refusal::len_error`] says which, and how many.
+        /// A layer needs another number of bytes than there are: [`Refusal::len_error`] says which, and how many.
         Len = REFUSAL_LEN,
         /// The packet type of a cooked capture is the number, above 7.
         SllPacketType = REFUSAL_SLL_PACKET_TYPE,

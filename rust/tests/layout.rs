@@ -127,14 +127,16 @@ fn layouts_are_the_same() {
     }
 }
 
-/// A call: its name, and how its parameters and its result are passed, `ptr` for every address.
-type Calls = BTreeMap<String, (Vec<&'static str>, Option<&'static str>)>;
+/// A call: its name, its parameters, each with how it is passed, and how its result is.
+type Calls = BTreeMap<String, (Vec<(String, &'static str)>, Option<&'static str>)>;
 
-/// How a value of a type is passed.
+/// How a value of a type is passed; of an address, whether what is there may be written.
 fn passed(kind: &str) -> &'static str {
-    match kind.trim_start_matches("const ").split(' ').next().unwrap() {
-        _ if kind.contains(['*', '&']) => "ptr",
-        "OwnedPool" => "ptr", // a struct of one address
+    match kind.split(' ').next().unwrap() {
+        _ if kind.contains("&mut") || kind.contains("*mut") => "mut ptr",
+        _ if kind.starts_with("const ") || kind.starts_with(['&', '*']) => "const ptr",
+        _ if kind.contains('*') => "mut ptr",
+        "OwnedPool" => "mut ptr", // a struct of one address
         "u8" | "uint8_t" => "u8",
         "u16" | "uint16_t" => "u16",
         "u32" | "uint32_t" => "u32",
@@ -144,16 +146,26 @@ fn passed(kind: &str) -> &'static str {
     }
 }
 
+/// A parameter. The number of bytes at an address has no name of its own in Rattle, and what a pool answers another.
+fn parameter(name: &str, kind: &str) -> (String, &'static str) {
+    let name = match name {
+        "told" => "answer",
+        _ if name.ends_with("len") => "len",
+        _ => name,
+    };
+    (name.to_string(), passed(kind))
+}
+
 /// The calls that a text of Rust or Rattle declares, each behind this word. A `Global` is not passed, and a slice is
 /// passed as its address and its length.
 fn calls_of(text: &str, word: &str) -> Calls {
     let one = |declared: &str| {
         let (name, rest) = declared.split_once('(').unwrap();
         let (params, rest) = rest.split_once(')').unwrap();
-        let kinds = params.split(',').filter_map(|param| Some(param.split_once(": ")?.1.trim()));
-        let passed_as = kinds.filter(|kind| *kind != "Global").flat_map(|kind| match kind {
-            "&[u8]" | "&mut [u8]" => vec!["ptr", "usize"],
-            other => vec![passed(other)],
+        let params = params.split(',').filter_map(|param| param.trim().split_once(": "));
+        let passed_as = params.filter(|(_, kind)| *kind != "Global").flat_map(|(name, kind)| match kind {
+            "&[u8]" | "&mut [u8]" => vec![parameter(name, kind), parameter("len", "usize")],
+            other => vec![parameter(name, other)],
         });
         let result = rest.trim_start().strip_prefix("-> ").map(|result| passed(&result[..3]));
         (name.to_string(), (passed_as.collect(), result))
@@ -169,7 +181,10 @@ fn calls_of_c(text: &str) -> Calls {
     let one = |declared: &str| {
         let (head, params) = declared.trim().strip_suffix(')')?.split_once('(')?;
         let (result, name) = head.lines().last()?.split_once(' ')?;
-        let params = params.split(',').map(|param| passed(param.trim()));
+        let params = params.split(',').map(|param| {
+            let (kind, name) = param.trim().split_at(param.trim().rfind([' ', '*']).unwrap() + 1);
+            parameter(name, kind.trim())
+        });
         Some((name.to_string(), (params.collect(), (result != "void").then(|| passed(result)))))
     };
     code.split(';').filter_map(one).collect()

@@ -1,0 +1,90 @@
+#!/usr/bin/env python3
+"""Measures what an item takes in time, beside C: python3 compare/times.py PROGRAM FOLDER
+
+PROGRAM is out/slice_bench, and FOLDER has the corpora that corpora.py wrote. walk.c, build.c and appends.c beside this
+file are built with gcc -O2. Prints, as rows of tables, in nanoseconds of processor time an item, each the least of
+REPEATS runs on one processor:
+
+- of each corpus each measurement of frames, and the walk in C;
+- of building a frame, and the same by hand in C;
+- of each fragment that is put together, what some rounds take less what one takes, so that reading the file is not in
+  it, and the same by hand in C.
+"""
+import os
+import re
+import subprocess
+import sys
+import tempfile
+
+HERE = os.path.dirname(os.path.abspath(__file__))
+REPEATS = 5
+FRAMES = ["udp64", "udp1400", "vlan2", "mix"]
+MEASUREMENTS = ["slicing", "slicing-apart", "filling", "decoding", "rereading", "ipv4-slice", "ip-headers"]
+# the fragments of a corpus, by how many rounds are made besides the first
+FRAGMENTS = dict.fromkeys(["streams", "interleaved", "queue", "crowd"], 5)
+FRAGMENTS |= dict.fromkeys(["ascending", "descending", "shuffled", "alternating"], 60)
+
+
+def ran(*command):
+    """The seconds of processor time that a command takes, and what it prints."""
+    with subprocess.Popen([str(word) for word in command], stdout=subprocess.PIPE, text=True) as process:
+        printed = process.stdout.read()
+        _, status, used = os.wait4(process.pid, 0)
+        process.returncode = os.waitstatus_to_exitcode(status)
+    if process.returncode:
+        sys.exit(f"times.py: {' '.join(map(str, command))} ended with status {process.returncode}")
+    return used.ru_utime + used.ru_stime, printed
+
+
+def least(pattern, *command):
+    """The least of the numbers that the pattern finds in what runs of a command print."""
+    return min(float(re.search(pattern, ran(*command)[1])[1]) for _ in range(REPEATS))
+
+
+def rounds_beyond_one(rounds, items, command):
+    """The nanoseconds an item of so many rounds, beyond those of one: the least of several."""
+    def once(number):
+        return min(ran(*command(number))[0] for _ in range(REPEATS))
+
+    return (once(rounds + 1) - once(1)) / rounds / items * 1e9
+
+
+def row(name, values, digits=1):
+    print(f"| {name} | " + " | ".join(f"{value:.{digits}f}" for value in values) + " |", flush=True)
+
+
+def heading(*names):
+    print("\n| " + " | ".join(names) + " |\n" + "|---" * len(names) + "|", flush=True)
+
+
+def main(program, folder):
+    os.sched_setaffinity(0, {max(os.sched_getaffinity(0))})
+    with tempfile.TemporaryDirectory() as made:
+        for name in ["walk", "build", "appends"]:
+            subprocess.run(["gcc", "-O2", f"{HERE}/{name}.c", "-o", f"{made}/{name}"], check=True)
+
+        heading("Corpus", *(f"`{name}`" for name in MEASUREMENTS), "walk in C")
+        for corpus in FRAMES:
+            file = f"{folder}/{corpus}"
+            values = [least(rf"{name} +\d+ +\d+ +([\d.]+)", program, file, 400, name) for name in MEASUREMENTS]
+            row(f"`{corpus}`", [*values, least(r"([\d.]+) ns", f"{made}/walk", file, 400)])
+
+        heading("Frame", "`building`", "by hand in C")
+        for corpus, size in [("udp64", 64), ("udp1400", 1400)]:
+            mean = least(r"building +\d+ +\d+ +([\d.]+)", program, f"{folder}/{corpus}", 60, "building")
+            row(f"`{corpus}`", [mean, least(r"([\d.]+) ns", f"{made}/build", size, 200_000)], 0)
+
+        heading("", *(f"`{corpus}`" for corpus in FRAGMENTS))
+        here, by_hand = [], []
+        for corpus, rounds in FRAGMENTS.items():
+            file = f"{folder}/{corpus}"
+            items = int(re.search(r"reassembly +(\d+)", ran(program, file, 1, "reassembly")[1])[1])
+            here.append(rounds_beyond_one(rounds, items, lambda number: [program, file, number, "reassembly"]))
+            by_hand.append(least(r"([\d.]+) ns", f"{made}/appends", file, rounds))
+        row("`slice_bench`", here, 0)
+        row("by hand in C", by_hand, 0)
+
+
+if len(sys.argv) != 3:
+    sys.exit(__doc__)
+main(*sys.argv[1:])
