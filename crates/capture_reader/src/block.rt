@@ -2,7 +2,7 @@
 
 ghost use Rattle.std.specs.Prelude.{◌≡◌, ◌≤◌, ◌+◌, ◌-◌, List, None, IfErr, IfOk, drop, length, slice_range};
 ghost use Rattle.ep_base.specs.Tables.{Refuses, first_row};
-ghost use Rattle.capture_reader.specs.Blocks.{IsBlock, RefusesBlock, block_in, block_of, body_rows, kept_of, kept_rows};
+ghost use Rattle.capture_reader.specs.Blocks.{IsBlock, RefusesBlock, block_in, body_rows, kept_of, kept_rows};
 ghost use Rattle.capture_reader.specs.Blocks.{kind_of, known_order, knows_minor, least_len, order_said, section_after};
 ghost use Rattle.capture_reader.specs.Captures.{block_shown};
 ghost use Rattle.capture_reader.specs.BlockContents.{FitsLen, IsFramed, Says, content_interfaces, content_shown, section_of};

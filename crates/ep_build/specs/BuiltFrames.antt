@@ -36,13 +36,15 @@ pub record Held : Type 0 where
   pub link : LinkPart
   pub inside : Inside
 
--- these headers
+-- IP headers behind a link part, with the number of the payload
 abbrev pub held_ip : LinkPart → IpHeaders → IpNumber → Held
 held_ip part headers last = record { link = part; inside = ip_packet headers last }
 
+-- an IP packet with a transport header behind a link part
 abbrev pub held_transport : LinkPart → IpHeaders → TransportHeader → Held
 held_transport part headers behind = record { link = part; inside = transport_packet headers behind }
 
+-- an ARP packet behind a link part
 abbrev pub held_arp : LinkPart → Arp → Held
 held_arp part packet = record { link = part; inside = arp_packet packet }
 
@@ -88,6 +90,7 @@ abbrev pub tags_len : VlanHeader → ℕ
 tags_len (tags.Single tag) = 4
 tags_len (tags.Double both) = 8
 
+-- the number of bytes of a link part
 abbrev pub link_part_len : LinkPart → ℕ
 link_part_len link.Absent = 0
 link_part_len (link.Ethernet2 header) = ethernet2_header_len

@@ -1,29 +1,27 @@
 -- Of each stream of which some frame carries a fragment, frames that carry others.
-use Rattle.std.proofs.Common.{◌≡◌, ℕ, zero, suc, ◌+◌, ◌*◌, ◌/◌, ◌^◌, ◌<◌, ◌≤◌, Bool, true, false, cond, not, ◌||◌, ◌&&◌, eqb, ltb, List, [], ◌∷◌, ◌++◌, append_assoc, length, Option, Some, None, sym, refl, ap, ◌∙◌, subst, inl, inr, arith}
+use Rattle.std.proofs.Common.{◌≡◌, ℕ, zero, suc, ◌+◌, ◌*◌, ◌/◌, ◌^◌, ◌<◌, ◌≤◌, Bool, true, false, cond, ◌||◌, eqb, ltb, List, [], ◌∷◌, ◌++◌, append_assoc, length, Option, Some, None, sym, refl, ap, ◌∙◌, subst, inl, inr, arith}
 use Rattle.std.specs.List.{AllByRecursion}
 use Rattle.std.specs.Option.{option_and_then}
 use Rattle.std.specs.Int.{w16, w32, to_be_bytes}
-use Rattle.std.proofs.lemmas.Bool.{cases_Bool, false≢true, eqb-true}
+use Rattle.std.proofs.lemmas.Bool.{cases_Bool}
 use Rattle.std.proofs.lemmas.Bool.Decides.{nat_tests}
 use Rattle.std.proofs.lemmas.List.{append-nil, length-append}
-use Rattle.ep_base.specs.Bytes.{AreBytes, bit}
+use Rattle.ep_base.specs.Bytes.{AreBytes}
 use Rattle.ep_base.specs.EtherTypes.{ipv4_type, ipv6_type, vlan_type}
 use Rattle.ep_base.specs.IpNumbers.{authentication_number, fragment_number, hop_by_hop_number}
-use Rattle.ep_base.specs.IpPayload.{IpPayload}
 use Rattle.ep_base.specs.Layer.{slices}
 use Rattle.ep_base.specs.declared.ether_type.EtherType.{EtherType}
 use Rattle.ep_base.specs.declared.len_source.LenSource.TheVariants as by_source
-use Rattle.ep_base.proofs.BytesLemmas.{bit_le}
 use Rattle.ep_ext.specs.declared.ip_auth_header.IpAuthHeader.{IpAuthHeader}
 use Rattle.ep_ext.specs.declared.ipv6_fragment_header.Ipv6FragmentHeader.{Ipv6FragmentHeader}
-use Rattle.ep_ext.specs.Chains.{IpVersion, ipv4, ipv6, chain_of, demand_of, ends, takes, misplaced, is_first, is_ipv6_extension, IsChainBehind, IsExtensionChain}
+use Rattle.ep_ext.specs.Chains.{IpVersion, ipv4, ipv6, chain_of, demand_of, ends, takes, misplaced, is_first, IsChainBehind, IsExtensionChain}
 use Rattle.ep_ext.specs.ExtensionParts.{ExtensionPart, hop_by_hop, destination_options, routing, fragment, authentication, part_next, IsExtensionPart}
 use Rattle.ep_ext.specs.FragmentHeader.{FitsFragmentHeader, fragment_header_bytes}
 use Rattle.ep_ext.specs.IpAuth.{ip_auth_with, ip_auth_bytes}
 use Rattle.ep_ip.specs.declared.ipv4_header.Ipv4Header.{Ipv4Header}
 use Rattle.ep_ip.specs.declared.ipv6_header.Ipv6Header.{Ipv6Header}
 use Rattle.ep_ip.specs.Ipv4.{FitsIpv4, ipv4_header_len, ipv4_flags_with, ipv4_bytes, default_ipv4_header, is_ipv4_fragment}
-use Rattle.ep_ip.specs.Ipv6.{FitsIpv6, ipv6_bytes}
+use Rattle.ep_ip.specs.Ipv6.{ipv6_bytes}
 use Rattle.ep_ip.specs.IpPackets.{IpPacket, ipv4_part, ipv6_part, IsIpv4, IsIpv6}
 use Rattle.ep_link.specs.declared.link_ext.single_vlan_header.SingleVlanHeader.{SingleVlanHeader}
 use Rattle.ep_link.specs.LinkExtensions.{LinkExtension, vlan, macsec, BeginsLinkExtension}
@@ -32,9 +30,9 @@ use Rattle.ep_link.specs.LinuxSll.{protocol_ether_type}
 use Rattle.ep_link.specs.Vlan.{vlan_bytes}
 use Rattle.ep_packet.specs.declared.entry.Entry.{Entry}
 use Rattle.ep_packet.specs.declared.entry.Entry.TheVariants as at_entry
-use Rattle.ep_packet.specs.FrameFragments.{FragmentId, ipv4_id, ipv6_id, FrameFragment, first_fragment, ipv4_fragment, ipv6_fragment, net_fragment, fragment_of}
+use Rattle.ep_packet.specs.FrameFragments.{FragmentId, ipv4_id, ipv6_id, FrameFragment, first_fragment, ipv6_fragment, net_fragment}
 use Rattle.ep_packet.specs.Frame.{NetKind, only_ipv4, only_ipv6, only_arp, any_ip, net_kind, IsNetLayer, IsNetPart, IsInside, IsFrame}
-use Rattle.ep_packet.specs.Layers.{Layers, NetLayer, ipv4_layer, ipv6_layer, ip_layer}
+use Rattle.ep_packet.specs.Layers.{Layers, NetLayer, ipv4_layer, ipv6_layer}
 use Rattle.ep_packet.specs.VlanTags.{vlan_ids_in}
 use Rattle.ep_transport.specs.TransportParts.{TransportLayer}
 use Rattle.ep_defrag.specs.IpFragments.{IpFragment}

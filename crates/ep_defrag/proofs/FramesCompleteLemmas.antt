@@ -1,5 +1,5 @@
 -- Frames that complete a stream, with what a pool answers them.
-use Rattle.std.proofs.Common.{◌≡◌, ◌<◌, ◌≤◌, ◌^◌, ℕ, ◌*◌, Bool, true, false, List, [], ◌∷◌, ◌++◌, append_assoc, length, Option, Some, None, sym, refl, ap, ◌∙◌, subst, ◌⊎◌, inl, inr, arith}
+use Rattle.std.proofs.Common.{◌≡◌, ◌≤◌, ℕ, Bool, true, false, List, [], ◌∷◌, ◌++◌, append_assoc, length, Option, Some, None, sym, refl, ◌∙◌, inl, inr, arith}
 use Rattle.std.specs.Prelude.{IfSome}
 use Rattle.std.specs.Cmp.{IsEquivalence}
 use Rattle.std.proofs.lemmas.Bool.{cases_Bool, false≢true}
@@ -8,8 +8,7 @@ use Rattle.ep_defrag.specs.declared.ip_frag_id.IpFragId.{IpFragId}
 use Rattle.ep_defrag.specs.IpFragments.{IpFragment, is_complete}
 use Rattle.ep_defrag.specs.FragmentRefusals.{FitsWithin, FitInTurn, FitInTurnWithin}
 use Rattle.ep_defrag.specs.Buffers.{data_of}
-use Rattle.ep_defrag.specs.Streams.{same_stream}
-use Rattle.ep_defrag.specs.Calls.{Kept, accepted_in, payload_of, payload_handed_out, nothing_handed_out, answer_to_frame, table_with_frame}
+use Rattle.ep_defrag.specs.Calls.{Kept, accepted_in, nothing_handed_out, answer_to_frame, table_with_frame}
 use Rattle.ep_defrag.specs.Pools.{Stream, HoldsEntry}
 use Rattle.ep_defrag.specs.Completing.{FillBoth, front_fragment, back_fragment, is_part, CarryingFrame, given_by, name_in, CarriesOf, HandsOutAll, FramesComplete}
 use Rattle.ep_defrag.proofs.StreamLemmas.{same_stream_laws}

@@ -8,16 +8,19 @@ use Rattle.ep_defrag.specs.Ranges.{has_byte, touches, merges, hull}
 use Rattle.ep_defrag.specs.IpFragments.{IpFragment, fragment_end, range_of, is_covered, is_touched, end_of, assembled}
 use Rattle.ep_defrag.specs.FragmentRefusals.{FitInTurn}
 
--- what `ip_number`, `data`, `sections` and `end` answer
+-- what `ip_number` answers
 abbrev pub ip_number_of : IpDefragBuf → IpNumber
 ip_number_of buffer = buffer.ip_number
 
+-- what `data` answers: the bytes put together so far
 abbrev pub data_of : IpDefragBuf → List ℕ
 data_of buffer = buffer.bytes.items
 
+-- what `sections` answers: the ranges that came
 abbrev pub sections_of : IpDefragBuf → List IpFragRange
 sections_of buffer = buffer.sections.items
 
+-- what `end` answers: the number of bytes of the payload, where a final fragment came
 abbrev pub known_end_of : IpDefragBuf → Option ℕ
 known_end_of buffer = buffer.end
 
@@ -32,12 +35,15 @@ pub record IsUnchanged (old new : IpDefragBuf) : Type 0 where
 abbrev pub extended : List ℕ → ℕ → List ℕ
 extended contents end = contents ++ replicate (end - length contents) 0
 
+-- contents with these bytes from a position on, in the place of what was there
 abbrev pub overwritten : List ℕ → ℕ → List ℕ → List ℕ
 overwritten contents start bytes = take start contents ++ bytes ++ drop (start + length bytes) contents
 
+-- contents after bytes of this range
 abbrev pub data_with : List ℕ → IpFragRange → List ℕ → List ℕ
 data_with contents range bytes = overwritten (extended contents range.end) range.start bytes
 
+-- contents after a fragment
 abbrev pub data_after : List ℕ → IpFragment → List ℕ
 data_after contents fragment = data_with contents (range_of fragment) fragment.bytes
 
@@ -49,6 +55,7 @@ end_after end fragment = if fragment.more then end else Some (fragment_end fragm
 abbrev pub union_of : IpFragRange → List IpFragRange → IpFragRange
 union_of range sections = fold hull range (filter (merges range) sections)
 
+-- that union, and the sections that do not merge with the range
 abbrev pub sections_after : IpFragRange → List IpFragRange → List IpFragRange
 sections_after range sections = union_of range sections ∷ filter (λ section. not (merges range section)) sections
 

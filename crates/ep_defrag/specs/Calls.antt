@@ -40,6 +40,7 @@ abbrev pub kept_unless : {T : Type 0} → Option IpDefragError → Option (Kept 
 kept_unless (Some error) kept fragment timestamp = kept
 kept_unless None kept fragment timestamp = kept_of (accepted_in kept ++ fragment ∷ []) timestamp
 
+-- what is kept after a fragment, which the table of refusals takes or refuses within this limit
 abbrev pub kept_with : {T : Type 0} → ℕ → Option (Kept T) → IpFragment → T → Option (Kept T)
 kept_with limit kept fragment timestamp =
     kept_unless (refusal_within limit (accepted_in kept) fragment) kept fragment timestamp
@@ -57,6 +58,7 @@ kept_after limit keep kept (gives_frame (Some carried) timestamp channel) =
 kept_after limit keep kept (drops_streams value) = kept_by (keep value) kept
 kept_after limit keep kept returns_buffer = kept
 
+-- what is kept of a stream after the calls that concern it, in their order
 abbrev pub kept_after_all : {T C V : Type 0} → ℕ → (V → T → Bool) → Option (Kept T) → List (Call T C V)
     → Option (Kept T)
 kept_after_all limit keep kept [] = kept
@@ -111,6 +113,7 @@ answer_unless (Some error) name accepted = fragment_refused error
 answer_unless None name accepted =
     if is_complete accepted then payload_handed_out (payload_of name accepted) else nothing_handed_out
 
+-- the answer to a fragment of a stream of which this is kept, within this limit
 abbrev pub answer_with : {T C : Type 0} → ℕ → IpFragId C → Option (Kept T) → IpFragment → Answer
 answer_with limit name kept fragment =
     answer_unless (refusal_within limit (accepted_in kept) fragment) name (accepted_in kept ++ fragment ∷ [])
@@ -145,12 +148,14 @@ abbrev pub table_with_fragment : {T C : Type 0} → ℕ → (C → C → Bool) �
 table_with_fragment limit eq table id fragment timestamp name =
     if same_stream eq id name then kept_with limit (table name) fragment timestamp else table name
 
+-- the table after one more frame: that of its fragment, or as it was where it carries none
 abbrev pub table_with_frame : {T C : Type 0} → ℕ → (C → C → Bool) → (IpFragId C → Option (Kept T))
     → Option PacketFragment → T → C → IpFragId C → Option (Kept T)
 table_with_frame limit eq table None timestamp channel = table
 table_with_frame limit eq table (Some carried) timestamp channel =
     table_with_fragment limit eq table (name_of carried channel) carried.fragment timestamp
 
+-- the table after one more call
 abbrev pub table_with : {T C V : Type 0} → ℕ → (C → C → Bool) → (V → T → Bool) → (IpFragId C → Option (Kept T))
     → Call T C V → IpFragId C → Option (Kept T)
 table_with limit eq keep table (gives_frame carried timestamp channel) =

@@ -1,5 +1,5 @@
 -- Fragments that complete what came, and frames that carry them: no stream gets stuck.
-use Rattle.std.specs.Prelude.{◌≡◌, ◌⊎◌, ℕ, ◌+◌, ◌*◌, ◌/◌, ◌<◌, min, max, Bool, true, false, ◌||◌, nat_lt, IsTrue, unwrap_or, Option, Some, List, [], ◌∷◌, ◌++◌, length}
+use Rattle.std.specs.Prelude.{◌≡◌, ◌⊎◌, ℕ, ◌+◌, ◌*◌, ◌/◌, min, max, Bool, true, false, ◌||◌, nat_lt, IsTrue, unwrap_or, Option, Some, List, [], ◌∷◌, ◌++◌, length}
 use Rattle.std.specs.Option.{option_map}
 use Rattle.ep_base.specs.Bytes.{AreBytes}
 use Rattle.ep_packet.specs.declared.entry.Entry.{Entry}
@@ -28,10 +28,11 @@ pub record FillBoth (accepted : List IpFragment) (front back : List ℕ) : Type 
   pub front_len : length front ≡ 8 * meeting_at (whole_end accepted)
   pub both_len : length front + length back ≡ whole_end accepted
 
--- the first, which more fragments follow, and the second, which is final
+-- the first of the two, which more fragments follow
 abbrev pub front_fragment : List ℕ → IpFragment
 front_fragment front = fragment_with 0 true front
 
+-- the second, which is final
 abbrev pub back_fragment : List IpFragment → List ℕ → IpFragment
 back_fragment accepted back = fragment_with (meeting_at (whole_end accepted)) false back
 

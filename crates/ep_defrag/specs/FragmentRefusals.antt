@@ -38,6 +38,7 @@ fragment_rows limit known_end reach fragment =
 abbrev pub refusal_at_within : ℕ → Option ℕ → ℕ → IpFragment → Option IpDefragError
 refusal_at_within limit known_end reach fragment = first_row (fragment_rows limit known_end reach fragment)
 
+-- the refusal where the limit is 65535 bytes, as it is unless another is given
 abbrev pub refusal_at : Option ℕ → ℕ → IpFragment → Option IpDefragError
 refusal_at known_end reach fragment = refusal_at_within 65535 known_end reach fragment
 
@@ -45,18 +46,23 @@ refusal_at known_end reach fragment = refusal_at_within 65535 known_end reach fr
 abbrev pub refusal_within : ℕ → List IpFragment → IpFragment → Option IpDefragError
 refusal_within limit accepted fragment = refusal_at_within limit (end_of accepted) (reach_of accepted) fragment
 
+-- the refusal after these accepted ones, where the limit is 65535 bytes
 abbrev pub refusal_of : List IpFragment → IpFragment → Option IpDefragError
 refusal_of accepted fragment = refusal_within 65535 accepted fragment
 
+-- the fragment is refused with this error after the accepted ones, within the limit
 abbrev pub RefusesWithin : ℕ → List IpFragment → IpFragment → IpDefragError → Type 0
 RefusesWithin limit accepted fragment error = refusal_within limit accepted fragment ≡ Some error
 
+-- the fragment is refused with this error after the accepted ones, within 65535 bytes
 abbrev pub RefusesFragment : List IpFragment → IpFragment → IpDefragError → Type 0
 RefusesFragment accepted fragment error = RefusesWithin 65535 accepted fragment error
 
+-- the fragment fits after the accepted ones, within the limit: no row refuses it
 abbrev pub FitsWithin : ℕ → List IpFragment → IpFragment → Type 0
 FitsWithin limit accepted fragment = refusal_within limit accepted fragment ≡ None
 
+-- the fragment fits after the accepted ones, within 65535 bytes
 abbrev pub Fits : List IpFragment → IpFragment → Type 0
 Fits accepted fragment = FitsWithin 65535 accepted fragment
 
@@ -70,6 +76,7 @@ FitAfterWithin limit earlier (fragment ∷ later) =
 abbrev pub FitInTurnWithin : ℕ → List IpFragment → Type 0
 FitInTurnWithin limit fragments = FitAfterWithin limit [] fragments
 
+-- each fragment fits after those before it, within 65535 bytes
 abbrev pub FitInTurn : List IpFragment → Type 0
 FitInTurn fragments = FitInTurnWithin 65535 fragments
 
@@ -82,6 +89,7 @@ pub record IsInPlace (accepted : List IpFragment) (fragment : IpFragment) : Type
 abbrev pub MayNeedMemoryWithin : ℕ → List IpFragment → IpFragment → Type 0
 MayNeedMemoryWithin limit accepted fragment = FitsWithin limit accepted fragment × (¬ IsInPlace accepted fragment)
 
+-- the fragment fits within 65535 bytes, and is not in place
 abbrev pub MayNeedMemory : List IpFragment → IpFragment → Type 0
 MayNeedMemory accepted fragment = MayNeedMemoryWithin 65535 accepted fragment
 

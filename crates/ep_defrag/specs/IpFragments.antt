@@ -39,6 +39,7 @@ covers position fragment = has_byte position (range_of fragment)
 abbrev pub is_covered : List IpFragment → ℕ → Bool
 is_covered fragments position = list_any (covers position) fragments
 
+-- a fragment of the list has a byte at the position
 abbrev pub IsCovered : List IpFragment → ℕ → Type 0
 IsCovered fragments position = IsTrue (is_covered fragments position)
 
@@ -73,6 +74,7 @@ abbrev pub is_complete : List IpFragment → Bool
 is_complete fragments =
     is_some (end_of fragments) && list_all (is_covered fragments) (range_with_len 0 (unwrap_or (end_of fragments) 0))
 
+-- the end is known, and each position below it is covered
 abbrev pub IsComplete : List IpFragment → Type 0
 IsComplete fragments = IsTrue (is_complete fragments)
 

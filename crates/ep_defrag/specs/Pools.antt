@@ -86,10 +86,12 @@ abbrev pub data_in : {T C : Type 0} → Option (Stream T C) → List ℕ
 data_in None = []
 data_in (Some stream) = data_of stream.buffer
 
+-- the ranges that came of a stream, none where it has not begun
 abbrev pub sections_in : {T C : Type 0} → Option (Stream T C) → List IpFragRange
 sections_in None = []
 sections_in (Some stream) = sections_of stream.buffer
 
+-- the known end of a stream, none where it has not begun
 abbrev pub end_in : {T C : Type 0} → Option (Stream T C) → Option ℕ
 end_in None = None
 end_in (Some stream) = known_end_of stream.buffer
@@ -196,6 +198,7 @@ plain_frame_answer (Ok None) = nothing_handed_out
 plain_frame_answer (Ok (Some payload)) = payload_handed_out (plain_payload payload)
 plain_frame_answer (Err error) = fragment_refused error
 
+-- what the answer to a call shows
 abbrev pub plain_answer : PoolAnswer → Answer
 plain_answer (answer.Frame result) = plain_frame_answer result
 plain_answer answer.Dropped = streams_dropped
@@ -206,6 +209,7 @@ abbrev pub wants_memory : {X : Type 0} → Result X IpDefragError → Bool
 wants_memory (Ok value) = false
 wants_memory (Err error) = is_want_of_memory error
 
+-- whether a call lacked memory, as only one with a frame may
 abbrev pub answer_wants_memory : PoolAnswer → Bool
 answer_wants_memory (answer.Frame result) = wants_memory result
 answer_wants_memory answer.Dropped = false

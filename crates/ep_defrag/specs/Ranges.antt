@@ -34,5 +34,6 @@ are_apart (range ∷ []) = nat_le range.start range.end
 are_apart (range ∷ next ∷ later) =
     nat_le range.start range.end && nat_lt range.end next.start && are_apart (next ∷ later)
 
+-- ranges that stand apart, in their order
 abbrev pub AreApart : List IpFragRange → Type 0
 AreApart ranges = IsTrue (are_apart ranges)

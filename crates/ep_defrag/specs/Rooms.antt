@@ -6,10 +6,11 @@ use Rattle.ep_defrag.specs.Ranges.{SharePoint}
 use Rattle.ep_defrag.specs.IpFragments.{IpFragment, fragment_end, range_of}
 use Rattle.ep_defrag.specs.Buffers.{sections_of}
 
--- that of the data, and that of the sections
+-- the room of the data, in bytes
 abbrev pub data_room_of : IpDefragBuf → ℕ
 data_room_of buffer = vec_capacity buffer.bytes
 
+-- the room of the sections
 abbrev pub sections_room_of : IpDefragBuf → ℕ
 sections_room_of buffer = vec_capacity buffer.sections
 

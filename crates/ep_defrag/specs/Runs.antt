@@ -9,6 +9,7 @@ abbrev pub with_unless : Option IpDefragError → List IpFragment → IpFragment
 with_unless None accepted fragment = accepted ++ fragment ∷ []
 with_unless (Some error) accepted fragment = accepted
 
+-- the accepted ones after a fragment, within 65535 bytes: with it where it fits
 abbrev pub accepted_with : List IpFragment → IpFragment → List IpFragment
 accepted_with accepted fragment = with_unless (refusal_of accepted fragment) accepted fragment
 

@@ -99,19 +99,23 @@ abbrev pub number_before : {H : Type 0} → Option H → ℕ → IpNumber → Ip
 number_before None number next = next
 number_before (Some header) number next = record { 0 = number }
 
--- what follows each header, where the headers lead to the last number
+-- what follows the authentication header, where the headers lead to the last number, as below
 abbrev pub after_auth : Ipv6Extensions → IpNumber → IpNumber
 after_auth extensions last = number_before (final_by extensions.routing) destination_options_number last
 
+-- what follows the fragment header
 abbrev pub after_fragment : Ipv6Extensions → IpNumber → IpNumber
 after_fragment extensions last = number_before extensions.auth authentication_number (after_auth extensions last)
 
+-- what follows the routing header
 abbrev pub after_routing : Ipv6Extensions → IpNumber → IpNumber
 after_routing extensions last = number_before extensions.fragment fragment_number (after_fragment extensions last)
 
+-- what follows the destination options that stand before the routing header
 abbrev pub after_destination : Ipv6Extensions → IpNumber → IpNumber
 after_destination extensions last = number_before extensions.routing routing_number (after_routing extensions last)
 
+-- what follows the hop-by-hop options
 abbrev pub after_hop_by_hop : Ipv6Extensions → IpNumber → IpNumber
 after_hop_by_hop extensions last =
     number_before extensions.destination_options destination_options_number (after_destination extensions last)
@@ -121,20 +125,24 @@ abbrev pub ipv6_first : Ipv6Extensions → IpNumber → IpNumber
 ipv6_first extensions last =
     number_before extensions.hop_by_hop_options hop_by_hop_number (after_hop_by_hop extensions last)
 
--- headers that lead to this number
+-- a raw header that leads to this number
 abbrev pub raw_leading_to : IpNumber → Ipv6RawExtHeader → Ipv6RawExtHeader
 raw_leading_to next header = record header { next_header = next }
 
+-- a fragment header that leads to this number
 abbrev pub fragment_leading_to : IpNumber → Ipv6FragmentHeader → Ipv6FragmentHeader
 fragment_leading_to next header = record header { next_header = next }
 
+-- headers behind the routing header of which the final destination options lead to this number
 abbrev pub final_leading_to : IpNumber → Ipv6RoutingExtensions → Ipv6RoutingExtensions
 final_leading_to last behind =
     record behind { final_destination_options = option_map (raw_leading_to last) behind.final_destination_options }
 
+-- a routing header that leads to this number, with what stands behind it
 abbrev pub routing_alone_leading_to : IpNumber → Ipv6RoutingExtensions → Ipv6RoutingExtensions
 routing_alone_leading_to next behind = record behind { routing = raw_leading_to next behind.routing }
 
+-- a routing header that leads to the one number, and final destination options that lead to the other
 abbrev pub routing_leading_to : IpNumber → IpNumber → Ipv6RoutingExtensions → Ipv6RoutingExtensions
 routing_leading_to next last behind = routing_alone_leading_to next (final_leading_to last behind)
 

@@ -12,7 +12,7 @@ pub struct Ipv4ExtensionsSlice<'a> {
 }
 
 impl<'a> Ipv4ExtensionsSlice<'a> {
-    ghost use Rattle.std.specs.Prelude.{◌≡◌, ◌++◌, List, ℕ, IfOk, IfErr, IsOkAnd};
+    ghost use Rattle.std.specs.Prelude.{◌≡◌, ◌++◌, IfOk, IfErr, IsOkAnd};
     ghost use Rattle.ep_base.specs.Layer.{slices};
     ghost use Rattle.ep_ext.specs.ExtensionParts.{auth_refusal};
     ghost use Rattle.ep_ext.specs.Chains.{ipv4, ExtensionChain, IsExtensionChain, RefusesExtensionChain, chain_of};

@@ -1,11 +1,11 @@
 //! The extension headers of IPv6 by value (RFC 8200, 4.1).
 
-ghost use Rattle.std.specs.Prelude.{◌≡◌, ◌≤◌, ◌++◌, ◌↔◌, ◌==◌, ℕ, List, length, true, false, IfOk, IfErr, OnOk, OnErr, IsOkAnd, Ok, Err};
+ghost use Rattle.std.specs.Prelude.{◌≡◌, ◌≤◌, ◌++◌, ◌↔◌, ◌==◌, List, true, false, IfOk, IfErr, IsOkAnd, Ok, Err};
 ghost use Rattle.ep_base.specs.Layer.{headers};
 ghost use Rattle.ep_ext.specs.ExtensionParts.{ExtensionPart, IsExtensionPart, RefusesExtensionPart, part_next};
-ghost use Rattle.ep_ext.specs.Chains.{ipv6, ExtensionChain, IsExtensionChain, RefusesExtensionChain, chain_of, chain_fragments, parts_bytes, is_ipv6_extension};
+ghost use Rattle.ep_ext.specs.Chains.{ipv6, ExtensionChain, IsExtensionChain, RefusesExtensionChain, chain_of, chain_fragments, is_ipv6_extension};
 ghost use Rattle.ep_ext.specs.Ipv6ExtensionSlices.{extension_slice_part};
-ghost use Rattle.ep_ext.specs.Ipv6Chains.{no_ipv6_extensions, ipv6_parts, ipv6_first, ipv6_linked, extensions_of, with_part, has_kind};
+ghost use Rattle.ep_ext.specs.Ipv6Chains.{no_ipv6_extensions, ipv6_parts, extensions_of, with_part, has_kind};
 
 use crate::ip_auth_header::IpAuthHeader;
 use crate::ipv6_ext_slice::{Ipv6ExtensionSlice, further, is_extension};

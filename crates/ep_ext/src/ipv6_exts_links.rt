@@ -1,6 +1,6 @@
 //! How the extension headers of IPv6 lead to one another (RFC 8200, 4.1).
 
-ghost use Rattle.std.specs.Prelude.{◌≡◌, ◌≤◌, ◌+◌, ℕ, length, option_map};
+ghost use Rattle.std.specs.Prelude.{◌≡◌, ◌≤◌, ◌+◌, length, option_map};
 ghost use Rattle.std.specs.Option.{option_map_or};
 ghost use Rattle.ep_base.specs.IpNumbers.{authentication_number, destination_options_number, fragment_number, routing_number};
 ghost use Rattle.ep_ext.specs.Chains.{parts_bytes};

@@ -26,7 +26,7 @@ pub struct Ipv6ExtensionsSlice<'a> {
 }
 
 impl<'a> Ipv6ExtensionsSlice<'a> {
-    ghost use Rattle.std.specs.Prelude.{◌≡◌, ◌++◌, List, ℕ, IfOk, IfErr, IsOkAnd};
+    ghost use Rattle.std.specs.Prelude.{◌≡◌, ◌++◌, IfOk, IfErr, IsOkAnd};
     ghost use Rattle.ep_base.specs.Layer.{slices};
     ghost use Rattle.ep_ext.specs.Chains.{ipv6, ExtensionChain, IsExtensionChain, RefusesExtensionChain, chain_of, chain_fragments};
     ghost use Rattle.ep_ext.specs.Ipv6ExtensionSlices.{ipv6_slice_parts, ipv6_slice_bytes, ipv6_slice_number};

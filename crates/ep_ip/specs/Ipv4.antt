@@ -94,6 +94,7 @@ ipv4_header_rows bytes =
     ∷ (nat_lt len (4 * ihl), header_error.Len (len_error (4 * ihl) len source.Slice layer.Ipv4Header))
     ∷ []
 
+-- the error of the first row that holds
 abbrev pub RefusesIpv4Header : List ℕ → HeaderSliceError → Type 0
 RefusesIpv4Header bytes = Refuses (ipv4_header_rows bytes)
 
@@ -146,6 +147,7 @@ ipv4_packet_rows bytes =
     ∷ (nat_lt len total_len, slice_error.Len (len_error total_len len source.Slice layer.Ipv4Packet))
     ∷ []
 
+-- the error of the first row that holds
 abbrev pub RefusesIpv4Packet : List ℕ → SliceError → Type 0
 RefusesIpv4Packet bytes = Refuses (ipv4_packet_rows bytes)
 

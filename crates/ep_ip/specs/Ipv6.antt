@@ -53,6 +53,7 @@ ipv6_header_rows bytes =
     ∷ (not (version == 6), header_error.Content (content.UnexpectedVersion version))
     ∷ []
 
+-- the error of the first row that holds
 abbrev pub RefusesIpv6Header : List ℕ → HeaderSliceError → Type 0
 RefusesIpv6Header bytes = Refuses (ipv6_header_rows bytes)
 
@@ -91,6 +92,7 @@ ipv6_packet_rows bytes =
     ++ (nat_lt len packet_len, slice_error.Len (len_error packet_len len source.Slice layer.Ipv6Packet))
     ∷ []
 
+-- the error of the first row that holds
 abbrev pub RefusesIpv6Packet : List ℕ → SliceError → Type 0
 RefusesIpv6Packet bytes = Refuses (ipv6_packet_rows bytes)
 

@@ -75,6 +75,7 @@ arp_rows bytes =
     ∷ (nat_lt (length bytes) whole, len_error whole (length bytes) source.ArpAddrLengths layer.Arp)
     ∷ []
 
+-- the error of the first row that holds
 abbrev pub RefusesArp : List ℕ → LenError → Type 0
 RefusesArp bytes = Refuses (arp_rows bytes)
 
@@ -116,6 +117,7 @@ arp_address_rows sender_hw sender_protocol target_hw target_protocol =
     ∷ (nat_lt 255 protocol, new_error.ProtoAddr (proto_error.LenTooBig protocol))
     ∷ []
 
+-- the error of the first row that holds
 abbrev pub RefusesArpAddresses : List ℕ → List ℕ → List ℕ → List ℕ → ArpNewError → Type 0
 RefusesArpAddresses sender_hw sender_protocol target_hw target_protocol =
     Refuses (arp_address_rows sender_hw sender_protocol target_hw target_protocol)

@@ -36,6 +36,7 @@ abbrev pub ethernet2_rows : List ℕ → List (Bool × LenError)
 ethernet2_rows bytes =
     (nat_lt (length bytes) 14, len_error 14 (length bytes) source.Slice layer.Ethernet2Header) ∷ []
 
+-- the error of the row, where it holds
 abbrev pub RefusesEthernet2 : List ℕ → LenError → Type 0
 RefusesEthernet2 bytes = Refuses (ethernet2_rows bytes)
 

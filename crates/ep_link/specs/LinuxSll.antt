@@ -117,6 +117,7 @@ linux_sll_rows bytes =
     ∷ (not (knows_hardware hardware), header_error.Content (content.UnsupportedArpHardwareId hardware))
     ∷ []
 
+-- the error of the first row that holds
 abbrev pub RefusesLinuxSll : List ℕ → HeaderSliceError → Type 0
 RefusesLinuxSll bytes = Refuses (linux_sll_rows bytes)
 

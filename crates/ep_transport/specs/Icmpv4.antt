@@ -31,6 +31,7 @@ icmpv4_row kind.ParameterProblem = (12, 2)
 icmpv4_row kind.TimestampRequest = (13, 0)
 icmpv4_row kind.TimestampReply = (14, 0)
 
+-- all kinds
 abbrev pub icmpv4_kinds : List Icmpv4Kind
 icmpv4_kinds =
     kind.EchoReply ∷ kind.DestinationUnreachable ∷ kind.Redirect ∷ kind.EchoRequest ∷ kind.TimeExceeded
@@ -48,11 +49,12 @@ icmpv4_len _ = 8
 
 -- ---- the values of the table's kinds
 
--- the number of the code of a time that is exceeded, and the code of a number
+-- the number of the code of a time that is exceeded
 abbrev pub icmpv4_exceeded_u8 : TimeExceededCode → ℕ
 icmpv4_exceeded_u8 exceeded.TtlExceededInTransit = 0
 icmpv4_exceeded_u8 exceeded.FragmentReassemblyTimeExceeded = 1
 
+-- the code of a number, of which only 0 and 1 are read so
 abbrev pub icmpv4_exceeded_of : ℕ → TimeExceededCode
 icmpv4_exceeded_of code =
     if code == 0 then exceeded.TtlExceededInTransit else exceeded.FragmentReassemblyTimeExceeded
@@ -115,6 +117,7 @@ icmpv4_rest_with unused (message.ParameterProblem code pointer) =
 icmpv4_rest_with unused (message.TimestampRequest times) = timestamp_bytes times
 icmpv4_rest_with unused (message.TimestampReply times) = timestamp_bytes times
 
+-- the bytes of a header, with these in the place of what its type does not use
 abbrev pub icmpv4_bytes_with : List ℕ → Icmpv4Header → List ℕ
 icmpv4_bytes_with unused header =
     icmpv4_type_u8 header.icmp_type ∷ icmpv4_code_u8 header.icmp_type
@@ -197,6 +200,7 @@ icmpv4_rows bytes =
     (nat_lt (length bytes) 8, len_error 8 (length bytes) source.Slice layer.Icmpv4)
     ∷ icmpv4_timestamp_rows (icmpv4_kind_at bytes) (length bytes)
 
+-- the error of the first row that holds
 abbrev pub RefusesIcmpv4 : List ℕ → LenError → Type 0
 RefusesIcmpv4 bytes = Refuses (icmpv4_rows bytes)
 

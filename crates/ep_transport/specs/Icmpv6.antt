@@ -31,6 +31,7 @@ icmpv6_row kind.ParameterProblem = (4, 2)
 icmpv6_row kind.EchoRequest = (128, 0)
 icmpv6_row kind.EchoReply = (129, 0)
 
+-- all kinds
 abbrev pub icmpv6_kinds : List Icmpv6Kind
 icmpv6_kinds =
     kind.DestinationUnreachable ∷ kind.PacketTooBig ∷ kind.TimeExceeded ∷ kind.ParameterProblem ∷ kind.EchoRequest
@@ -42,11 +43,12 @@ icmpv6_kind_of type code = kind_in icmpv6_row icmpv6_kinds type code
 
 -- ---- the values of the table's kinds
 
--- the number of the code of a time that is exceeded, and the code of a number
+-- the number of the code of a time that is exceeded
 abbrev pub icmpv6_exceeded_u8 : TimeExceededCode → ℕ
 icmpv6_exceeded_u8 exceeded.HopLimitExceeded = 0
 icmpv6_exceeded_u8 exceeded.FragmentReassemblyTimeExceeded = 1
 
+-- the code of a number, of which only 0 and 1 are read so
 abbrev pub icmpv6_exceeded_of : ℕ → TimeExceededCode
 icmpv6_exceeded_of code = if code == 0 then exceeded.HopLimitExceeded else exceeded.FragmentReassemblyTimeExceeded
 
@@ -92,6 +94,7 @@ icmpv6_rest_with unused (message.ParameterProblem code pointer) = to_be_bytes w3
 icmpv6_rest_with unused (message.EchoRequest echo) = echo_bytes echo
 icmpv6_rest_with unused (message.EchoReply echo) = echo_bytes echo
 
+-- the bytes of a header, with these in the place of what its type does not use
 abbrev pub icmpv6_bytes_with : List ℕ → Icmpv6Header → List ℕ
 icmpv6_bytes_with unused header =
     icmpv6_type_u8 header.icmp_type ∷ icmpv6_code_u8 header.icmp_type
@@ -150,6 +153,7 @@ pub record IsIcmpv6 (bytes : List ℕ) (read : Parts Icmpv6Header) : Type 0 wher
 abbrev pub icmpv6_rows : List ℕ → List (Bool × LenError)
 icmpv6_rows bytes = (nat_lt (length bytes) 8, len_error 8 (length bytes) source.Slice layer.Icmpv6) ∷ []
 
+-- the error of the row, where it holds
 abbrev pub RefusesIcmpv6 : List ℕ → LenError → Type 0
 RefusesIcmpv6 bytes = Refuses (icmpv6_rows bytes)
 

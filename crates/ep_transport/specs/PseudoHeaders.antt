@@ -23,10 +23,11 @@ pseudo_header_ipv6 source destination number len =
 
 -- ---- messages, in which the checksum counts as 0
 
--- a header and its payload
+-- a header of UDP and its payload
 abbrev pub udp_message : UdpHeader → List ℕ → List ℕ
 udp_message header payload = udp_bytes (record header { checksum = 0 }) ++ payload
 
+-- a header of TCP and its payload
 abbrev pub tcp_message : TcpHeader → List ℕ → List ℕ
 tcp_message header payload = tcp_bytes (record header { checksum = 0 }) ++ payload
 
@@ -41,6 +42,7 @@ abbrev pub udp_checksum_ipv4 : List ℕ → List ℕ → UdpHeader → List ℕ 
 udp_checksum_ipv4 source destination header payload =
     no_zero (checksum_of (pseudo_header_ipv4 source destination udp_number header.length ++ udp_message header payload))
 
+-- UDP's checksum over IPv6, whose pseudo header has the length in 32 bits
 abbrev pub udp_checksum_ipv6 : List ℕ → List ℕ → UdpHeader → List ℕ → ℕ
 udp_checksum_ipv6 source destination header payload =
     no_zero (checksum_of (pseudo_header_ipv6 source destination udp_number header.length ++ udp_message header payload))
@@ -51,6 +53,7 @@ tcp_checksum_ipv4 source destination header payload =
     checksum_of (pseudo_header_ipv4 source destination tcp_number (tcp_header_len header + length payload)
     ++ tcp_message header payload)
 
+-- TCP's checksum over IPv6
 abbrev pub tcp_checksum_ipv6 : List ℕ → List ℕ → TcpHeader → List ℕ → ℕ
 tcp_checksum_ipv6 source destination header payload =
     checksum_of (pseudo_header_ipv6 source destination tcp_number (tcp_header_len header + length payload)
@@ -61,6 +64,7 @@ abbrev pub segment_checksum_ipv4 : List ℕ → List ℕ → List ℕ → ℕ
 segment_checksum_ipv4 source destination bytes =
     checksum_of (pseudo_header_ipv4 source destination tcp_number (length bytes) ++ tcp_bytes_without_checksum bytes)
 
+-- the checksum of a segment in bytes over IPv6
 abbrev pub segment_checksum_ipv6 : List ℕ → List ℕ → List ℕ → ℕ
 segment_checksum_ipv6 source destination bytes =
     checksum_of (pseudo_header_ipv6 source destination tcp_number (length bytes) ++ tcp_bytes_without_checksum bytes)
@@ -72,10 +76,11 @@ abbrev pub length_rows : ℕ → ValueType → List ℕ → List (Bool × ValueT
 length_rows most value_type bytes =
     (nat_lt most (length bytes), record { actual = length bytes; max_allowed = most; value_type = value_type }) ∷ []
 
--- a payload behind a header of UDP, of 8 bytes, where the length has 16 bits, and where it has 32
+-- a payload behind a header of UDP, of 8 bytes, where the length has 16 bits
 abbrev pub udp_length_rows_ipv4 : List ℕ → List (Bool × ValueTooBigError ℕ)
 udp_length_rows_ipv4 payload = length_rows 65527 value_type.UdpPayloadLengthIpv4 payload
 
+-- a payload behind a header of UDP, where the length has 32 bits
 abbrev pub udp_length_rows_ipv6 : List ℕ → List (Bool × ValueTooBigError ℕ)
 udp_length_rows_ipv6 payload = length_rows 4294967287 value_type.UdpPayloadLengthIpv6 payload
 
@@ -84,6 +89,7 @@ abbrev pub tcp_length_rows_ipv4 : TcpHeader → List ℕ → List (Bool × Value
 tcp_length_rows_ipv4 header payload =
     length_rows (65535 - tcp_header_len header) value_type.TcpPayloadLengthIpv4 payload
 
+-- one behind a header of TCP with its options, over IPv6
 abbrev pub tcp_length_rows_ipv6 : TcpHeader → List ℕ → List (Bool × ValueTooBigError ℕ)
 tcp_length_rows_ipv6 header payload =
     length_rows (4294967295 - tcp_header_len header) value_type.TcpPayloadLengthIpv6 payload
@@ -92,6 +98,7 @@ tcp_length_rows_ipv6 header payload =
 abbrev pub segment_length_rows_ipv4 : List ℕ → List (Bool × ValueTooBigError ℕ)
 segment_length_rows_ipv4 bytes = length_rows 65535 value_type.TcpPayloadLengthIpv4 bytes
 
+-- a whole segment over IPv6
 abbrev pub segment_length_rows_ipv6 : List ℕ → List (Bool × ValueTooBigError ℕ)
 segment_length_rows_ipv6 bytes = length_rows 4294967295 value_type.TcpPayloadLengthIpv6 bytes
 

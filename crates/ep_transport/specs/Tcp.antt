@@ -80,6 +80,7 @@ tcp_rows bytes =
     ∷ (nat_lt (length bytes) (4 * offset), Len (len_error (4 * offset) (length bytes) source.Slice layer.TcpHeader))
     ∷ []
 
+-- the error of the first row that holds
 abbrev pub RefusesTcp : List ℕ → HeaderSliceError → Type 0
 RefusesTcp bytes = Refuses (tcp_rows bytes)
 

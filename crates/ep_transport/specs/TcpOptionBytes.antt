@@ -55,9 +55,11 @@ present [] = []
 present (None ∷ others) = present others
 present (Some block ∷ others) = block ∷ present others
 
+-- the bytes of a block, 4 for each number
 abbrev pub block_bytes : Block → List ℕ
 block_bytes block = to_be_bytes w32 block.0 ++ to_be_bytes w32 block.1
 
+-- the bytes of blocks, one behind the other
 abbrev pub blocks_bytes : List Block → List ℕ
 blocks_bytes [] = []
 blocks_bytes (block ∷ others) = block_bytes block ++ blocks_bytes others
@@ -84,6 +86,7 @@ options_bytes (option ∷ others) = option_bytes option ++ options_bytes others
 abbrev pub FitsBlock : Block → Type 0
 FitsBlock block = (block.0 < 2 ^ 32) × (block.1 < 2 ^ 32)
 
+-- each block that is there fits
 abbrev pub FitsBlocks : List (Option Block) → Type 0
 FitsBlocks [] = ⊤
 FitsBlocks (None ∷ others) = FitsBlocks others
@@ -165,6 +168,7 @@ abbrev pub option_rows : List ℕ → List (Bool × TcpOptionReadError)
 option_rows [] = []
 option_rows (kind ∷ rest) = kind_rows kind (kind ∷ rest)
 
+-- the error of the first row that holds
 abbrev pub RefusesOption : List ℕ → TcpOptionReadError → Type 0
 RefusesOption bytes = Refuses (option_rows bytes)
 

@@ -33,6 +33,7 @@ pub record IsUdpHeader (bytes : List ℕ) (read : UdpHeader × List ℕ) : Type 
 abbrev pub udp_header_rows : List ℕ → List (Bool × LenError)
 udp_header_rows bytes = (nat_lt (length bytes) 8, len_error 8 (length bytes) source.Slice layer.UdpHeader) ∷ []
 
+-- the error of the row, where it holds
 abbrev pub RefusesUdpHeader : List ℕ → LenError → Type 0
 RefusesUdpHeader bytes = Refuses (udp_header_rows bytes)
 
@@ -63,6 +64,7 @@ udp_rows bytes =
     ∷ (nat_lt (length bytes) field, len_error field (length bytes) source.Slice layer.UdpPayload)
     ∷ []
 
+-- the error of the first row that holds
 abbrev pub RefusesUdp : List ℕ → LenError → Type 0
 RefusesUdp bytes = Refuses (udp_rows bytes)
 

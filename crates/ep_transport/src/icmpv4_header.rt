@@ -1,6 +1,6 @@
 //! The header of ICMP (RFC 792).
 
-ghost use Rattle.std.specs.Prelude.{◌≡◌, ◌+◌, ◌≤◌, ◌<◌, ◌++◌, length, IfOk, IfErr, OnOk, OnErr, IsOkAnd, List, ℕ, [], vec_len, vec_capacity};
+ghost use Rattle.std.specs.Prelude.{◌≡◌, ◌+◌, ◌≤◌, ◌<◌, ◌++◌, length, IfOk, IfErr, OnOk, OnErr, IsOkAnd, [], vec_len, vec_capacity};
 ghost use Rattle.ep_base.specs.Checksum.{checksum_of};
 ghost use Rattle.ep_base.specs.Tables.{Parts, parts_of};
 ghost use Rattle.ep_transport.specs.Icmpv4.{IsIcmpv4, RefusesIcmpv4, icmpv4_bytes, icmpv4_kind, icmpv4_len, icmpv4_message};

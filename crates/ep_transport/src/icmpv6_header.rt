@@ -1,6 +1,6 @@
 //! The header of ICMPv6 (RFC 4443).
 
-ghost use Rattle.std.specs.Prelude.{◌≡◌, ◌+◌, ◌<◌, ◌≤◌, ◌++◌, length, IfOk, IfErr, OnOk, OnErr, IsOkAnd, MatchResult, None, List, ℕ, [], vec_len, vec_capacity};
+ghost use Rattle.std.specs.Prelude.{◌≡◌, ◌+◌, ◌<◌, ◌≤◌, ◌++◌, length, IfOk, IfErr, OnOk, OnErr, IsOkAnd, MatchResult, None, [], vec_len, vec_capacity};
 ghost use Rattle.ep_base.specs.Tables.{Parts, parts_of, Refuses, first_row};
 ghost use Rattle.ep_transport.specs.Icmpv6.{IsIcmpv6, RefusesIcmpv6, icmpv6_bytes, icmpv6_checksum};
 ghost use Rattle.ep_transport.specs.PseudoHeaders.{icmpv6_length_rows};

@@ -59,9 +59,8 @@ impl<'a> Iterator for TcpOptionsIterator<'a> {
     }
 }
 
-ghost use Rattle.std.specs.Prelude.{◌≡◌, ◌≢◌, ◌+◌, ◌<◌, ◌≤◌, length, slice_index, if◌then◌else◌, nat_lt, true, Some, None, IfOk, IfErr, OnOk, MatchResult};
+ghost use Rattle.std.specs.Prelude.{◌≡◌, ◌≢◌, ◌+◌, ◌<◌, ◌≤◌, length, slice_index, if◌then◌else◌, nat_lt, true, Some, None, IfOk, IfErr, MatchResult};
 ghost use Rattle.ep_base.specs.Tables.{Refuses};
-ghost use Rattle.ep_transport.specs.Tcp.{long_at};
 ghost use Rattle.ep_transport.specs.TcpOptionBytes.{IsOption, RefusesOption, end_of_list_kind, sized_rows, blocks_rows, is_blocks_size};
 ghost use Rattle.ep_transport.specs.TcpOptionSteps.{block_at};
 

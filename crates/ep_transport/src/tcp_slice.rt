@@ -35,7 +35,7 @@ impl<'a> TcpSlice<'a> {
     ghost use Rattle.ep_transport.specs.PseudoHeaders.{tcp_bytes_without_checksum, segment_checksum_ipv4, segment_checksum_ipv6, segment_length_rows_ipv4, segment_length_rows_ipv6};
     ghost use Rattle.ep_base.specs.Tables.{Parts, Refuses, first_row};
     ghost use Rattle.ep_transport.specs.declared.tcp_header.TcpHeader.{TcpHeader};
-    ghost use Rattle.ep_transport.specs.Tcp.{IsTcp, RefusesTcp, tcp_data_offset};
+    ghost use Rattle.ep_transport.specs.Tcp.{IsTcp, RefusesTcp};
     ghost use Rattle.ep_transport.specs.TcpOptionSteps.{options_left};
     ghost use Rattle.ep_transport.specs.TcpSlices.{tcp_slice_bytes, tcp_slice_header, tcp_slice_header_bytes, tcp_slice_header_len, tcp_slice_payload, tcp_slice_parts};
 

@@ -1,6 +1,6 @@
 //! The header of a transport layer.
 
-ghost use Rattle.std.specs.Prelude.{◌≡◌, ◌+◌, ◌<◌, ◌≤◌, ◌++◌, IfOk, IfErr, IsOkAnd, MatchResult, OnOk, OnErr, List, ℕ, Option, length, vec_len, vec_capacity};
+ghost use Rattle.std.specs.Prelude.{◌≡◌, ◌+◌, ◌<◌, ◌≤◌, ◌++◌, IfOk, IfErr, IsOkAnd, MatchResult, OnOk, OnErr, Option, length, vec_len, vec_capacity};
 ghost use Rattle.std.specs.Option.{option_map};
 ghost use Rattle.std.specs.Borrow.{LendsIf, sem};
 ghost use Rattle.ep_base.specs.Layer.{headers};

@@ -1,7 +1,7 @@
 //! From the lines of a reader to their answers in a writer.
 
 ghost use Rattle.std.specs.Prelude.{ℕ, List, ◌≡◌, ◌⊎◌, ◌<◌, ◌∷◌, ◌++◌, ◌+◌, ◌↔◌, [], false};
-ghost use Rattle.std.specs.Prelude.{true, length, IfOk, OnErr, OnOk};
+ghost use Rattle.std.specs.Prelude.{true, length, OnErr, OnOk};
 ghost use Rattle.std.specs.Io.KnownBytes.{IsAtEnd};
 ghost use Rattle.line_io.specs.Lines.{IsWithinLine, line_feed};
 ghost use Rattle.line_io.specs.Transfers.{Transfers};

@@ -1,15 +1,13 @@
 -- The program's pool after the calls that packets make.
-use Rattle.std.proofs.Common.{◌≡◌, ℕ, Bool, true, false, cond, if◌then◌else◌, nat_eq, nat_le, nat_lt, ◌/◌, List, [], ◌∷◌, ◌++◌, Option, Some, None, refl, sym, ap, ◌∙◌, subst}
+use Rattle.std.proofs.Common.{◌≡◌, ℕ, Bool, true, false, if◌then◌else◌, nat_eq, nat_le, nat_lt, ◌/◌, List, [], ◌∷◌, ◌++◌, Option, Some, None, refl, sym, ap, ◌∙◌, subst}
 use Rattle.std.specs.Prelude.{IsFalse, Result}
-use Rattle.std.proofs.lemmas.List.{append-nil}
-use Rattle.std.proofs.lemmas.List.Elements.{filter-append}
 use Rattle.etherparse.specs.Types.IpDefragError.{IpDefragError}
 use Rattle.etherparse.specs.Types.IpDefragPayloadVec.{IpDefragPayloadVec}
 use Rattle.etherparse.specs.Types.IpDefragPool.{IpDefragPool}
 use Rattle.etherparse.specs.Types.IpFragId.{IpFragId}
-use Rattle.etherparse.specs.Calls.{gives_frame, drops_streams, returns_buffer, Kept, kept_after, kept_after_all, concerns, calls_of, table_after, answer_to, table_with}
+use Rattle.etherparse.specs.Calls.{gives_frame, drops_streams, table_after, answer_to, table_with}
 use Rattle.etherparse.specs.Pools.{limit_of, HoldsEntry, HoldsTable, TakesFrame, plain_frame_answer, stream_named, wants_memory}
-use Rattle.etherparse.specs.Streams.{PacketFragment, name_of, same_stream}
+use Rattle.etherparse.specs.Streams.{PacketFragment}
 use Rattle.etherparse.specs.Layers.{Layers}
 use Rattle.packet_dump.specs.PacketCalls.{NumberCall, PoolHistory, frame_call, with_call, with_sweep, HoldsHistory, table_behind}
 use Rattle.packet_dump.specs.PoolLines.{GivesFrame, GivesWhere, IsCallText, oldest_from, swept_at}
@@ -19,66 +17,39 @@ use Rattle.packet_dump.specs.declared.view.View.{View}
 
 -- ---- one call more
 
-module _ (limit : ℕ) where
-  -- one more call at the end of those that concern a stream
-  kept_after_all-push : (kept : Option (Kept ℕ)) (calls : List NumberCall) (call : NumberCall)
-      → kept_after_all limit nat_le kept (calls ++ call ∷ [])
-      ≡ kept_after limit nat_le (kept_after_all limit nat_le kept calls) call
-  kept_after_all-push kept [] call = refl
-  kept_after_all-push kept (first ∷ calls) call =
-      kept_after_all-push (kept_after limit nat_le kept first) calls call
-
-  -- what one more call changes: nothing where it doesn't concern the stream
-  after_one_more : (calls : List NumberCall) (call : NumberCall) (name : IpFragId ℕ) (does : Bool)
-      → concerns nat_eq name call ≡ does → table_after limit nat_eq nat_le (calls ++ call ∷ []) name
-      ≡ cond does (kept_after limit nat_le (table_after limit nat_eq nat_le calls name) call)
-      (table_after limit nat_eq nat_le calls name)
-  after_one_more calls call name true does =
-      rw (filter-append (concerns nat_eq name) calls (call ∷ []), does)
-      (kept_after_all-push None (calls_of nat_eq name calls) call)
-  after_one_more calls call name false not =
-      rw (filter-append (concerns nat_eq name) calls (call ∷ []), not)
-      (ap (kept_after_all limit nat_le None) (append-nil (calls_of nat_eq name calls)))
-
-  -- the table behind one more call
-  table_after-push : (calls : List NumberCall) (call : NumberCall) (name : IpFragId ℕ)
-      → table_with limit nat_eq nat_le (table_after limit nat_eq nat_le calls) call name
-      ≡ table_after limit nat_eq nat_le (calls ++ call ∷ []) name
-  table_after-push calls (gives_frame None timestamp channel) name =
-      sym (after_one_more calls (gives_frame None timestamp channel) name false refl)
-  table_after-push calls (gives_frame (Some carried) timestamp channel) name =
-      sym (after_one_more calls (gives_frame (Some carried) timestamp channel) name
-      (same_stream nat_eq (name_of carried channel) name) refl)
-  table_after-push calls (drops_streams value) name =
-      sym (after_one_more calls (drops_streams value) name true refl)
-  table_after-push calls returns_buffer name = sym (after_one_more calls returns_buffer name false refl)
+-- what one more call makes of what is kept of each stream, as the library's law says it
+abbrev pub OneMoreCall : Type 0
+OneMoreCall = (limit : ℕ) (keep : ℕ → ℕ → Bool) (calls : List NumberCall) (call : NumberCall) (name : IpFragId ℕ)
+    → table_after limit nat_eq keep (calls ++ call ∷ []) name
+    ≡ table_with limit nat_eq keep (table_after limit nat_eq keep calls) call name
 
 -- a pool of this limit that holds what one more call makes of the table is what the history and the call made
-pub HoldsHistory-push : (pool : IpDefragPool ℕ ℕ) (history : PoolHistory) (call : NumberCall)
+pub HoldsHistory-push : OneMoreCall → (pool : IpDefragPool ℕ ℕ) (history : PoolHistory) (call : NumberCall)
     → limit_of pool ≡ history.limit
     → HoldsTable nat_eq pool (table_with history.limit nat_eq nat_le (table_behind history) call)
     → HoldsHistory (with_call history call) pool
-HoldsHistory-push pool history call limit held = record {
+HoldsHistory-push law pool history call limit held = record {
   limit = limit;
   table = record {
     apart = held.apart;
     each = λ name.
         subst (λ kept. HoldsEntry (limit_of pool) (stream_named nat_eq name pool) kept)
-        (table_after-push history.limit history.calls call name) (held.each name);
+        (sym (law history.limit nat_le history.calls call name)) (held.each name);
   };
 }
 
 -- a frame that lacked no memory: what the pool then holds, and what it answers
-pub HoldsHistory-frame : (old new : IpDefragPool ℕ ℕ) (carried : Option PacketFragment) (timestamp channel : ℕ)
+pub HoldsHistory-frame : OneMoreCall → (old new : IpDefragPool ℕ ℕ) (carried : Option PacketFragment)
+    (timestamp channel : ℕ)
     (result : Result (Option IpDefragPayloadVec) IpDefragError)
     → TakesFrame nat_eq old new carried timestamp channel result → IsFalse (wants_memory result)
     → (history : PoolHistory) → HoldsHistory history old
     → HoldsHistory (with_call history (gives_frame carried timestamp channel)) new
-HoldsHistory-frame old new None timestamp channel result takes enough history held =
-    HoldsHistory-push new history (gives_frame None timestamp channel) (ap limit_of takes.1 ∙ held.limit)
+HoldsHistory-frame law old new None timestamp channel result takes enough history held =
+    HoldsHistory-push law new history (gives_frame None timestamp channel) (ap limit_of takes.1 ∙ held.limit)
     (rw takes.1 held.table)
-HoldsHistory-frame old new (Some carried) timestamp channel result takes enough history held =
-    HoldsHistory-push new history (gives_frame (Some carried) timestamp channel) (takes.limit ∙ held.limit)
+HoldsHistory-frame law old new (Some carried) timestamp channel result takes enough history held =
+    HoldsHistory-push law new history (gives_frame (Some carried) timestamp channel) (takes.limit ∙ held.limit)
     (rw held.limit at (takes.holds enough (table_behind history) held.table))
 
 pub frame_answered : (old new : IpDefragPool ℕ ℕ) (carried : Option PacketFragment) (timestamp channel : ℕ)
@@ -102,17 +73,17 @@ sweeps_nothing pooling before second oldest held not =
     (sym (ap (λ (b : Bool). if b then with_call (record before { swept = second }) (drops_streams oldest) else before) is)) held
 
 -- a later one drops what is too old
-pub sweeps : (old new : Pooling) (before : PoolHistory) (second oldest : ℕ) → HoldsPooling before old
+pub sweeps : OneMoreCall → (old new : Pooling) (before : PoolHistory) (second oldest : ℕ) → HoldsPooling before old
     → nat_lt old.swept second ≡ true → new.swept ≡ second → limit_of new.pool ≡ limit_of old.pool
     → HoldsTable nat_eq new.pool
     (table_with before.limit nat_eq nat_le (table_behind before) (drops_streams oldest))
     → HoldsPooling (with_sweep before second oldest) new
-sweeps old new before second oldest held later swept limit table =
+sweeps law old new before second oldest held later swept limit table =
     let is : nat_lt before.swept second ≡ true = ap (λ (n : ℕ). nat_lt n second) (sym held.swept) ∙ later in
     subst (λ (h : PoolHistory). HoldsPooling h new)
     (sym (ap (λ (b : Bool). if b then with_call (record before { swept = second }) (drops_streams oldest) else before) is)) (record {
       swept = swept;
-      held = HoldsHistory-push new.pool (record before { swept = second }) (drops_streams oldest)
+      held = HoldsHistory-push law new.pool (record before { swept = second }) (drops_streams oldest)
           (limit ∙ held.held.limit) table;
     })
 

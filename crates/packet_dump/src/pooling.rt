@@ -2,10 +2,9 @@
 
 ghost use Rattle.std.specs.Prelude.{◌≡◌, ◌++◌, nat_le, ℕ, List, OnOk};
 ghost use Rattle.capture_reader.specs.Readers.{shown_of};
-ghost use Rattle.etherparse.specs.Calls.{drops_streams};
 ghost use Rattle.etherparse.specs.Layers.{layers_of};
 ghost use Rattle.packet_dump.specs.PacketLines.{start_text};
-ghost use Rattle.packet_dump.specs.PacketCalls.{HoldsHistory, PoolHistory, frame_call, new_pool, with_call, with_sweep};
+ghost use Rattle.packet_dump.specs.PacketCalls.{PoolHistory, frame_call, new_pool, with_call, with_sweep};
 ghost use Rattle.packet_dump.specs.PoolLines.{GivesFrame, IsCallText, oldest_from};
 ghost use Rattle.packet_dump.specs.Sessions.{HoldsPooling};
 
@@ -14,6 +13,7 @@ use crate::view::View;
 use capture_reader::Shown;
 use etherparse::SlicedPacket;
 use etherparse::defrag::{IpDefragError, IpDefragPayloadVec, IpDefragPool};
+use etherparse::laws::defrag::one_more_call;
 use std::alloc::{AllocError, Global};
 use std::cell::Cell;
 
@@ -80,6 +80,7 @@ impl Pooling {
             × HoldsPooling (with_call before (frame_call (layers_of sliced.now) this)) self.new
             × (output.new.items ≡ output.old.items ++ text)) }
     {
+        one_more_call::<u128, u64, u128>();
         let answer = self.pool.process_sliced_packet(sliced, this, 0);
         push_answer(output, view, number, first, shown, sliced, &answer)?;
         self.give_back(answer);
@@ -95,6 +96,7 @@ impl Pooling {
         if self.swept >= second {
             return;
         }
+        one_more_call::<u128, u64, u128>();
         self.swept = second;
         self.pool.retain(
             |kept: &u128| -> bool

@@ -1,7 +1,7 @@
 //! What no contract says: that calls succeed where there is memory, whatever is shown, and what comes of readers and
 //! writers that move little or fail, and of captures that are cut.
 
-ghost use Rattle.std.specs.Prelude.{◌≤◌, IfOk};
+ghost use Rattle.std.specs.Prelude.{◌≤◌};
 
 use crate::ending::Ending;
 use crate::engine::{MOST_READS, run};

@@ -1,6 +1,6 @@
 //! The header of Ethernet II (IEEE 802.3, clause 3).
 
-ghost use Rattle.std.specs.Prelude.{◌≡◌, ◌++◌, ◌+◌, ◌<◌, ◌≤◌, length, [], IfOk, IfErr, OnOk, OnErr, IsOkAnd, List, ℕ, vec_len, vec_capacity};
+ghost use Rattle.std.specs.Prelude.{◌≡◌, ◌++◌, ◌+◌, ◌<◌, ◌≤◌, length, [], IfOk, IfErr, OnOk, OnErr, IsOkAnd, vec_len, vec_capacity};
 ghost use Rattle.ep_base.specs.Tables.{Parts, parts_of};
 ghost use Rattle.ep_link.specs.Ethernet2.{ethernet2_bytes, IsEthernet2, RefusesEthernet2};
 

@@ -1,6 +1,6 @@
 //! Two VLAN tags, one behind the other (IEEE 802.1Q, 9.6).
 
-ghost use Rattle.std.specs.Prelude.{◌≡◌, ◌++◌, ◌+◌, ◌<◌, ◌≤◌, [], IfOk, IfErr, OnOk, OnErr, IsOkAnd, List, ℕ, length, vec_len, vec_capacity};
+ghost use Rattle.std.specs.Prelude.{◌≡◌, ◌++◌, ◌+◌, ◌<◌, ◌≤◌, [], IfOk, IfErr, OnOk, OnErr, IsOkAnd, length, vec_len, vec_capacity};
 ghost use Rattle.ep_base.specs.Tables.{Parts, parts_of};
 ghost use Rattle.ep_link.specs.Vlan.{double_vlan_bytes, IsDoubleVlan, RefusesDoubleVlan};
 

@@ -1,4 +1,4 @@
-use Rattle.std.proofs.Common.{◌≡◌, ◌+◌, ℕ, length, sym, ap, subst, refl, inr, arith}
+use Rattle.std.proofs.Common.{◌+◌, ℕ, length, sym, ap, subst, refl, inr, arith}
 use Rattle.std.specs.Prelude.{is_ok}
 use Rattle.std.proofs.lemmas.List.{length-append}
 use Rattle.ep_base.specs.Bytes.{AreBytes}

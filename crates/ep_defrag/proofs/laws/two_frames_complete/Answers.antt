@@ -1,5 +1,4 @@
 use Rattle.std.proofs.Common.{refl}
-use Rattle.ep_defrag.specs.Calls.{accepted_in}
 use Rattle.ep_defrag.specs.Completing.{name_in}
 use Rattle.ep_defrag.specs.Pools.{limit_of, stream_named}
 use Rattle.ep_defrag.proofs.CarryingLemmas.{carrying}

@@ -25,7 +25,7 @@ returns c = λ before held.
           (frame_answered old new carried c.args.this 0 answer takes enough before held.held) told.1,
       c.give_back.ensures (with_call before (frame_call layers c.args.this)) (record {
         swept = held.swept;
-        held = HoldsHistory-frame old new carried c.args.this 0 answer takes enough before held.held;
+        held = HoldsHistory-frame c.one_more_call.ensures old new carried c.args.this 0 answer takes enough before held.held;
       }),
       told.2,
     )

@@ -11,7 +11,7 @@ returns-then-self-second c = λ before held.
 
 pub returns : goal.returns
 returns c = λ before held.
-    sweeps c.args.self.now _ before c.args.second c.args.oldest held
+    sweeps c.one_more_call.ensures c.args.self.now _ before c.args.second c.args.oldest held
     (lt-ltb c.args.self.now.swept c.args.second c.if-self-second.false) refl c.retain.ensures.answered.limit
     (c.retain.ensures.holds (table_behind before) held.held.table (nat_le c.args.oldest)
     (λ timestamp answer met. search (rules, of_calls)))
