@@ -24,6 +24,10 @@ if [ ${#words[@]} -eq 0 ]; then
 fi
 for folder in "$top"/crates/*/out/rlib; do
     words+=(-L "dependency=$folder")
+    # a run of the gate that was broken off may have left nothing of a library
+    for library in "$folder"/*.rlib; do
+        [ -e "$library" ] || exec rt lib
+    done
 done
 kit=$(dirname "$(dirname "$(readlink -f "$(command -v rt)")")")
 exec "$kit/bin/rattle" build --crate-name etherparse_c src/lib.rt --extern "std=$kit/rlibs/std.rlib" \

@@ -1,5 +1,7 @@
 pub mod HeldStepLemmas
 pub mod PlaceLemmas
 pub mod PlainLemmas
+pub mod RoomLemmas
 pub mod TagLemmas
 pub mod TextLemmas
+pub mod TextLengthLemmas

@@ -1,6 +1,6 @@
 //! Building a frame into the caller's buffer.
 
-ghost use Rattle.std.specs.Prelude.{◌≡◌, ◌<◌, ◌≤◌, ◌++◌, ◌⊎◌, Option, None, Some, MatchOption, MatchResult, drop, length};
+ghost use Rattle.std.specs.Prelude.{◌≡◌, ◌<◌, ◌≤◌, ◌++◌, ◌⊎◌, Option, None, Some, MatchOption, MatchResult, length};
 ghost use Rattle.etherparse.specs.Types.TransportHeader.TheVariants as transport;
 ghost use Rattle.etherparse.specs.Steps.{ip_link, ip_step_headers};
 ghost use Rattle.etherparse_c.specs.Building.{IsBuildAnswer, echo_of, icmpv4_echo, icmpv6_echo, route_headers};

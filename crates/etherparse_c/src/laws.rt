@@ -1,14 +1,18 @@
 //! Facts on what C is told, of which no call speaks by itself.
 
-ghost use Rattle.std.specs.Prelude.{◌≡◌, ◌+◌, ◌≤◌, ℕ, List, length};
+ghost use Rattle.std.specs.Prelude.{◌≡◌, ◌+◌, ◌<◌, ◌≤◌, ◌^◌, ℕ, nat_eq, List, length, Option, None, Some};
 ghost use Rattle.etherparse.specs.Frame.{IsFrame};
 ghost use Rattle.etherparse.specs.FrameBytes.{last_payload};
 ghost use Rattle.etherparse.specs.Layers.{Layers};
+ghost use Rattle.etherparse.specs.Pools.{HoldsTable, limit_of};
 ghost use Rattle.etherparse_c.specs.Description.{description, payload_offset};
 ghost use Rattle.etherparse_c.specs.Places.{Describes};
-ghost use Rattle.etherparse_c.specs.RefusalTexts.{AreTextsOfRefusals};
+ghost use Rattle.etherparse_c.specs.PoolAnswers.{IsPushAnswer, Table};
+ghost use Rattle.etherparse_c.specs.RefusalTexts.{AreTextsOfRefusals, text_told};
 
-use crate::packet::Packet;
+use crate::packet::{Packet, Refusal};
+use crate::pool_answer::PoolAnswer;
+use crate::state::State;
 use etherparse::Entry;
 
 /// The bytes of a frame's layers stand where the description of these layers says, and the last payload ends within
@@ -27,3 +31,21 @@ pub fn frame_places()
 pub fn refusal_texts()
     ensures { AreTextsOfRefusals }
 {}
+
+/// The text of what C is told of a refusal has at most 141 bytes, so that 142 have room for it with its zero byte.
+pub fn text_lengths()
+    ensures { (refusal : Refusal) (text : List ℕ) → refusal.number < 2 ^ 32 → refusal.required_len < 2 ^ 64
+        → refusal.len < 2 ^ 64 → refusal.layer_start_offset < 2 ^ 64 → text_told refusal ≡ Some text
+        → length text ≤ 141 }
+{}
+
+/// A buffer of as many bytes as a pool's limit has room for every payload: where none waited, a push leaves none
+/// waiting. It follows from the library's law of the limit, which the body names.
+pub fn limit_has_room()
+    ensures { (entry : Option Entry) (bytes : List ℕ) (timestamp channel : ℕ) (old new : State)
+        (before behind : List ℕ) (told : PoolAnswer) (status : ℕ) (table : Table)
+        → HoldsTable nat_eq old.pool table → old.waiting ≡ None → limit_of old.pool ≤ length before
+        → IsPushAnswer entry bytes timestamp channel old new before behind told status → new.waiting ≡ None }
+{
+    etherparse::laws::defrag::data_within_limit::<u64, u64>();
+}

@@ -11,7 +11,7 @@ ghost use Rattle.etherparse.specs.Ipv4Slices.{ipv4_slice_extensions, ipv4_slice_
 ghost use Rattle.etherparse.specs.Ipv6Slices.{ipv6_slice_extensions, ipv6_slice_payload};
 ghost use Rattle.etherparse.specs.FrameFragments.{first_fragment};
 ghost use Rattle.etherparse.specs.Layers.{net_layer_of};
-ghost use Rattle.etherparse_c.specs.Description.{ip_in, ipv4_part, ipv6_part, net_kind, net_len, no_ip, part, parts_len};
+ghost use Rattle.etherparse_c.specs.Description.{ip_in, ipv4_part, ipv6_part, net_kind, net_len, part, parts_len};
 
 use crate::numbers;
 use crate::packet::{Ip, Part};

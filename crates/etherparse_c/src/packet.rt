@@ -64,7 +64,7 @@ pub struct Payload {
 pub struct Refusal {
     /// What is wrong, and 0 for nothing.
     pub kind: u32,
-    /// The layer that needs more bytes than there are, and 0 for other kinds.
+    /// The layer that needs another number of bytes than there are, and 0 for other kinds.
     pub layer: u32,
     /// What set the number of bytes at hand.
     pub len_source: u32,

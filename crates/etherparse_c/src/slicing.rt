@@ -1,8 +1,6 @@
 //! Slicing a frame.
 
-ghost use Rattle.std.specs.Prelude.{◌≡◌, IfOk, IfErr, MatchOption};
-ghost use Rattle.etherparse.specs.Layers.{Layers, layers_of, no_layers};
-ghost use Rattle.etherparse.specs.Frame.{IsFrame};
+ghost use Rattle.std.specs.Prelude.{◌≡◌};
 ghost use Rattle.etherparse_c.specs.SliceAnswers.{IsSliceAnswer, entry_of, nothing_said, refused_packet};
 
 use crate::describing::describe;

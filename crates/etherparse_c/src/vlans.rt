@@ -1,6 +1,6 @@
 //! The VLAN tags of plain frames.
 
-ghost use Rattle.std.specs.Prelude.{◌≡◌, IfSome, IsTrue, List, length, true};
+ghost use Rattle.std.specs.Prelude.{◌≡◌, IfSome, List, length, true};
 ghost use Rattle.etherparse.specs.LinkExtensions.{IsVlanType, LinkExtension, vlan};
 ghost use Rattle.etherparse.specs.VlanSlices.{vlan_slice_header, vlan_slice_payload};
 ghost use Rattle.etherparse_c.specs.Description.{tag_part, tag_slots};

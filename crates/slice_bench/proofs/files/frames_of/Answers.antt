@@ -1,4 +1,4 @@
-use Rattle.std.proofs.Common.{rules, ◌≡◌, ◌<◌, ◌∷◌, ◌++◌, [], map, length, ap, ◌∙◌, append_assoc}
+use Rattle.std.proofs.Common.{rules, ◌≡◌, ◌∷◌, ◌++◌, [], map, ap, ◌∙◌, append_assoc}
 use Rattle.std.proofs.lemmas.List.{map_push, append-nil, nil_from_length}
 use Rattle.slice_bench.proofs.FileLemmas.{frames_behind, no_frames}
 use Rattle.slice_bench.proofs.files.frames_of.Goals as goal
