@@ -3,7 +3,7 @@
 
 PROGRAM is out/slice_bench, and FOLDER has the corpora that corpora.py wrote. walk.c, build.c and appends.c beside this
 file are built with gcc -O2. Prints, as rows of tables, in nanoseconds of processor time an item, each the least of
-REPEATS runs on one processor:
+several runs on one processor:
 
 - of each corpus each measurement of frames, and the walk in C;
 - of building a frame, and the same by hand in C;
@@ -17,7 +17,9 @@ import sys
 import tempfile
 
 HERE = os.path.dirname(os.path.abspath(__file__))
+# How many runs there are of what takes a second, and of what takes less.
 REPEATS = 5
+SHORT_REPEATS = 20
 FRAMES = ["udp64", "udp1400", "vlan2", "mix"]
 MEASUREMENTS = ["slicing", "slicing-apart", "filling", "decoding", "rereading", "ipv4-slice", "ip-headers"]
 # the fragments of a corpus, by how many rounds are made besides the first
@@ -37,8 +39,8 @@ def ran(*command):
 
 
 def least(pattern, *command):
-    """The least of the numbers that the pattern finds in what runs of a command print."""
-    return min(float(re.search(pattern, ran(*command)[1])[1]) for _ in range(REPEATS))
+    """The least of the numbers that the pattern finds in what short runs of a command print."""
+    return min(float(re.search(pattern, ran(*command)[1])[1]) for _ in range(SHORT_REPEATS))
 
 
 def rounds_beyond_one(rounds, items, command):
@@ -66,8 +68,8 @@ def main(program, folder):
         heading("Corpus", *(f"`{name}`" for name in MEASUREMENTS), "walk in C")
         for corpus in FRAMES:
             file = f"{folder}/{corpus}"
-            values = [least(rf"{name} +\d+ +\d+ +([\d.]+)", program, file, 400, name) for name in MEASUREMENTS]
-            row(f"`{corpus}`", [*values, least(r"([\d.]+) ns", f"{made}/walk", file, 400)])
+            values = [least(rf"{name} +\d+ +\d+ +([\d.]+)", program, file, 1000, name) for name in MEASUREMENTS]
+            row(f"`{corpus}`", [*values, least(r"([\d.]+) ns", f"{made}/walk", file, 1000)])
 
         heading("Frame", "`building`", "by hand in C")
         for corpus, size in [("udp64", 64), ("udp1400", 1400)]:
@@ -80,7 +82,8 @@ def main(program, folder):
             file = f"{folder}/{corpus}"
             items = int(re.search(r"reassembly +(\d+)", ran(program, file, 1, "reassembly")[1])[1])
             here.append(rounds_beyond_one(rounds, items, lambda number: [program, file, number, "reassembly"]))
-            by_hand.append(least(r"([\d.]+) ns", f"{made}/appends", file, rounds))
+            command = [f"{made}/appends", file, rounds]
+            by_hand.append(min(float(re.search(r"([\d.]+) ns", ran(*command)[1])[1]) for _ in range(REPEATS)))
         row("`slice_bench`", here, 0)
         row("by hand in C", by_hand, 0)
 
