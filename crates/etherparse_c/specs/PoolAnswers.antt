@@ -4,6 +4,7 @@ use Rattle.std.specs.Option.{option_map}
 use Rattle.etherparse.specs.Types.IpDefragError.{IpDefragError}
 use Rattle.etherparse.specs.Types.IpDefragError.TheVariants.{UnalignedFragmentPayloadLen, SegmentTooBig, ConflictingEnd, AllocationFailure}
 use Rattle.etherparse.specs.Types.IpDefragPayloadVec.{IpDefragPayloadVec}
+use Rattle.etherparse.specs.Types.IpDefragPool.{IpDefragPool}
 use Rattle.etherparse.specs.Types.IpFragId.{IpFragId}
 use Rattle.etherparse.specs.Calls.{Kept, kept_by}
 use Rattle.etherparse.specs.Pools.{HoldsTable, TakesFrame, limit_of, streams_of}
@@ -22,6 +23,14 @@ use Rattle.etherparse_c.specs.Description.{no_refusal, source_number}
 use Rattle.etherparse_c.specs.RefusalNumbers.{refusal_part}
 
 -- ---- the pool that C points to
+
+-- the library's pool behind it
+abbrev pub pool_of : State → IpDefragPool ℕ ℕ
+pool_of state = state.pool
+
+-- the payload that waits in it, if one does
+abbrev pub waiting_in : State → Option IpDefragPayloadVec
+waiting_in state = state.waiting
 
 -- a pool of this limit without streams, in which no payload waits
 pub record IsFresh (most : ℕ) (state : State) : Type 0 where

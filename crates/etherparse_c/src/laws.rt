@@ -7,7 +7,7 @@ ghost use Rattle.etherparse.specs.Layers.{Layers};
 ghost use Rattle.etherparse.specs.Pools.{HoldsTable, limit_of};
 ghost use Rattle.etherparse_c.specs.Description.{description, payload_offset};
 ghost use Rattle.etherparse_c.specs.Places.{Describes};
-ghost use Rattle.etherparse_c.specs.PoolAnswers.{IsPushAnswer, Table};
+ghost use Rattle.etherparse_c.specs.PoolAnswers.{IsPushAnswer, Table, pool_of, waiting_in};
 ghost use Rattle.etherparse_c.specs.RefusalTexts.{AreTextsOfRefusals, text_told};
 
 use crate::packet::{Packet, Refusal};
@@ -44,8 +44,8 @@ pub fn text_lengths()
 pub fn limit_has_room()
     ensures { (entry : Option Entry) (bytes : List ℕ) (timestamp channel : ℕ) (old new : State)
         (before behind : List ℕ) (told : PoolAnswer) (status : ℕ) (table : Table)
-        → HoldsTable nat_eq old.pool table → old.waiting ≡ None → limit_of old.pool ≤ length before
-        → IsPushAnswer entry bytes timestamp channel old new before behind told status → new.waiting ≡ None }
+        → HoldsTable nat_eq (pool_of old) table → waiting_in old ≡ None → limit_of (pool_of old) ≤ length before
+        → IsPushAnswer entry bytes timestamp channel old new before behind told status → waiting_in new ≡ None }
 {
     etherparse::laws::defrag::data_within_limit::<u64, u64>();
 }
