@@ -1,8 +1,9 @@
 -- That linked headers are walked, all of them, and that written headers are a chain.
 use Rattle.std.proofs.Common.{◌≡◌, ℕ, ◌==◌, ◌&&◌, Bool, true, false, not, if◌then◌else◌, List, [], ◌∷◌, ◌++◌, Option, Some, None, refl, sym, ap, subst, ◌∙◌, arith, append_assoc}
 use Rattle.std.specs.Option.{option_map, is_some}
-use Rattle.std.specs.Prelude.{Ok, map}
+use Rattle.std.specs.Prelude.{Ok}
 use Rattle.std.proofs.lemmas.Bool.{true≢false}
+use Rattle.std.proofs.lemmas.List.{append-nil}
 use Rattle.std.proofs.lemmas.Option.{none-some}
 use Rattle.std.proofs.lemmas.Grind.{common_steps}
 use Rattle.ep_base.specs.Layer.{headers}
@@ -16,13 +17,13 @@ use Rattle.ep_ext.specs.declared.ipv6_routing_exts.Ipv6RoutingExtensions.{Ipv6Ro
 use Rattle.ep_ext.specs.declared.ipv6_exts_walk.Marks.{Marks}
 use Rattle.ep_ext.specs.IpAuth.{ip_auth_bytes}
 use Rattle.ep_ext.specs.FragmentHeader.{fragment_header_bytes}
-use Rattle.ep_ext.specs.ExtensionParts.{ExtensionPart, hop_by_hop, destination_options, routing, fragment, authentication, part_number, part_next, part_bytes, FitsPart, IsExtensionPart}
+use Rattle.ep_ext.specs.ExtensionParts.{ExtensionPart, hop_by_hop, destination_options, routing, fragment, authentication, part_number, part_next, part_bytes, parts_there, FitsPart, IsExtensionPart}
 use Rattle.ep_ext.specs.Chains.{ipv4, ipv6, is_first, is_ipv6_extension, parts_bytes, chain_of, FitParts, IsChainBehind, IsExtensionChain}
-use Rattle.ep_ext.specs.Ipv4Chains.{ipv4_first, ipv4_linked, ipv4_parts, ipv4_walk}
-use Rattle.ep_ext.specs.Ipv6Chains.{no_ipv6_extensions, extensions_of, with_part, with_parts, final_by, routing_header, header_for, IsWalkBehind, missing_number, WalksAll, ipv6_first, ipv6_linked, ipv6_parts}
+use Rattle.ep_ext.specs.Ipv4Chains.{ip_auth_leading_to, ipv4_first, ipv4_linked, ipv4_parts, ipv4_walk}
+use Rattle.ep_ext.specs.Ipv6Chains.{no_ipv6_extensions, extensions_of, with_part, with_parts, with_destination, final_by, routing_header, header_for, IsWalkBehind, missing_number, WalksAll, number_before, raw_leading_to, fragment_leading_to, routing_leading_to, after_routing, ipv6_first, ipv6_linked, ipv6_parts}
 use Rattle.ep_ext.specs.Walks.{marked, header_at, missing_at}
 use Rattle.ep_ext.proofs.ChainLemmas.{ends_at_once, one_authentication}
-use Rattle.ep_ext.proofs.ValueLemmas.{headers_take, headers_end, first_none_taken}
+use Rattle.ep_ext.proofs.ValueLemmas.{HasTaken, value_of, headers_take, headers_end, first_none_taken}
 use Rattle.ep_ext.proofs.WalkLemmas.{IsMarked, marked_none, mark_more, found_is, found_kind, left_is}
 use Rattle.ep_ext.proofs.WalkMarkLemmas.{no_marks}
 
@@ -77,39 +78,6 @@ all_taken extensions taken walked marks number m none =
     (spent destination_options (final_by extensions.routing) marks.final_destination_options f.0)
     (spent destination_options extensions.destination_options marks.destination_options b.0)) refl))))
 
--- what a walk takes at the numbers to which these headers lead, from one on, and the number behind them
-abbrev found_along : Ipv6Extensions → List ℕ → ℕ → List ExtensionPart → List (Option ExtensionPart)
-found_along extensions taken number [] = []
-found_along extensions taken number (part ∷ parts) =
-    header_for extensions taken number ∷ found_along extensions (number ∷ taken) (part_next part) parts
-
-abbrev number_behind : ℕ → List ExtensionPart → ℕ
-number_behind number [] = number
-number_behind number (part ∷ parts) = number_behind (part_next part) parts
-
--- numbers that lead through all headers end there
-leads_to_end : (extensions : Ipv6Extensions) (taken : List ℕ) (walked : Ipv6Extensions) (marks : Marks) (number : ℕ)
-    (parts : List ExtensionPart) → IsMarked taken walked marks
-    → found_along extensions taken number parts ≡ map Some parts
-    → missing_number extensions (with_parts walked parts) ≡ None
-    → IsWalkBehind extensions taken number parts (number_behind number parts)
-leads_to_end extensions taken walked marks number [] m found none = (
-  found_is extensions taken walked marks number m
-      ∙ all_taken extensions taken walked marks number m (sym (left_is extensions taken walked marks m)
-      ∙ none),
-  refl,
-)
-leads_to_end extensions taken walked marks number (part ∷ parts) m found none =
-    let here : header_for extensions taken number ≡ Some part = cc in
-    let later : found_along extensions (number ∷ taken) (part_next part) parts ≡ map Some parts = cc in
-    let kind = found_kind extensions taken number part here in
-    let more = subst (λ (n : ℕ). IsMarked (n ∷ taken) (with_part walked part) (marked marks part)) (sym kind.0)
-    (mark_more taken walked marks part m) in (
-      here,
-      leads_to_end extensions (number ∷ taken) (with_part walked part) (marked marks part) (part_next part) parts more
-          later none,
-    )
-
 and_not : (test : Bool) → (test && not test) ≡ false
 and_not true = refl
 and_not false = refl
@@ -125,75 +93,245 @@ nothing_left extensions = λ i.
     else if and_not (is_some (final_by extensions.routing)) i then Some 60
     else None
 
--- ---- the linked headers
+-- ---- headers in slots, linked one to the next
 
--- a routing header and the options behind it
-abbrev routing_by : Option Ipv6RawExtHeader → Option Ipv6RawExtHeader → Option Ipv6RoutingExtensions
-routing_by None final = None
-routing_by (Some header) final = Some (record { routing = header; final_destination_options = final })
+-- A slot in the order of linking: the number of its kind, its kind, how its header leads to a number, the value of the
+-- headers up to it, and the header, where there is one.
+data Slot : Type 1 where
+  slot : {H : Type 0} → ℕ → (H → ExtensionPart) → (IpNumber → H → H) → (Option H → Ipv6Extensions) → Option H → Slot
 
-abbrev Linked : Ipv6Extensions → IpNumber → Type 0
-Linked extensions last =
+-- the number of the first header, where the slots lead to the last number
+abbrev slots_first : List Slot → IpNumber → IpNumber
+slots_first [] last = last
+slots_first (slot number kind leading_to value there ∷ slots) last = number_before there number (slots_first slots last)
+
+-- the headers of the slots, each leading to the next one
+abbrev slots_parts : List Slot → IpNumber → List ExtensionPart
+slots_parts [] last = []
+slots_parts (slot number kind leading_to value there ∷ slots) last =
+    parts_there kind (option_map (leading_to (slots_first slots last)) there) ++ slots_parts slots last
+
+-- what was taken behind a slot
+abbrev taken_with : {H : Type 0} → Option H → ℕ → List ℕ → List ℕ
+taken_with None number taken = taken
+taken_with (Some header) number taken = number ∷ taken
+
+-- Each header is taken, leads to the next one, and is put to the value of those before it, where those were taken; the
+-- last value is the whole.
+abbrev Lead : Ipv6Extensions → List ℕ → Ipv6Extensions → List Slot → IpNumber → Type 0
+Lead extensions taken walked [] last = walked ≡ extensions
+Lead extensions taken walked (slot {H} number kind leading_to value there ∷ slots) last =
+    let next = slots_first slots last in
+    (walked ≡ value None)
+    × ((header : H) → there ≡ Some header → HasTaken taken walked
+    → (header_for extensions taken number ≡ option_map kind (option_map (leading_to next) there))
+    × (part_next (kind (leading_to next header)) ≡ next.0)
+    × (with_part walked (kind (leading_to next header)) ≡ value (Some (leading_to next header))))
+    × Lead extensions (taken_with there number taken) (value (option_map (leading_to next) there)) slots last
+
+-- a walk leads through such slots, and takes the whole value
+abbrev Walks : Ipv6Extensions → List ℕ → Ipv6Extensions → List Slot → IpNumber → Type 0
+Walks extensions taken walked slots last =
+    IsWalkBehind extensions taken (slots_first slots last).0 (slots_parts slots last) last.0
+    × (with_parts walked (slots_parts slots last) ≡ extensions)
+
+slots_walk : (extensions : Ipv6Extensions) (taken : List ℕ) (walked : Ipv6Extensions) (marks : Marks)
+    (slots : List Slot) (last : IpNumber) → IsMarked taken walked marks → Lead extensions taken walked slots last
+    → Walks extensions taken walked slots last
+slots_walk extensions taken walked marks [] last m whole = (
+  (
+    found_is extensions taken walked marks last.0 m
+        ∙ all_taken extensions taken walked marks last.0 m (sym (left_is extensions taken walked marks m)
+        ∙ ap (missing_number extensions) whole ∙ nothing_left extensions),
+    refl,
+  ),
+  whole,
+)
+slots_walk extensions taken walked marks (slot number kind leading_to value None ∷ slots) last m leads =
+    slots_walk extensions taken walked marks slots last m
+    (subst (λ (w : Ipv6Extensions). Lead extensions taken w slots last) (sym leads.0) leads.2)
+slots_walk extensions taken walked marks (slot number kind leading_to value (Some header) ∷ slots) last m leads =
+    let part = kind (leading_to (slots_first slots last) header) in
+    let here = leads.1 header refl m.has in
+    let more = subst (λ (n : ℕ). IsMarked (n ∷ taken) (with_part walked part) (marked marks part))
+    (sym (found_kind extensions taken number part here.0).0) (mark_more taken walked marks part m) in
+    let behind = slots_walk extensions (number ∷ taken) (with_part walked part) (marked marks part) slots last more
+    (subst (λ (w : Ipv6Extensions). Lead extensions (number ∷ taken) w slots last) (sym here.2) leads.2) in (
+      (
+        here.0,
+        subst (λ (n : ℕ). IsWalkBehind extensions (number ∷ taken) n (slots_parts slots last) last.0) (sym here.1)
+            behind.0,
+      ),
+      behind.1,
+    )
+
+-- ---- the headers of a value lie in such slots
+
+-- a routing header with these options behind it
+abbrev with_final : Option Ipv6RawExtHeader → Ipv6RoutingExtensions → Ipv6RoutingExtensions
+with_final final behind = record behind { final_destination_options = final }
+
+-- the slots of a value that is linked
+abbrev slots_of : Ipv6Extensions → IpNumber → List Slot
+slots_of extensions last =
+    let linked = ipv6_linked extensions last in
+    let hop = linked.hop_by_hop_options in
+    let destination = linked.destination_options in
+    let alone = option_map (with_final None) in
+    slot 0 hop_by_hop raw_leading_to (λ (there : Option Ipv6RawExtHeader). value_of there None None None None)
+    extensions.hop_by_hop_options
+    ∷ slot 60 destination_options raw_leading_to
+    (λ (there : Option Ipv6RawExtHeader). value_of hop there None None None) extensions.destination_options
+    ∷ slot 43 (λ (behind : Ipv6RoutingExtensions). routing behind.routing)
+    (λ (next : IpNumber). routing_leading_to next last)
+    (λ (there : Option Ipv6RoutingExtensions). value_of hop destination (alone there) None None)
+    extensions.routing
+    ∷ slot 44 fragment fragment_leading_to
+    (λ (there : Option Ipv6FragmentHeader). value_of hop destination (alone linked.routing) there None)
+    extensions.fragment
+    ∷ slot 51 authentication ip_auth_leading_to
+    (λ (there : Option IpAuthHeader). value_of hop destination (alone linked.routing) linked.fragment there)
+    extensions.auth
+    ∷ slot 60 destination_options raw_leading_to
+    (λ (there : Option Ipv6RawExtHeader).
+    value_of hop destination (option_map (with_final there) linked.routing) linked.fragment linked.auth)
+    (final_by extensions.routing)
+    ∷ []
+
+if_false : (test : Bool) (choice other : Option ExtensionPart) → test ≡ false → (if test then choice else other) ≡ other
+if_false true choice other is = absurd (true≢false is)
+if_false false choice other is = refl
+
+if_true : (test : Bool) (choice other : Option ExtensionPart) → test ≡ true → (if test then choice else other) ≡ choice
+if_true true choice other is = refl
+if_true false choice other is = absurd (true≢false (sym is))
+
+routing_found : (behind : Option Ipv6RoutingExtensions)
+    → option_map routing (option_map routing_header behind)
+    ≡ option_map (λ (there : Ipv6RoutingExtensions). routing there.routing) behind
+routing_found None = refl
+routing_found (Some behind) = refl
+
+-- the options behind a routing header
+final_leads : (hop destination : Option Ipv6RawExtHeader) (behind : Option Ipv6RoutingExtensions)
+    (fragmenting : Option Ipv6FragmentHeader) (auth : Option IpAuthHeader) (next last : IpNumber) (taken : List ℕ)
+    (header : Ipv6RawExtHeader)
+    → let there = option_map (routing_leading_to next last) behind in
+    let walked = value_of hop destination (option_map (with_final None) there) fragmenting auth in
+    let led = raw_leading_to last header in
+    final_by behind ≡ Some header → HasTaken taken walked
+    → (header_for (value_of hop destination there fragmenting auth) taken 60
+    ≡ option_map destination_options (option_map (raw_leading_to last) (final_by behind)))
+    × (last.0 ≡ last.0)
+    × (with_destination walked led walked.routing
+    ≡ value_of hop destination (option_map (with_final (Some led)) there) fragmenting auth)
+final_leads hop destination None fragmenting auth next last taken header there has = absurd (none-some header there)
+final_leads hop destination (Some behind) fragmenting auth next last taken header there has = (
+  if_false _ _ _ (has 60) ∙ if_true _ _ _ (has 43),
+  refl,
+  refl,
+)
+
+final_whole : (behind : Option Ipv6RoutingExtensions) (next last : IpNumber)
+    → let there = option_map (routing_leading_to next last) behind in
+    option_map (with_final (option_map (raw_leading_to last) (final_by behind))) there ≡ there
+final_whole None next last = refl
+final_whole (Some behind) next last = refl
+
+leads : (extensions : Ipv6Extensions) (last : IpNumber)
+    → Lead (ipv6_linked extensions last) [] no_ipv6_extensions (slots_of extensions last) last
+leads extensions last =
     let all = ipv6_linked extensions last in
-    let first = (ipv6_first extensions last).0 in
-    (found_along all [] first (ipv6_parts all) ≡ map Some (ipv6_parts all))
-    × (number_behind first (ipv6_parts all) ≡ last.0) × (extensions_of (ipv6_parts all) ≡ all)
+    let next = after_routing extensions last in
+    let whole = ap (λ (behind : Option Ipv6RoutingExtensions). value_of all.hop_by_hop_options all.destination_options
+    behind all.fragment all.auth) (final_whole extensions.routing next last) in (
+      refl,
+      λ header there has. (refl, refl, refl),
+      (
+        refl,
+        λ header there has. (if_false _ _ _ (has 60) ∙ if_false _ _ _ (has 43), refl, refl),
+        (
+          refl,
+          λ header there has. (if_false _ _ _ (has 43) ∙ routing_found all.routing, refl, refl),
+          (
+            refl,
+            λ header there has. (if_false _ _ _ (has 44), refl, refl),
+            (
+              refl,
+              λ header there has. (if_false _ _ _ (has 51), refl, refl),
+              (
+                refl,
+                final_leads all.hop_by_hop_options all.destination_options extensions.routing all.fragment all.auth next
+                    last _,
+                whole,
+              ),
+            ),
+          ),
+        ),
+      ),
+    )
 
--- Each header is there or is not: the clauses split all six, the last ones first, and every case computes.
-linked_by : (hop destination behind final : Option Ipv6RawExtHeader) (fragmenting : Option Ipv6FragmentHeader)
-    (auth : Option IpAuthHeader) (last : IpNumber)
-    → Linked (record {
-      hop_by_hop_options = hop;
-      destination_options = destination;
-      routing = routing_by behind final;
-      fragment = fragmenting;
-      auth = auth;
-    }) last
-linked_by None None None None None None last = (refl, refl, refl)
-linked_by hop None None None None None last = (refl, refl, refl)
-linked_by hop destination None None None None last = (refl, refl, refl)
-linked_by hop destination behind None None None last = (refl, refl, refl)
-linked_by hop destination behind final None None last = (refl, refl, refl)
-linked_by hop destination behind final fragmenting None last = (refl, refl, refl)
-linked_by hop destination behind final fragmenting auth last = (refl, refl, refl)
+-- the headers of the slots are those of the linked value
+routing_part : (behind : Option Ipv6RoutingExtensions)
+    → parts_there (λ (b : Ipv6RoutingExtensions). routing b.routing) behind
+    ≡ parts_there routing (option_map routing_header behind)
+routing_part None = refl
+routing_part (Some behind) = refl
 
-routing_is : (there : Option Ipv6RoutingExtensions)
-    → routing_by (option_map routing_header there) (final_by there) ≡ there
-routing_is None = refl
-routing_is (Some behind) = refl
+final_led : (behind : Option Ipv6RoutingExtensions) (next last : IpNumber)
+    → option_map (raw_leading_to last) (final_by behind)
+    ≡ final_by (option_map (routing_leading_to next last) behind)
+final_led None next last = refl
+final_led (Some behind) next last = refl
 
-linked : (extensions : Ipv6Extensions) (last : IpNumber) → Linked extensions last
-linked e last =
-    subst (λ (there : Option Ipv6RoutingExtensions). Linked
-    (record {
-      hop_by_hop_options = e.hop_by_hop_options;
-      destination_options = e.destination_options;
-      routing =
-          there;
-      fragment = e.fragment;
-      auth = e.auth;
-    }) last)
-    (routing_is e.routing) (linked_by e.hop_by_hop_options e.destination_options
-    (option_map routing_header e.routing) (final_by e.routing) e.fragment e.auth last)
+-- the headers of the slots behind others
+abbrev slots_behind : List ExtensionPart → List Slot → IpNumber → List ExtensionPart
+slots_behind front [] last = front
+slots_behind front (slot number kind leading_to value there ∷ slots) last =
+    slots_behind (front ++ parts_there kind (option_map (leading_to (slots_first slots last)) there)) slots last
+
+behind_front : (front : List ExtensionPart) (slots : List Slot) (last : IpNumber)
+    → front ++ slots_parts slots last ≡ slots_behind front slots last
+behind_front front [] last = append-nil front
+behind_front front (slot number kind leading_to value there ∷ slots) last =
+    let here = parts_there kind (option_map (leading_to (slots_first slots last)) there) in
+    sym (append_assoc front here (slots_parts slots last)) ∙ behind_front (front ++ here) slots last
+
+parts_of_slots : (extensions : Ipv6Extensions) (last : IpNumber)
+    → slots_parts (slots_of extensions last) last ≡ ipv6_parts (ipv6_linked extensions last)
+parts_of_slots extensions last =
+    let all = ipv6_linked extensions last in
+    let front = parts_there hop_by_hop all.hop_by_hop_options
+    ++ parts_there destination_options all.destination_options in
+    let middle = parts_there fragment all.fragment in
+    let auths = parts_there authentication all.auth in
+    let routings = parts_there routing (option_map routing_header all.routing) in
+    behind_front [] (slots_of extensions last) last
+    ∙ ap (λ (there : List ExtensionPart). front ++ there ++ middle ++ auths ++ parts_there destination_options
+    (option_map (raw_leading_to last) (final_by extensions.routing))) (routing_part all.routing)
+    ∙ ap (λ (final : Option Ipv6RawExtHeader). front ++ routings ++ middle ++ auths
+    ++ parts_there destination_options final) (final_led extensions.routing (after_routing extensions last) last)
+
+linked : (extensions : Ipv6Extensions) (last : IpNumber)
+    → let all = ipv6_linked extensions last in
+    IsWalkBehind all [] (ipv6_first extensions last).0 (ipv6_parts all) last.0 × (extensions_of (ipv6_parts all) ≡ all)
+linked extensions last =
+    let all = ipv6_linked extensions last in
+    subst (λ (parts : List ExtensionPart). IsWalkBehind all [] (ipv6_first extensions last).0 parts last.0
+    × (extensions_of parts ≡ all)) (parts_of_slots extensions last)
+    (slots_walk all [] no_ipv6_extensions no_marks (slots_of extensions last) last marked_none (leads extensions last))
 
 pub linked_value : (extensions : Ipv6Extensions) (last : IpNumber)
     → extensions_of (ipv6_parts (ipv6_linked extensions last)) ≡ ipv6_linked extensions last
-linked_value extensions last = (linked extensions last).2
+linked_value extensions last = (linked extensions last).1
 
 -- the numbers lead through all linked headers
 pub linked_walk : (extensions : Ipv6Extensions) (last : IpNumber)
     → WalksAll (ipv6_linked extensions last) (ipv6_first extensions last).0 (ipv6_parts
     (ipv6_linked extensions last)) last.0
 linked_walk extensions last =
-    let l = linked extensions last in
     let all = ipv6_linked extensions last in
-    let first = (ipv6_first extensions last).0 in
-    let none : missing_number all (extensions_of (ipv6_parts all)) ≡ None = ap (missing_number all) l.2
-    ∙ nothing_left all in (
-      subst (λ (end : ℕ). IsWalkBehind all [] first (ipv6_parts all) end) l.1
-          (leads_to_end all [] no_ipv6_extensions no_marks first (ipv6_parts all) marked_none l.0 none),
-      none,
-    )
+    ((linked extensions last).0, ap (missing_number all) (linked_value extensions last) ∙ nothing_left all)
 
 -- ---- written headers are a chain
 

@@ -45,7 +45,7 @@
 //! # Putting fragments together
 //!
 //! [`defrag::IpDefragPool`] takes sliced packets and hands out each payload that is complete; a payload that is given
-//! back lends its memory to the next, and `retain` drops the streams of which nothing came for too long.
+//! back lends its memory to the next, and `retain` drops the streams whose last timestamp fails the caller's test.
 //! [`defrag::IpDefragBuf`] is one payload on its way, for callers who tell the streams apart themselves, and
 //! [`defrag::run_frames`] makes a list of calls.
 //!

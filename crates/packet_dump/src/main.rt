@@ -56,8 +56,8 @@ input is read.
   --hex              the bytes of payloads too, 16 in a row
   --reassemble       put IP payloads together from their fragments: a line more
                      behind the packet that completes one, or is refused for it
-  --timeout SECONDS  with --reassemble: give a payload up of which nothing came
-                     for so long (30)
+  --timeout SECONDS  with --reassemble: give a payload up whose last accepted
+                     fragment came longer ago (30)
   --limit BYTES      with --reassemble: put no payload together that is longer
                      (65535)
   --summary          behind the lines how much was read of what, and the errors:
