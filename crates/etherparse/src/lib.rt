@@ -5,7 +5,7 @@
 //! [`SlicedPacket`] walks over the bytes of a packet, from its Ethernet II or Linux cooked header, from an ether
 //! type or from the IP header on, and answers a slice for each layer: [`LinkSlice`], up to three [`LinkExtSlice`]
 //! (VLAN tags and MACsec), [`NetSlice`] (IPv4, IPv6 or ARP) and [`TransportSlice`] (UDP, TCP, ICMP). A slice
-//! copies nothing; its methods read single fields, and its `to_header` reads them all.
+//! copies nothing; its methods read single fields, and `to_header` of a header's slice reads them all.
 //!
 //! ```text
 //! let packet = SlicedPacket::from_ethernet(frame)?;
@@ -15,8 +15,9 @@
 //! ```
 //!
 //! What a packet says is bounded by its length fields; [`LenSource`] names the field that cut it. A packet that is
-//! none is refused by an [`err::packet::SliceError`], which names the layer, where it stands, and how many bytes are
-//! missing. No checksum is verified; `calc_checksum_ipv4` and its like compute what one should be.
+//! none is refused by an [`err::packet::SliceError`], which says what is wrong, and, where bytes are missing, in which
+//! layer, where that begins, and how many bytes it needs and has. No checksum is verified; `calc_checksum_ipv4` and its
+//! like compute what one should be.
 //!
 //! Where many packets are read, [`SlicedPacket::slice_into`] fills a packet that is there already; [`Entry`] says with
 //! what the bytes begin. [`PacketHeaders`] reads the same packets into headers by value ([`LinkHeader`],
@@ -44,10 +45,11 @@
 //!
 //! # Putting fragments together
 //!
-//! [`defrag::IpDefragPool`] takes sliced packets and hands out each payload that is complete; a payload that is given
-//! back lends its memory to the next, and `retain` drops the streams whose last timestamp fails the caller's test.
-//! [`defrag::IpDefragBuf`] is one payload on its way, for callers who tell the streams apart themselves, and
-//! [`defrag::run_frames`] makes a list of calls.
+//! [`defrag::IpDefragPool`] takes sliced packets and hands out each payload that is complete; its `with_limit` bounds
+//! the bytes of each stream, a payload that is given back lends its memory to the next, and `retain` drops the streams
+//! whose last timestamp fails the caller's test. [`defrag::IpDefragBuf`] is one payload on its way, for callers who
+//! tell the streams apart themselves. [`defrag::run_calls`] makes a list of calls with sliced packets, and
+//! [`defrag::run_frames`] one with frames as bytes.
 //!
 //! # Contracts that cite the library
 //!
