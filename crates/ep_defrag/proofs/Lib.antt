@@ -15,7 +15,7 @@ mod LookupLemmas
 mod StreamLemmas
 mod EntryLemmas
 mod OneFragmentLemmas
-mod TableLemmas
+mod HeldStreamLemmas
 mod TakingLemmas
 mod CallLemmas
 mod AloneLemmas

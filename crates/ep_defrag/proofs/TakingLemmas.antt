@@ -16,7 +16,7 @@ use Rattle.ep_defrag.specs.Streams.{PacketFragment, same_stream, source_of}
 use Rattle.ep_defrag.specs.Calls.{Kept, Payload, accepted_in, kept_with, payload_handed_out, answer_to_frame, table_with_fragment, table_with_frame, FrameMayNeedMemory}
 use Rattle.ep_defrag.specs.Pools.{Stream, limit_of, stream_named, HoldsEntry, HoldsTable, TakesFragment, TakesFrame, ChangesStream, BufferTakes, BufferRefuses, IsWhole, plain_payload, plain_frame_answer, payload_in, wants_memory}
 use Rattle.ep_defrag.proofs.StreamLemmas.{same_stream_laws}
-use Rattle.ep_defrag.proofs.TableLemmas.{HoldsTable-same, HoldsTable-changed, none_kept, entry_at}
+use Rattle.ep_defrag.proofs.HeldStreamLemmas.{HoldsTable-same, HoldsTable-changed, none_kept, entry_at}
 use Rattle.ep_defrag.proofs.OneFragmentLemmas.{refused_only, wanting_only, kept_refused, kept_complete, kept_more, answer_refused, answer_complete, answer_nothing, holds_in, entry_keeps, entry_more, entry_whole, entry_refused, answered_nothing, answered_payload, answered_refused}
 
 -- a test, and what a table has for it

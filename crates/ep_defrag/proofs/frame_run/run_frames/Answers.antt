@@ -5,7 +5,7 @@ use Rattle.ep_defrag.specs.Calls.{table_after}
 use Rattle.ep_defrag.specs.declared.frame_run.FrameAnswer.{FrameAnswer}
 use Rattle.ep_defrag.specs.FrameCalls.{IsOnlyRead, pool_calls, frame_answers_to, read_answer, frame_answer_wants_memory}
 use Rattle.ep_defrag.proofs.ListLemmas.{all_taken, before_and_at}
-use Rattle.ep_defrag.proofs.TableLemmas.{HoldsTable-same}
+use Rattle.ep_defrag.proofs.HeldStreamLemmas.{HoldsTable-same}
 use Rattle.ep_defrag.proofs.FrameLemmas.{AllZip-more, only_read, one_reading, table_after_read, frame_answers-push, read_cuts_at}
 use Rattle.ep_defrag.proofs.frame_run.run_frames.Goals as goal
 

@@ -5,7 +5,7 @@ use Rattle.ep_defrag.specs.Calls.{answers_to, table_after}
 use Rattle.ep_defrag.specs.declared.pool_run.PoolAnswer.{PoolAnswer}
 use Rattle.ep_defrag.specs.Pools.{plain_call, plain_answer, answer_wants_memory}
 use Rattle.ep_defrag.proofs.CallLemmas.{table_after-push, answers_after-push}
-use Rattle.ep_defrag.proofs.TableLemmas.{HoldsTable-same}
+use Rattle.ep_defrag.proofs.HeldStreamLemmas.{HoldsTable-same}
 use Rattle.ep_defrag.proofs.AloneLemmas.{cuts_at}
 use Rattle.ep_defrag.proofs.ListLemmas.{all_taken, before_and_at}
 use Rattle.ep_defrag.proofs.pool_run.run_calls_with_limit.Goals as goal

@@ -1,5 +1,5 @@
 use Rattle.std.proofs.Common.{◌≡◌, rules, of_calls, refl}
-use Rattle.ep_defrag.proofs.TableLemmas.{HoldsTable-answered, leaves_answered, holds_answered}
+use Rattle.ep_defrag.proofs.HeldStreamLemmas.{HoldsTable-answered, leaves_answered, holds_answered}
 use Rattle.ep_defrag.proofs.ip_defrag_pool.IpDefragPool.retain.Goals as goal
 
 pub returns-clause-answered : goal.returns-clause-answered
