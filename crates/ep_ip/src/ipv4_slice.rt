@@ -5,6 +5,7 @@ ghost use Rattle.ep_base.specs.Tables.{parts_of};
 ghost use Rattle.ep_ip.specs.Ipv4.{IsIpv4Packet, RefusesIpv4Packet};
 ghost use Rattle.ep_ip.specs.Ipv4Slices.{ipv4_header_slice_header, ipv4_header_slice_bytes};
 
+use crate::ipv4_header::Ipv4Header;
 use crate::ipv4_header_slice::Ipv4HeaderSlice;
 use ep_base::err::ipv4::{HeaderSliceError, SliceError};
 use ep_base::err::{Layer, LenError, ip_auth};
@@ -25,6 +26,7 @@ impl<'a> Ipv4Slice<'a> {
     ghost use Rattle.ep_ext.specs.Ipv4Chains.{ipv4_slice_parts as extension_parts, ipv4_slice_bytes as extension_bytes};
     ghost use Rattle.ep_ip.specs.declared.ipv4_header.Ipv4Header.{Ipv4Header};
     ghost use Rattle.ep_ip.specs.IpPackets.{IpPacket, IsIpv4, RefusesIpv4};
+    ghost use Rattle.ep_ip.specs.Ipv4.{ipv4_header_len};
     ghost use Rattle.ep_ip.specs.Ipv4Slices.{ipv4_slice_bytes, ipv4_slice_header, ipv4_slice_extensions};
     ghost use Rattle.ep_ip.specs.Ipv4Slices.{ipv4_slice_payload, ipv4_slice_content, ipv4_slice_packet};
 
@@ -73,6 +75,22 @@ impl<'a> Ipv4Slice<'a> {
         ensures bytes { ipv4_header_slice_bytes result ++ ipv4_slice_content self.now ≡ ipv4_slice_bytes self.now }
     {
         self.header.copied()
+    }
+
+    /// The number of bytes of the header, with its options and without the authentication header.
+    #[inline]
+    pub fn header_len(&self) -> usize
+        ensures { result ≡ ipv4_header_len (ipv4_slice_header self.now) }
+    {
+        self.header.header_len()
+    }
+
+    /// The header as a value.
+    #[inline]
+    pub fn to_header(&self) -> Ipv4Header
+        ensures { result ≡ ipv4_slice_header self.now }
+    {
+        self.header.to_header()
     }
 
     /// The authentication header, where the protocol says that there is one.

@@ -97,6 +97,22 @@ impl<'a> Ipv6Slice<'a> {
         self.header.copied()
     }
 
+    /// The number of bytes of the header, without the extension headers: 40.
+    #[inline]
+    pub fn header_len(&self) -> usize
+        ensures { result ≡ 40 }
+    {
+        self.header.header_len()
+    }
+
+    /// The header as a value.
+    #[inline]
+    pub fn to_header(&self) -> Ipv6Header
+        ensures { result ≡ ipv6_slice_header self.now }
+    {
+        self.header.to_header()
+    }
+
     /// The extension headers, in their order.
     #[inline]
     pub fn extensions(&self) -> Ipv6ExtensionsSlice<'a>

@@ -30,6 +30,13 @@ link_layer_of (slice.LinuxSll frame) = linux_sll (linux_sll_slice_header frame) 
 link_layer_of (slice.EtherPayload payload) = ether_payload payload.ether_type payload.len_source payload.payload.now
 link_layer_of (slice.LinuxSllPayload payload) = linux_sll_payload payload.protocol_type payload.payload.now
 
+-- the bytes that a slice shows: those of header and payload
+abbrev pub link_slice_bytes : LinkSlice → List ℕ
+link_slice_bytes (slice.Ethernet2 frame) = ethernet2_slice_bytes frame
+link_slice_bytes (slice.LinuxSll frame) = linux_sll_slice_bytes frame
+link_slice_bytes (slice.EtherPayload payload) = payload.payload.now
+link_slice_bytes (slice.LinuxSllPayload payload) = payload.payload.now
+
 -- its header, where it has one
 abbrev pub link_header_of : LinkLayer → Option LinkHeader
 link_header_of (ethernet2 ethernet payload) = Some (header.Ethernet2 ethernet)

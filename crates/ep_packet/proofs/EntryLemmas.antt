@@ -12,7 +12,7 @@ use Rattle.ep_link.specs.declared.link.link_slice.LinkSlice.{LinkSlice}
 use Rattle.ep_link.specs.declared.link.link_slice.LinkSlice.TheVariants as link
 use Rattle.ep_link.specs.Ethernet2.{ethernet2_header_len, IsEthernet2}
 use Rattle.ep_link.specs.Ethernet2Slices.{ethernet2_slice_bytes, ethernet2_slice_header, ethernet2_slice_parts, ethernet2_slice_payload}
-use Rattle.ep_link.specs.LinkSlices.{ether_payload, link_layer_of, link_layer_payload}
+use Rattle.ep_link.specs.LinkSlices.{ether_payload, link_layer_of, link_layer_payload, link_slice_bytes}
 use Rattle.ep_link.specs.LinuxSll.{linux_sll_header_len, IsLinuxSll, protocol_ether_type}
 use Rattle.ep_link.specs.LinuxSllSlices.{linux_sll_slice_bytes, linux_sll_slice_header, linux_sll_slice_parts, linux_sll_slice_payload}
 use Rattle.ep_packet.specs.declared.err.slice_error.SliceError.{SliceError}
@@ -21,7 +21,7 @@ use Rattle.ep_packet.specs.declared.entry.Entry.TheVariants.{Ethernet as etherne
 use Rattle.ep_packet.specs.Layers.{layers_of}
 use Rattle.ep_packet.specs.Frame.{IsFrame, IsInside, most_link_exts}
 use Rattle.ep_packet.specs.FrameRefusals.{RefusesFrame, RefusesInside}
-use Rattle.ep_packet.specs.ShownBytes.{link_slice_bytes, ShowsBytes, ShowsInside, ShowsLink}
+use Rattle.ep_packet.specs.ShownBytes.{ShowsBytes, ShowsInside, ShowsLink}
 use Rattle.ep_packet.specs.Walk.{HoldsBehind}
 use Rattle.ep_packet.proofs.WalkLemmas.{along}
 

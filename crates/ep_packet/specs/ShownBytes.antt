@@ -3,10 +3,7 @@ use Rattle.std.specs.Prelude.{◌≡◌, ℕ, List, [], ◌∷◌, ◌++◌, Opt
 use Rattle.ep_link.specs.declared.link.link_slice.LinkSlice.{LinkSlice}
 use Rattle.ep_link.specs.declared.link_ext.link_ext_slice.LinkExtSlice.{LinkExtSlice}
 use Rattle.ep_link.specs.ArpSlices.{arp_slice_bytes}
-use Rattle.ep_link.specs.declared.link.link_slice.LinkSlice.TheVariants as link_slice
-use Rattle.ep_link.specs.Ethernet2Slices.{ethernet2_slice_bytes}
-use Rattle.ep_link.specs.LinuxSllSlices.{linux_sll_slice_bytes}
-use Rattle.ep_link.specs.LinkSlices.{link_layer_of, link_layer_payload}
+use Rattle.ep_link.specs.LinkSlices.{link_layer_of, link_layer_payload, link_slice_bytes}
 use Rattle.ep_link.specs.LinkExtensions.{extension_payload, link_extension_of, link_ext_slice_bytes}
 use Rattle.ep_ip.specs.Ipv4Slices.{ipv4_slice_bytes, ipv4_slice_payload}
 use Rattle.ep_ip.specs.Ipv6Slices.{ipv6_slice_bytes, ipv6_slice_payload}
@@ -19,13 +16,6 @@ use Rattle.ep_packet.specs.declared.sliced_packet.SlicedPacket.{SlicedPacket}
 -- bytes begin with others, and behind them stands what a cut left
 abbrev pub BeginsWith : List ℕ → List ℕ → Type 0
 BeginsWith bytes front = (left : List ℕ) × (bytes ≡ front ++ left)
-
--- the bytes of a link slice
-abbrev pub link_slice_bytes : LinkSlice → List ℕ
-link_slice_bytes (link_slice.Ethernet2 frame) = ethernet2_slice_bytes frame
-link_slice_bytes (link_slice.LinuxSll frame) = linux_sll_slice_bytes frame
-link_slice_bytes (link_slice.EtherPayload payload) = payload.payload.now
-link_slice_bytes (link_slice.LinuxSllPayload payload) = payload.payload.now
 
 -- the bytes of a net slice
 abbrev pub net_slice_bytes : NetSlice → List ℕ

@@ -3,7 +3,7 @@
 ghost use Rattle.std.specs.Prelude.{◌≡◌, option_map};
 ghost use Rattle.ep_link.specs.EtherPayloads.{ether_payload_of};
 ghost use Rattle.ep_link.specs.LinkSlices.{link_layer_header_len, link_layer_payload, link_ether_payload};
-ghost use Rattle.ep_link.specs.LinkSlices.{link_header_of, link_layer_of, protocol_payload};
+ghost use Rattle.ep_link.specs.LinkSlices.{link_header_of, link_layer_of, link_slice_bytes, protocol_payload};
 
 use crate::link::ethernet2_slice::Ethernet2Slice;
 use crate::link::link_header::LinkHeader;
@@ -26,6 +26,19 @@ pub enum LinkSlice<'a> {
 }
 
 impl<'a> LinkSlice<'a> {
+    /// The bytes of header and payload: of the payload alone where the link layer has no header.
+    #[inline]
+    pub fn slice(&self) -> &'a [u8]
+        ensures { result.now ≡ link_slice_bytes self.now }
+    {
+        match self {
+            LinkSlice::Ethernet2(frame) => frame.slice(),
+            LinkSlice::LinuxSll(packet) => packet.slice(),
+            LinkSlice::EtherPayload(payload) => payload.payload,
+            LinkSlice::LinuxSllPayload(payload) => payload.payload,
+        }
+    }
+
     /// The header as a value, where the link layer has one.
     pub fn to_header(&self) -> Option<LinkHeader>
         ensures { result ≡ link_header_of (link_layer_of self.now) }

@@ -61,7 +61,7 @@ pub fn checksums()
 /// The lengths of headers, and the numbers of the types (RFC 792; RFC 4443, 2.1).
 pub fn constants()
     ensures lengths { (Icmpv4Header.MIN_LEN ≡ 8) × (Icmpv4Header.MAX_LEN ≡ 20) × (Icmpv6Header.MIN_LEN ≡ 8)
-        × (Icmpv6Header.MAX_LEN ≡ 8) }
+        × (Icmpv6Header.MAX_LEN ≡ 8) × (IcmpEchoHeader.LEN ≡ 4) }
     ensures icmpv4 { (v4.TYPE_ECHO_REPLY ≡ 0) × (v4.TYPE_DEST_UNREACH ≡ 3) × (v4.TYPE_REDIRECT ≡ 5)
         × (v4.TYPE_ECHO_REQUEST ≡ 8) × (v4.TYPE_TIME_EXCEEDED ≡ 11) × (v4.TYPE_PARAMETER_PROBLEM ≡ 12)
         × (v4.TYPE_TIMESTAMP_REQUEST ≡ 13) × (v4.TYPE_TIMESTAMP_REPLY ≡ 14) }
