@@ -13,10 +13,11 @@ use Rattle.ep_defrag.specs.FragmentRefusals.{refusal_within}
 use Rattle.ep_defrag.specs.PayloadCuts.{IsCut}
 use Rattle.ep_defrag.specs.Streams.{name_of, same_stream}
 use Rattle.ep_defrag.specs.Calls.{Call, gives_frame, drops_streams, returns_buffer, Kept, accepted_in, kept_of, kept_by, kept_with, kept_after, kept_after_all, concerns, calls_of, table_after, Answer, answer_unless, answer_with, answer_to, answers_after, answers_to, accepted_at, IfHandedOut}
-use Rattle.ep_defrag.specs.Isolation.{answers_of, fragments_of, GivesCut, HandsOut, HandsOutAtMost}
+use Rattle.ep_defrag.specs.Isolation.{answers_of, fragments_of, GivesCut, StaysOpen, HandsOut, HandsOutAtMost}
 use Rattle.ep_defrag.proofs.StreamLemmas.{same_stream_laws}
 use Rattle.ep_defrag.proofs.CutLemmas.{cut_fits_after, assembled-cuts}
 use Rattle.ep_defrag.proofs.CallLemmas.{after_one_more}
+use Rattle.ep_defrag.proofs.OpenLemmas.{drop_keeps, StaysKept, stays_kept}
 
 -- ---- what is handed out, where the fragments are cuts
 module _ (payload : List ℕ) where
@@ -162,39 +163,35 @@ module _ {T C V : Type 0} (limit : ℕ) (eq : C → C → Bool) (keep : V → T 
       | inr partly ↦ rw partly cuts
     ]
 
-    pub drop_keeps : (answers : T → Bool) → ((timestamp : T) → answers timestamp ≡ true) → (kept : Option (Kept T))
-        → kept_by answers kept ≡ kept
-    drop_keeps answers always None = refl
-    drop_keeps answers always (Some kept) = rw (always kept.timestamp) refl
-
     only_alone : (calls : List (Call T C V)) (kept : Option (Kept T))
-        → AllByRecursion (IsCut payload) (accepted_in kept) → AllByRecursion (GivesCut keep payload) calls
-        → AllByRecursion (HandsOutAtMost payload) (answers_alone kept calls)
-    only_alone [] kept cuts gives = tt
-    only_alone (gives_frame None timestamp channel ∷ calls) kept cuts gives =
-        (tt, only_alone calls kept cuts gives.1)
-    only_alone (gives_frame (Some carried) timestamp channel ∷ calls) kept cuts gives =
+        → AllByRecursion (IsCut payload) (accepted_in kept) → AllByRecursion (GivesCut payload) calls
+        → StaysKept limit keep kept calls → AllByRecursion (HandsOutAtMost payload) (answers_alone kept calls)
+    only_alone [] kept cuts gives stays = tt
+    only_alone (gives_frame None timestamp channel ∷ calls) kept cuts gives stays =
+        (tt, only_alone calls kept cuts gives.1 stays)
+    only_alone (gives_frame (Some carried) timestamp channel ∷ calls) kept cuts gives stays =
         let fits : refusal_within limit (accepted_in kept) carried.fragment ≡ None =
         cut_fits_after payload limit (accepted_in kept) carried.fragment short cuts gives.0.0 gives.0.1 in
         let more = all_more (IsCut payload) (accepted_in kept) carried.fragment cuts gives.0.0 in (
           answer_to_cut (name_of carried channel) (accepted_in kept ++ carried.fragment ∷ []) _ fits more,
           only_alone calls (kept_with limit kept carried.fragment timestamp)
-              (rw fits (kept_cuts (accepted_in kept ++ carried.fragment ∷ []) timestamp more)) gives.1,
+              (rw fits (kept_cuts (accepted_in kept ++ carried.fragment ∷ []) timestamp more)) gives.1 stays,
         )
-    only_alone (drops_streams value ∷ calls) kept cuts gives =
-        (tt, only_alone calls (kept_by (keep value) kept) (rw (drop_keeps (keep value) gives.0 kept) cuts) gives.1)
-    only_alone (returns_buffer ∷ calls) kept cuts gives = (tt, only_alone calls kept cuts gives.1)
+    only_alone (drops_streams value ∷ calls) kept cuts gives stays =
+        (tt, only_alone calls (kept_by (keep value) kept) (rw (drop_keeps (keep value) kept stays.0) cuts) gives.1 stays.1)
+    only_alone (returns_buffer ∷ calls) kept cuts gives stays = (tt, only_alone calls kept cuts gives.1 stays)
 
     comes_alone : (calls : List (Call T C V)) (kept : Option (Kept T))
-        → AllByRecursion (IsCut payload) (accepted_in kept) → AllByRecursion (GivesCut keep payload) calls
+        → AllByRecursion (IsCut payload) (accepted_in kept) → AllByRecursion (GivesCut payload) calls
+        → StaysKept limit keep kept calls
         → is_complete (accepted_in kept) ≡ false
         → is_complete (accepted_in kept ++ fragments_of calls) ≡ true
         → Any (HandsOut payload) (answers_alone kept calls)
-    comes_alone [] kept cuts gives partly whole =
+    comes_alone [] kept cuts gives stays partly whole =
         absurd (false≢true (sym partly ∙ ap is_complete (sym (append-nil (accepted_in kept))) ∙ whole))
-    comes_alone (gives_frame None timestamp channel ∷ calls) kept cuts gives partly whole =
-        any_later (HandsOut payload) _ _ (comes_alone calls kept cuts gives.1 partly whole)
-    comes_alone (gives_frame (Some carried) timestamp channel ∷ calls) kept cuts gives partly whole =
+    comes_alone (gives_frame None timestamp channel ∷ calls) kept cuts gives stays partly whole =
+        any_later (HandsOut payload) _ _ (comes_alone calls kept cuts gives.1 stays partly whole)
+    comes_alone (gives_frame (Some carried) timestamp channel ∷ calls) kept cuts gives stays partly whole =
         let fits : refusal_within limit (accepted_in kept) carried.fragment ≡ None =
         cut_fits_after payload limit (accepted_in kept) carried.fragment short cuts gives.0.0 gives.0.1 in
         let after = accepted_in kept ++ carried.fragment ∷ [] in
@@ -207,31 +204,35 @@ module _ {T C V : Type 0} (limit : ℕ) (eq : C → C → Bool) (keep : V → T 
               rw (fits, not_yet) refl in
               any_later (HandsOut payload) _ _
               (rw same
-              (comes_alone calls (Some (record { accepted = after; timestamp = timestamp })) more gives.1 not_yet
+              (comes_alone calls (Some (record { accepted = after; timestamp = timestamp })) more gives.1
+              (rw same at stays) not_yet
               (ap is_complete (append_assoc (accepted_in kept) (carried.fragment ∷ []) (fragments_of calls)) ∙ whole)))
         ]
-    comes_alone (drops_streams value ∷ calls) kept cuts gives partly whole =
+    comes_alone (drops_streams value ∷ calls) kept cuts gives stays partly whole =
+        let same = drop_keeps (keep value) kept stays.0 in
         any_later (HandsOut payload) _ _
-        (rw (drop_keeps (keep value) gives.0 kept) (comes_alone calls kept cuts gives.1 partly whole))
-    comes_alone (returns_buffer ∷ calls) kept cuts gives partly whole =
-        any_later (HandsOut payload) _ _ (comes_alone calls kept cuts gives.1 partly whole)
+        (rw same (comes_alone calls kept cuts gives.1 (rw same at stays.1) partly whole))
+    comes_alone (returns_buffer ∷ calls) kept cuts gives stays partly whole =
+        any_later (HandsOut payload) _ _ (comes_alone calls kept cuts gives.1 stays partly whole)
 
     module _ (laws : IsEquivalence eq) (name : IpFragId C) (calls : List (Call T C V))
-        (gives : All (GivesCut keep payload) (calls_of eq name calls)) where
+        (stays : StaysOpen limit eq keep name calls) (gives : All (GivesCut payload) (calls_of eq name calls)) where
       pub cuts_only : All (HandsOutAtMost payload) (answers_of eq name calls (answers_to limit eq keep calls))
       cuts_only =
           All-from_recursion (HandsOutAtMost payload) _
           (rw (answers_of_stream laws name calls)
-          (only_alone (calls_of eq name calls) None tt (recursion_from_All (GivesCut keep payload) _ gives)))
+          (only_alone (calls_of eq name calls) None tt (recursion_from_All (GivesCut payload) _ gives)
+          (stays_kept limit eq keep name calls stays)))
 
       pub cuts_come : is_complete (fragments_of (calls_of eq name calls)) ≡ true
           → Any (HandsOut payload) (answers_of eq name calls (answers_to limit eq keep calls))
       cuts_come whole =
           rw (answers_of_stream laws name calls)
-          (comes_alone (calls_of eq name calls) None tt (recursion_from_All (GivesCut keep payload) _ gives) refl whole)
+          (comes_alone (calls_of eq name calls) None tt (recursion_from_All (GivesCut payload) _ gives)
+          (stays_kept limit eq keep name calls stays) refl whole)
 
       -- the fragments that are given are cuts
-      given_cuts : (given : List (Call T C V)) → AllByRecursion (GivesCut keep payload) given
+      given_cuts : (given : List (Call T C V)) → AllByRecursion (GivesCut payload) given
           → AllByRecursion (IsCut payload) (fragments_of given)
       given_cuts [] all = tt
       given_cuts (gives_frame None timestamp channel ∷ given) all = given_cuts given all.1
@@ -240,4 +241,4 @@ module _ {T C V : Type 0} (limit : ℕ) (eq : C → C → Bool) (keep : V → T 
       given_cuts (returns_buffer ∷ given) all = given_cuts given all.1
 
       pub all_cuts : AllByRecursion (IsCut payload) (fragments_of (calls_of eq name calls))
-      all_cuts = given_cuts (calls_of eq name calls) (recursion_from_All (GivesCut keep payload) _ gives)
+      all_cuts = given_cuts (calls_of eq name calls) (recursion_from_All (GivesCut payload) _ gives)

@@ -1,5 +1,5 @@
 -- Frames that are built of cuts of a payload put the payload together.
-use Rattle.std.proofs.Common.{◌≡◌, ℕ, ◌^◌, ◌<◌, ◌≤◌, Bool, true, false, cond, List, [], ◌∷◌, ◌++◌, length, map, Option, Some, None, option_map, refl, ap, ◌∙◌, inl, inr}
+use Rattle.std.proofs.Common.{◌≡◌, ℕ, zero, suc, ◌^◌, ◌<◌, ◌≤◌, Bool, true, false, cond, List, [], ◌∷◌, ◌++◌, length, map, Option, Some, None, option_map, slice_get, refl, ap, ◌∙◌, inl, inr}
 use Rattle.std.specs.List.{AllByRecursion}
 use Rattle.std.specs.Cmp.{IsEquivalence}
 use Rattle.std.proofs.lemmas.Bool.{cases_Bool, and_parts, eqb-true, false≢true}
@@ -27,10 +27,11 @@ use Rattle.ep_defrag.specs.FragmentRefusals.{refusal_within}
 use Rattle.ep_defrag.specs.PayloadCuts.{IsCut}
 use Rattle.ep_defrag.specs.Streams.{PacketFragment, name_of, packet_fragment, same_stream, same_version, source_of}
 use Rattle.ep_defrag.specs.Calls.{Call, gives_frame, drops_streams, returns_buffer, Kept, accepted_in, kept_of, kept_unless, table_after, Payload, payload_of, payload_handed_out, nothing_handed_out, Answer, answer_unless, answer_to, answers_after}
-use Rattle.ep_defrag.specs.BuiltCuts.{BuiltCut, IsBuiltCut, IsUnder, KeepsAll, answers_to_frames, cut_answers, cut_call, cut_fragment, cut_frame, frames_to, gives_to, whole_of}
+use Rattle.ep_defrag.specs.BuiltCuts.{BuiltCut, IsBuiltCut, IsUnder, answers_to_frames, cut_answers, cut_call, cut_fragment, cut_frame, frames_to, gives_to, whole_of}
 use Rattle.ep_defrag.proofs.CutLemmas.{cut_fits_after, assembled-cuts}
 use Rattle.ep_defrag.proofs.CallLemmas.{after_one_more}
-use Rattle.ep_defrag.proofs.AloneLemmas.{answer_alone, all_more, kept_cuts, drop_keeps}
+use Rattle.ep_defrag.proofs.AloneLemmas.{answer_alone, all_more, kept_cuts}
+use Rattle.ep_defrag.proofs.OpenLemmas.{drop_keeps, StaysAfter, stays_here, stays_later}
 
 -- ---- what is handed out has the number and the source of the name
 
@@ -129,9 +130,15 @@ module _ (read_back : AreReadBack) (have_bytes : HaveBytes) (decided : AreDecide
         (ap (λ (answers : List Answer). answer_to limit (table_after limit eq keep earlier) call ∷ answers)
         (answers_all (earlier ++ call ∷ []) cuts is.1 under.1))
 
-    pub keeps_all : (cuts : List (BuiltCut T C)) → AllByRecursion (KeepsAll keep) (map cut_call cuts)
-    keeps_all [] = tt
-    keeps_all (cut ∷ cuts) = (tt, keeps_all cuts)
+    -- and none of them is a drop
+    no_drop : (cuts : List (BuiltCut T C)) (at : ℕ) (value : V)
+        → slice_get (map (cut_call {V = V}) cuts) at ≡ Some (drops_streams value) → ⊥
+    no_drop [] at value is = cc
+    no_drop (cut ∷ cuts) zero value is = cc
+    no_drop (cut ∷ cuts) (suc at) value is = no_drop cuts at value is
+
+    pub stays_all : (cuts : List (BuiltCut T C)) → StaysAfter limit eq keep name [] (map cut_call cuts)
+    stays_all cuts at value is = absurd (no_drop cuts at value is)
 
     -- ---- other calls stand between them
     module _ (laws : IsEquivalence eq) (short : length payload ≤ limit) where
@@ -141,29 +148,30 @@ module _ (read_back : AreReadBack) (have_bytes : HaveBytes) (decided : AreDecide
 
       pub come : (earlier calls : List (Call T C V)) (cuts : List (BuiltCut T C))
           → AllByRecursion (IsCut payload) (accepted_in (table_after limit eq keep earlier name))
-          → AllByRecursion (IsBuiltCut payload) cuts → AllByRecursion (KeepsAll keep) calls
+          → AllByRecursion (IsBuiltCut payload) cuts → StaysAfter limit eq keep name earlier calls
           → frames_to eq name calls ≡ map cut_call cuts
           → answers_to_frames eq name calls (answers_after limit eq keep earlier calls)
           ≡ expected (table_after limit eq keep earlier name) cuts
-      come earlier [] [] kept built keeps same = refl
-      come earlier [] (cut ∷ cuts) kept built keeps same = absurd (cc)
-      come earlier (gives_frame None timestamp channel ∷ calls) cuts kept built keeps same =
+      come earlier [] [] kept built stays same = refl
+      come earlier [] (cut ∷ cuts) kept built stays same = absurd (cc)
+      come earlier (gives_frame None timestamp channel ∷ calls) cuts kept built stays same =
           let call : Call T C V = gives_frame None timestamp channel in
           let unchanged = after_one_more limit eq keep earlier call name false refl in
-          come (earlier ++ call ∷ []) calls cuts (rw unchanged kept) built keeps.1 same
+          come (earlier ++ call ∷ []) calls cuts (rw unchanged kept) built (stays_later limit eq keep name earlier calls call stays) same
           ∙ ap (λ (k : Option (Kept T)). expected k cuts) unchanged
-      come earlier (drops_streams value ∷ calls) cuts kept built keeps same =
+      come earlier (drops_streams value ∷ calls) cuts kept built stays same =
           let call : Call T C V = drops_streams value in
           let unchanged = after_one_more limit eq keep earlier call name true refl
-          ∙ drop_keeps limit eq keep payload short (keep value) keeps.0 (table_after limit eq keep earlier name) in
-          come (earlier ++ call ∷ []) calls cuts (rw unchanged kept) built keeps.1 same
+          ∙ drop_keeps (keep value) (table_after limit eq keep earlier name)
+          (stays_here limit eq keep name earlier calls value stays) in
+          come (earlier ++ call ∷ []) calls cuts (rw unchanged kept) built (stays_later limit eq keep name earlier calls call stays) same
           ∙ ap (λ (k : Option (Kept T)). expected k cuts) unchanged
-      come earlier (returns_buffer ∷ calls) cuts kept built keeps same =
+      come earlier (returns_buffer ∷ calls) cuts kept built stays same =
           let call : Call T C V = returns_buffer in
           let unchanged = after_one_more limit eq keep earlier call name false refl in
-          come (earlier ++ call ∷ []) calls cuts (rw unchanged kept) built keeps.1 same
+          come (earlier ++ call ∷ []) calls cuts (rw unchanged kept) built (stays_later limit eq keep name earlier calls call stays) same
           ∙ ap (λ (k : Option (Kept T)). expected k cuts) unchanged
-      come earlier (gives_frame (Some carried) timestamp channel ∷ calls) [] kept built keeps same =
+      come earlier (gives_frame (Some carried) timestamp channel ∷ calls) [] kept built stays same =
           let call : Call T C V = gives_frame (Some carried) timestamp channel in
           elim (cases_Bool (same_stream eq (name_of carried channel) name)) [
             | inl does ↦
@@ -171,10 +179,10 @@ module _ (read_back : AreReadBack) (have_bytes : HaveBytes) (decided : AreDecide
             | inr not ↦
                 let unchanged = after_one_more limit eq keep earlier call name false not in
                 rw not
-                (come (earlier ++ call ∷ []) calls [] (rw unchanged kept) built keeps.1 (rw not at same)
+                (come (earlier ++ call ∷ []) calls [] (rw unchanged kept) built (stays_later limit eq keep name earlier calls call stays) (rw not at same)
                 ∙ ap (λ (k : Option (Kept T)). expected k []) unchanged)
           ]
-      come earlier (gives_frame (Some carried) timestamp channel ∷ calls) (cut ∷ cuts) kept built keeps same =
+      come earlier (gives_frame (Some carried) timestamp channel ∷ calls) (cut ∷ cuts) kept built stays same =
           let call : Call T C V = gives_frame (Some carried) timestamp channel in
           elim (cases_Bool (same_stream eq (name_of carried channel) name)) [
             | inl does ↦
@@ -201,7 +209,7 @@ module _ (read_back : AreReadBack) (have_bytes : HaveBytes) (decided : AreDecide
                 ∙ ap (λ (r : Option IpDefragError). answer_unless r (name_of carried channel) after) fits
                 ∙ answer_cut eq name payload (name_of carried channel) after does more in
                 let rest = come (earlier ++ call ∷ []) calls cuts
-                (rw table (kept_cuts limit eq keep payload short after timestamp more)) built.1 keeps.1 later
+                (rw table (kept_cuts limit eq keep payload short after timestamp more)) built.1 (stays_later limit eq keep name earlier calls call stays) later
                 ∙ ap (λ (k : Option (Kept T)). expected k cuts) table in
                 let goal : answers_to_frames eq name (call ∷ calls) (answers_after limit eq keep earlier (call ∷ calls))
                 ≡ cut_answers (whole_of name payload) (accepted_in before) (part ∷ map cut_fragment cuts) =
@@ -216,6 +224,6 @@ module _ (read_back : AreReadBack) (have_bytes : HaveBytes) (decided : AreDecide
             | inr not ↦
                 let unchanged = after_one_more limit eq keep earlier call name false not in
                 rw not
-                (come (earlier ++ call ∷ []) calls (cut ∷ cuts) (rw unchanged kept) built keeps.1 (rw not at same)
+                (come (earlier ++ call ∷ []) calls (cut ∷ cuts) (rw unchanged kept) built (stays_later limit eq keep name earlier calls call stays) (rw not at same)
                 ∙ ap (λ (k : Option (Kept T)). expected k (cut ∷ cuts)) unchanged)
           ]

@@ -210,6 +210,7 @@ module _ (limit : ℕ) (accepted : List IpFragment) (fit : FitInTurnWithin limit
         | inl some ↦ inr (lt-ltb 0 (meeting_at whole) some)
         | inr none ↦ inl (all_there (omega (arith, none)))
       ];
+      short = λ most. let parts = parts_short most in (parts.0, parts.1);
     }
 
 -- ---- limits below 8

@@ -18,6 +18,7 @@ mod OneFragmentLemmas
 mod HeldStreamLemmas
 mod TakingLemmas
 mod CallLemmas
+mod OpenLemmas
 mod AloneLemmas
 mod BuiltCutLemmas
 mod FrameLemmas

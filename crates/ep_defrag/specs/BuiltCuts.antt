@@ -89,12 +89,6 @@ abbrev pub answers_to_frames : {T C V : Type 0} → (C → C → Bool) → IpFra
     → List Answer
 answers_to_frames eq name calls answers = items_where_true (map (gives_to eq name) calls) answers
 
--- a drop keeps every stream
-abbrev pub KeepsAll : {T C V : Type 0} → (V → T → Bool) → Call T C V → Type 0
-KeepsAll keep (gives_frame carried timestamp channel) = Unit {0}
-KeepsAll {T = T} keep (drops_streams value) = (timestamp : T) → IsTrue (keep value timestamp)
-KeepsAll keep returns_buffer = Unit {0}
-
 -- the whole payload, as it is handed out under a name
 abbrev pub whole_of : {C : Type 0} → IpFragId C → List ℕ → Payload
 whole_of name payload = record {

@@ -1,5 +1,5 @@
 -- Fragments that complete what came, and frames that carry them: no stream gets stuck.
-use Rattle.std.specs.Prelude.{◌≡◌, ◌⊎◌, ℕ, ◌+◌, ◌*◌, ◌/◌, min, max, Bool, true, false, ◌||◌, nat_lt, IsTrue, unwrap_or, Option, Some, List, [], ◌∷◌, ◌++◌, length}
+use Rattle.std.specs.Prelude.{◌≡◌, ◌⊎◌, ℕ, ◌+◌, ◌*◌, ◌/◌, ◌≤◌, min, max, Bool, true, false, ◌||◌, nat_lt, IsTrue, unwrap_or, Option, Some, List, [], ◌∷◌, ◌++◌, length}
 use Rattle.std.specs.Option.{option_map}
 use Rattle.ep_base.specs.Bytes.{AreBytes}
 use Rattle.ep_packet.specs.declared.entry.Entry.{Entry}
@@ -41,13 +41,14 @@ abbrev pub is_part : IpFragment → Bool
 is_part fragment = fragment.more || nat_lt 0 fragment.offset
 
 -- Both fragments fit in turn, and complete the list. A frame can carry the first as a fragment, and the second too,
--- unless the first alone completes the list.
+-- unless the first alone completes the list. Within a limit of at most 65535 neither has more than 32768 bytes.
 pub record CompleteInTurn (limit : ℕ) (accepted : List IpFragment) (first second : IpFragment) : Type 0 where
   pub first_fits : FitsWithin limit accepted first
   pub second_fits : FitsWithin limit (accepted ++ first ∷ []) second
   pub complete : IsComplete (accepted ++ first ∷ second ∷ [])
   pub first_part : IsTrue (is_part first)
   pub second_part : IsTrue (is_complete (accepted ++ first ∷ [])) ⊎ IsTrue (is_part second)
+  pub short : limit ≤ 65535 → (length first.bytes ≤ 32768) × (length second.bytes ≤ 32768)
 
 -- ---- frames that carry them
 

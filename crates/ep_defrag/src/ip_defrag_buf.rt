@@ -8,7 +8,7 @@ ghost use Rattle.ep_defrag.specs.IpFragments.{IpFragment, fragment_with, fragmen
 ghost use Rattle.ep_defrag.specs.FragmentRefusals.{Fits, RefusesFragment, MayNeedMemory, refusal_at, is_want_of_memory};
 
 use crate::MAX_IP_DEFRAG_LEN_U16;
-use crate::ip_defrag_bytes::put;
+use crate::ip_defrag_bytes::{put, reserve_to};
 use crate::ip_defrag_error::IpDefragError;
 use crate::ip_defrag_sections::{is_whole, join, neighbours};
 use crate::ip_frag_range::IpFragRange;
@@ -224,8 +224,7 @@ impl IpDefragBuf {
     {
         let near = neighbours(&self.sections, range);
         self.sections.reserve(usize::from(near.is_empty()))?;
-        self.bytes
-            .reserve(usize::from(range.end).saturating_sub(self.bytes.len()))?;
+        reserve_to(&mut self.bytes, range.end)?;
         put(&mut self.bytes, range, payload);
         join(&mut self.sections, range, near);
         if !more_fragments {

@@ -1,9 +1,29 @@
 //! A fragment's bytes, put into a payload.
 
-ghost use Rattle.std.specs.Prelude.{◌≡◌, ◌+◌, ◌≤◌, length, vec_len, vec_capacity};
+ghost use Rattle.std.specs.Prelude.{◌≡◌, ◌+◌, ◌*◌, ◌<◌, ◌≤◌, max, length, OnOk, OnErr, IsOk, vec_len, vec_capacity};
 ghost use Rattle.ep_defrag.specs.Buffers.{extended, overwritten};
 
 use crate::ip_frag_range::IpFragRange;
+use std::alloc::AllocError;
+
+/// Room for data up to `end`. Where it has to grow it doubles, so that data in order is moved seldom, and it grows to
+/// no more than twice the end.
+#[inline]
+pub(crate) fn reserve_to(bytes: &mut Vec<u8>, end: u16) -> Result<(), AllocError>
+    ensures items { bytes.new.items ≡ bytes.old.items }
+    ensures room { OnOk result (end ≤ vec_capacity bytes.new) }
+    ensures in_place { end ≤ vec_capacity bytes.old → IsOk result }
+    ensures full { OnErr result (vec_capacity bytes.old < end) }
+    ensures capacity { vec_capacity bytes.old ≤ vec_capacity bytes.new }
+    ensures most { vec_capacity bytes.new ≤ max (vec_capacity bytes.old) (2 * end) }
+{
+    let room = bytes.capacity();
+    let end = usize::from(end);
+    if end <= room {
+        return Ok(());
+    }
+    bytes.reserve_exact(end.max(2 * room) - bytes.len())
+}
 
 /// Puts a fragment's bytes on its range, behind zeros where the data ends before it. No byte is written twice.
 pub(crate) fn put(bytes: &mut Vec<u8>, range: IpFragRange, payload: &[u8])

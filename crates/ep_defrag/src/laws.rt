@@ -13,9 +13,9 @@ ghost use Rattle.ep_defrag.specs.Buffers.{IsUnchanged, ip_number_of, data_of, se
 ghost use Rattle.ep_defrag.specs.DefragComparisons.{range_cmp, buffer_cmp, error_cmp};
 ghost use Rattle.ep_defrag.specs.Streams.{same_stream};
 ghost use Rattle.ep_defrag.specs.Calls.{Call, Kept, accepted_in, calls_of, answers_to, table_after, table_with};
-ghost use Rattle.ep_defrag.specs.Isolation.{answers_of, fragments_of, GivesCut, HandsOut, HandsOutAtMost};
+ghost use Rattle.ep_defrag.specs.Isolation.{answers_of, fragments_of, GivesCut, StaysOpen, KeepsOwn, HandsOut, HandsOutAtMost};
 ghost use Rattle.ep_defrag.specs.Pools.{limit_of, stream_named, HoldsTable, plain_payload, plain_answer};
-ghost use Rattle.ep_defrag.specs.BuiltCuts.{BuiltCut, IsBuiltCut, IsUnder, KeepsAll, answers_to_frames, cut_answers};
+ghost use Rattle.ep_defrag.specs.BuiltCuts.{BuiltCut, IsBuiltCut, IsUnder, answers_to_frames, cut_answers};
 ghost use Rattle.ep_defrag.specs.BuiltCuts.{cut_call, cut_fragment, frames_to, whole_of};
 ghost use Rattle.ep_defrag.specs.FrameCalls.{ReadCall, HasBytes, IsOnlyRead, pool_calls, frame_answers_to, pool_answers_in, read_answer};
 
@@ -105,7 +105,8 @@ pub fn one_fragment_completes()
         FitsWithin limit accepted fragment × IsComplete (accepted ++ fragment ∷ []) }
 {}
 
-/// And by at most two that frames can carry as fragments, of whatever bytes, if the limit is at least 8.
+/// And by at most two that frames can carry as fragments, of whatever bytes, if the limit is at least 8. Within a limit
+/// of at most 65535 neither has more than 32768 bytes.
 pub fn two_fragments_complete()
     ensures { (limit : ℕ) (accepted : List IpFragment) (front back : List ℕ) → 8 ≤ limit →
         FitInTurnWithin limit accepted → FillBoth accepted front back →
@@ -159,21 +160,27 @@ pub fn one_more_call<Timestamp, CustomChannelId: Eq, V>()
 
 /// Where all fragments of a stream are cuts of a payload that is no longer than the limit, in whatever order and with
 /// whatever repeats, none is refused, and nothing but the payload is handed out. It is handed out if the cuts cover it
-/// and a final one is among them.
+/// and a final one is among them. No drop of the list may drop the stream where it stands, and it is enough that each
+/// keeps the timestamps of the stream's own fragments.
 pub fn cuts_come_out<Timestamp, CustomChannelId: Eq, V>()
     ensures only { (limit : ℕ) (keep : V → Timestamp → Bool) (name : IpFragId CustomChannelId)
         (calls : List (Call Timestamp CustomChannelId V)) (payload : List ℕ) → length payload ≤ limit →
-        All (GivesCut keep payload) (calls_of CustomChannelId.eq name calls) →
+        StaysOpen limit CustomChannelId.eq keep name calls →
+        All (GivesCut payload) (calls_of CustomChannelId.eq name calls) →
         All (HandsOutAtMost payload)
         (answers_of CustomChannelId.eq name calls (answers_to limit CustomChannelId.eq keep calls)) }
     ensures comes { (limit : ℕ) (keep : V → Timestamp → Bool) (name : IpFragId CustomChannelId)
         (calls : List (Call Timestamp CustomChannelId V)) (payload : List ℕ) → length payload ≤ limit →
-        All (GivesCut keep payload) (calls_of CustomChannelId.eq name calls) →
+        StaysOpen limit CustomChannelId.eq keep name calls →
+        All (GivesCut payload) (calls_of CustomChannelId.eq name calls) →
         let cuts = fragments_of (calls_of CustomChannelId.eq name calls) in
         Any (λ cut. IsTrue (is_final cut)) cuts →
         ((position : ℕ) → position < length payload → IsCovered cuts position) →
         Any (HandsOut payload)
         (answers_of CustomChannelId.eq name calls (answers_to limit CustomChannelId.eq keep calls)) }
+    ensures kept { (limit : ℕ) (keep : V → Timestamp → Bool) (name : IpFragId CustomChannelId)
+        (calls : List (Call Timestamp CustomChannelId V)) →
+        KeepsOwn CustomChannelId.eq keep name calls → StaysOpen limit CustomChannelId.eq keep name calls }
 {}
 
 /// A call whose frame is of bytes is read as one call on the pool or as one refusal. It follows from the law of frames.
@@ -263,9 +270,11 @@ pub fn names<CustomChannelId: Eq>()
 /// Frames that are built of cuts of a payload under one name, no longer than the limit, in whatever order and with
 /// whatever repeats, hand the payload out at exactly those frames with which the cuts that were given since it was last
 /// handed out are complete, and nothing at the others. Among other calls the frames of that stream are answered so too:
-/// frames without a fragment, frames of other streams, buffers that are given back and drops that keep every stream may
-/// stand between them. A built frame is what the builder's step of IP headers writes, and a pool is given the layers
-/// that its bytes have. No cut is refused: a final one ends where the payload does, and so not below what came.
+/// frames without a fragment, frames of other streams, buffers that are given back and drops may stand between them. No
+/// drop may drop the stream where it stands, and it is enough that each keeps the timestamps of the stream's own
+/// fragments. The stream is given no other fragments. A built frame is what the builder's step of IP headers writes, and
+/// a pool is given the layers that its bytes have. No cut is refused: a final one ends where the payload does, and so not
+/// below what came.
 pub fn built_cuts_come_out<Timestamp, CustomChannelId: Eq, V>()
     ensures alone { (limit : ℕ) (keep : V → Timestamp → Bool) (name : IpFragId CustomChannelId) (payload : List ℕ)
         (cuts : List (BuiltCut Timestamp CustomChannelId)) → length payload ≤ limit →
@@ -274,14 +283,29 @@ pub fn built_cuts_come_out<Timestamp, CustomChannelId: Eq, V>()
         ≡ cut_answers (whole_of name payload) [] (map cut_fragment cuts) }
     ensures among { (limit : ℕ) (keep : V → Timestamp → Bool) (name : IpFragId CustomChannelId) (payload : List ℕ)
         (cuts : List (BuiltCut Timestamp CustomChannelId)) (calls : List (Call Timestamp CustomChannelId V)) →
-        length payload ≤ limit → All (IsBuiltCut payload) cuts → All (KeepsAll keep) calls →
+        length payload ≤ limit → All (IsBuiltCut payload) cuts → StaysOpen limit CustomChannelId.eq keep name calls →
+        frames_to CustomChannelId.eq name calls ≡ map cut_call cuts →
+        answers_to_frames CustomChannelId.eq name calls (answers_to limit CustomChannelId.eq keep calls)
+        ≡ cut_answers (whole_of name payload) [] (map cut_fragment cuts) }
+    ensures among_kept { (limit : ℕ) (keep : V → Timestamp → Bool) (name : IpFragId CustomChannelId) (payload : List ℕ)
+        (cuts : List (BuiltCut Timestamp CustomChannelId)) (calls : List (Call Timestamp CustomChannelId V)) →
+        length payload ≤ limit → All (IsBuiltCut payload) cuts → KeepsOwn CustomChannelId.eq keep name calls →
         frames_to CustomChannelId.eq name calls ≡ map cut_call cuts →
         answers_to_frames CustomChannelId.eq name calls (answers_to limit CustomChannelId.eq keep calls)
         ≡ cut_answers (whole_of name payload) [] (map cut_fragment cuts) }
     // Of calls with frames as bytes, whatever they are read as; refused frames may stand between too.
     ensures read { (limit : ℕ) (keep : V → Timestamp → Bool) (name : IpFragId CustomChannelId) (payload : List ℕ)
         (cuts : List (BuiltCut Timestamp CustomChannelId)) (reads : List (ReadCall Timestamp CustomChannelId V)) →
-        length payload ≤ limit → All (IsBuiltCut payload) cuts → All (KeepsAll keep) (pool_calls reads) →
+        length payload ≤ limit → All (IsBuiltCut payload) cuts →
+        StaysOpen limit CustomChannelId.eq keep name (pool_calls reads) →
+        frames_to CustomChannelId.eq name (pool_calls reads) ≡ map cut_call cuts →
+        answers_to_frames CustomChannelId.eq name (pool_calls reads)
+        (pool_answers_in (frame_answers_to limit CustomChannelId.eq keep reads))
+        ≡ cut_answers (whole_of name payload) [] (map cut_fragment cuts) }
+    ensures read_kept { (limit : ℕ) (keep : V → Timestamp → Bool) (name : IpFragId CustomChannelId) (payload : List ℕ)
+        (cuts : List (BuiltCut Timestamp CustomChannelId)) (reads : List (ReadCall Timestamp CustomChannelId V)) →
+        length payload ≤ limit → All (IsBuiltCut payload) cuts →
+        KeepsOwn CustomChannelId.eq keep name (pool_calls reads) →
         frames_to CustomChannelId.eq name (pool_calls reads) ≡ map cut_call cuts →
         answers_to_frames CustomChannelId.eq name (pool_calls reads)
         (pool_answers_in (frame_answers_to limit CustomChannelId.eq keep reads))

@@ -31,6 +31,10 @@ returns-else-lacks_memory-clause-limit g c =
     frame_limit g.CustomChannelId.PartialEq.eq c.args.pool.now c.process_sliced_packet-answer.new.self _ _
     c.process_sliced_packet-answer.result _ c.process_sliced_packet-answer.ensures
 
+-- a drop answers no want of memory
+pub returns-in-Drop-clause-memory : goal.returns-in-Drop-clause-memory
+returns-in-Drop-clause-memory g c = tt
+
 pub returns-in-Drop-clause-holds : goal.returns-in-Drop-clause-holds
 returns-in-Drop-clause-holds g c = λ decide decided table held.
     rw c.in-Drop.is

@@ -7,11 +7,11 @@ returns-then-not-more_fragments-clause-data c =
     let range = c.args.range in
     c.put.ensures.items
     ∙ ap (λ bytes. overwritten (extended bytes range.end) range.start c.args.payload.now)
-    c.in_ok-reserve-2.ensures.items
+    c.in_ok-reserve_to.ensures.items
 
 pub returns-else-not-more_fragments-clause-data : goal.returns-else-not-more_fragments-clause-data
 returns-else-not-more_fragments-clause-data c =
     let range = c.args.range in
     c.put.ensures.items
     ∙ ap (λ bytes. overwritten (extended bytes range.end) range.start c.args.payload.now)
-    c.in_ok-reserve-2.ensures.items
+    c.in_ok-reserve_to.ensures.items

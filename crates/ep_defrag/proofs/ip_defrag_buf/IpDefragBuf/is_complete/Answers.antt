@@ -1,12 +1,13 @@
-use Rattle.std.proofs.Common.{◌≡◌, ◌&&◌, is_some, ap, ◌∙◌}
-use Rattle.ep_defrag.specs.Buffers.{known_end_of, sections_of, is_whole}
+use Rattle.std.proofs.Common.{◌&&◌, is_some, ap, ◌∙◌}
+use Rattle.ep_defrag.specs.Buffers.{known_end_of, is_whole}
 use Rattle.ep_defrag.proofs.HeldLemmas.{complete_when_held}
 use Rattle.ep_defrag.proofs.ip_defrag_buf.IpDefragBuf.is_complete.Goals as goal
 
+pub returns-clause-shown : goal.returns-clause-shown
+returns-clause-shown c =
+    c.is_whole.ensures
+    ∙ ap (λ sections. is_some (known_end_of c.args.self.now) && is_whole sections) c.deref.ensures.value
+
 pub returns-clause-complete : goal.returns-clause-complete
 returns-clause-complete c accepted held =
-    let whole : c.is_whole.result
-    ≡ (is_some (known_end_of c.args.self.now) && is_whole (sections_of c.args.self.now)) =
-    c.is_whole.ensures ∙ ap
-    (λ sections. is_some (known_end_of c.args.self.now) && is_whole sections) c.deref.ensures.value in
-    rw whole (complete_when_held c.args.self.now accepted held)
+    rw (returns-clause-shown c) (complete_when_held c.args.self.now accepted held)
