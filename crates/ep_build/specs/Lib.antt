@@ -4,6 +4,7 @@ pub mod BuildErrors
 pub mod Fits
 pub mod ReadBack
 pub mod BuiltFragments
+pub mod AppendedFrames
 -- what the contracts name of the crates below
 pub use Rattle.ep_base.specs.Bytes
 pub use Rattle.ep_base.specs.Tables

@@ -90,6 +90,7 @@ pub use Rattle.ep_packet.specs.UncutTags
 pub use Rattle.ep_packet.specs.VlanTags
 pub use Rattle.ep_packet.specs.Walk
 -- building
+pub use Rattle.ep_build.specs.AppendedFrames
 pub use Rattle.ep_build.specs.BuildErrors
 pub use Rattle.ep_build.specs.BuiltFragments
 pub use Rattle.ep_build.specs.BuiltFrames

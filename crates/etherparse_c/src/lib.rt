@@ -2,7 +2,7 @@
 //!
 //! But for pools no export keeps a pointer or a state, and none can be called wrongly but by a pointer that is not what
 //! its type says.
-//! `include/etherparse.h` declares all of them, and says what the numbers mean.
+//! `bindings/c/etherparse.h` declares all of them, and says what the numbers mean.
 #![tactic(auto)]
 
 mod building;

@@ -1,0 +1,35 @@
+//! What is answered for want of memory of Rust's own: the buffer of a pool. That of the static library is another
+//! (`bindings/c/etherparse_heap.c`), whose requests `bindings/c/examples/statuses.c` refuses.
+
+use etherparse_c::{OutOfMemory, Pool};
+use std::alloc::{GlobalAlloc, Layout, System};
+use std::ptr;
+
+/// The system's memory, without blocks of the size that the pool here asks for.
+struct Refusing;
+
+const REFUSED: usize = 54_321;
+
+// SAFETY: each block is the system's, and is given back to it.
+unsafe impl GlobalAlloc for Refusing {
+    unsafe fn alloc(&self, layout: Layout) -> *mut u8 {
+        if layout.size() == REFUSED {
+            return ptr::null_mut();
+        }
+        unsafe { System.alloc(layout) }
+    }
+
+    unsafe fn dealloc(&self, block: *mut u8, layout: Layout) {
+        unsafe { System.dealloc(block, layout) };
+    }
+}
+
+#[global_allocator]
+static MEMORY: Refusing = Refusing;
+
+#[test]
+fn pools_are_refused_for_want_of_memory() {
+    assert_eq!(Pool::with_limit(REFUSED as u16).err(), Some(OutOfMemory));
+    assert!(Pool::with_limit(REFUSED as u16 + 1).is_ok());
+    assert_eq!(OutOfMemory.to_string(), "out of memory");
+}

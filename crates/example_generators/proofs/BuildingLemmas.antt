@@ -1,0 +1,45 @@
+-- What a step of UDP holds, and one of TCP once its header was changed; what is appended where there may be no step.
+use Rattle.std.proofs.Common.{◌≡◌, List, ℕ, Option, Some, None, Result, Ok, ap, refl, ◌∙◌}
+use Rattle.std.specs.Prelude.{Vec, MatchResult}
+use Rattle.etherparse.specs.AppendedFrames.{AppendsFrame}
+use Rattle.etherparse.specs.BuiltFrames.{Held, Inside, held_transport, transport_packet}
+use Rattle.etherparse.specs.Types.BuildWriteError.{BuildWriteError}
+use Rattle.etherparse.specs.Types.IpHeaders.{IpHeaders}
+use Rattle.etherparse.specs.Types.LinkPart.{LinkPart}
+use Rattle.etherparse.specs.Types.TcpHeader.{TcpHeader}
+use Rattle.etherparse.specs.Types.TransportHeader.{TransportHeader}
+use Rattle.etherparse.specs.Types.TransportHeader.TheVariants as header
+use Rattle.example_generators.specs.Requests.{AppendsWhere}
+
+-- the same headers
+pub same_transport : (link known_link : LinkPart) (headers known_headers : IpHeaders) (behind : TransportHeader)
+    → link ≡ known_link → headers ≡ known_headers
+    → held_transport link headers behind ≡ held_transport known_link known_headers behind
+same_transport link known_link headers known_headers behind link_is headers_are =
+    ap (λ (part : LinkPart). held_transport part headers behind) link_is
+    ∙ ap (λ (ip : IpHeaders). held_transport known_link ip behind) headers_are
+
+-- the headers that were found are written
+pub appends_some : {Z : Type 0} (found : Option Held) (held : Held) (payload : List ℕ) (old new : Vec ℕ Z)
+    (result : Result (Unit {0}) BuildWriteError) → found ≡ Some held → AppendsFrame held payload old new result
+    → AppendsWhere found payload old new (Some result)
+appends_some found held payload old new result found_is appends = rw found_is appends
+
+-- none were found
+pub appends_none : {Z : Type 0} (found : Option Held) (payload : List ℕ) (buf : Vec ℕ Z)
+    (result : Option (Result (Unit {0}) BuildWriteError)) → found ≡ None → result ≡ None
+    → AppendsWhere found payload buf buf result
+appends_none found payload buf result found_is result_is = rw (found_is, result_is) refl
+
+-- headers with another TCP header behind them
+abbrev pub with_tcp : (TcpHeader → TcpHeader) → Inside → Inside
+with_tcp change (transport_packet headers (header.Tcp tcp)) = transport_packet headers (header.Tcp (change tcp))
+with_tcp change inside = inside
+
+abbrev pub held_with_tcp : (TcpHeader → TcpHeader) → Held → Held
+held_with_tcp change held = record { link = held.link; inside = with_tcp change held.inside }
+
+-- what is known of a value that was unwrapped
+pub unwrapped : {T E : Type 0} (result : Result T E) (value : T) (P : T → Type 0) (Q : E → Type 0)
+    → result ≡ Ok value → MatchResult result P Q → P value
+unwrapped result value P Q is holds = rw is at holds

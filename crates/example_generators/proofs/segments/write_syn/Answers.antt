@@ -1,0 +1,37 @@
+use Rattle.std.proofs.Common.{◌≡◌, [], ◌∷◌, true, ap, subst, rules, ◌∙◌}
+use Rattle.etherparse.specs.BuiltFrames.{Held, held_transport}
+use Rattle.etherparse.specs.Steps.{ipv4_headers_between, transport_held}
+use Rattle.etherparse.specs.Tcp.{default_tcp_header}
+use Rattle.etherparse.specs.Types.TcpHeader.{TcpHeader}
+use Rattle.etherparse.specs.Types.TransportHeader.TheVariants as header
+use Rattle.etherparse.specs.AppendedFrames.{AppendsFrame}
+use Rattle.example_generators.specs.Ends.{ethernet_header}
+use Rattle.example_generators.specs.Segments.{syn_headers}
+use Rattle.example_generators.proofs.BuildingLemmas.{held_with_tcp, unwrapped}
+use Rattle.example_generators.proofs.segments.write_syn.Goals as goal
+
+pub returns : goal.returns
+returns c =
+    let with_syn : TcpHeader → TcpHeader = λ tcp. record tcp { syn = true } in
+    let with_options : TcpHeader → TcpHeader = λ tcp. record tcp { options = 2 ∷ 4 ∷ 5 ∷ 180 ∷ 1 ∷ 3 ∷ 3 ∷ 7 ∷ [] } in
+    let plain : transport_held header.Tcp c.tcp.result ≡ held_transport
+    ethernet_header
+    (ipv4_headers_between (192 ∷ 0 ∷ 2 ∷ 1 ∷ []) (192 ∷ 0 ∷ 2 ∷ 2 ∷ []) 64)
+    (header.Tcp (record default_tcp_header {
+      source_port = 4000;
+      destination_port = 53;
+      sequence_number = c.args.sequence_number;
+      window_size = 65535;
+    })) = search rules in
+    let same : transport_held header.Tcp c.unwrap.result ≡ syn_headers c.args.sequence_number =
+    ap (transport_held header.Tcp) (unwrapped _ _ _ _ c.unwrap.ensures c.options.ensures).1
+    ∙ ap (held_with_tcp with_options) (ap (transport_held header.Tcp) c.syn.ensures ∙ ap (held_with_tcp with_syn) plain) in
+    subst
+    (λ (held : Held). AppendsFrame held [] c.args.buf.now c.write.new.buf c.write.result)
+    same
+    (record {
+      ok = c.write.ensures.ok;
+      err = c.write.ensures.err;
+      refused = c.write.ensures.refused;
+      full = c.write.ensures.full;
+    })

@@ -1,0 +1,35 @@
+-- How a payload is cut into fragments, and the headers of each.
+use Rattle.std.specs.Prelude.{ℕ, ◌+◌, min, nat_le, nat_lt, Bool, false, if◌then◌else◌, List, [], ◌∷◌, length, slice_range, Option, Some, None}
+use Rattle.etherparse.specs.BuiltFrames.{Held, held_ip}
+use Rattle.etherparse.specs.Ipv4.{default_ipv4_header}
+use Rattle.etherparse.specs.Types.IpHeaders.{IpHeaders}
+use Rattle.etherparse.specs.Types.IpHeaders.TheVariants as version
+use Rattle.example_generators.specs.Ends.{ethernet_header}
+
+-- where the cut that begins here ends: behind 1480 bytes, or where the payload does
+abbrev pub cut_end : List ℕ → ℕ → ℕ
+cut_end payload start = min (length payload) (start + 1480)
+
+-- the cut that begins here, and whether more follow it; none behind the payload's end
+abbrev pub cut_from : List ℕ → ℕ → Option (List ℕ × Bool)
+cut_from payload start =
+    if nat_le (length payload) start then None
+    else Some (slice_range payload start (cut_end payload start), nat_lt (cut_end payload start) (length payload))
+
+-- the header of IPv4 of a fragment
+abbrev pub ip_headers : ℕ → Bool → IpHeaders
+ip_headers place more = version.Ipv4
+    (record default_ipv4_header {
+      identification = 1;
+      dont_fragment = false;
+      more_fragments = more;
+      fragment_offset = place;
+      time_to_live = 64;
+      source = 192 ∷ 0 ∷ 2 ∷ 1 ∷ [];
+      destination = 192 ∷ 0 ∷ 2 ∷ 2 ∷ [];
+    })
+    (record { auth = None })
+
+-- the headers of a fragment of a payload of UDP
+abbrev pub fragment_headers : ℕ → Bool → Held
+fragment_headers place more = held_ip ethernet_header (ip_headers place more) (record { 0 = 17 })

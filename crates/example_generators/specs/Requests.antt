@@ -1,0 +1,50 @@
+-- The headers of a request and of its answer, and what is appended of an answer.
+use Rattle.std.specs.Prelude.{◌≡◌, ℕ, List, [], ◌∷◌, Option, Some, None, Result, Vec}
+use Rattle.std.specs.Option.{option_and_then}
+use Rattle.etherparse.specs.AppendedFrames.{AppendsFrame}
+use Rattle.etherparse.specs.BuiltFrames.{Held, held_transport}
+use Rattle.etherparse.specs.Layers.{Layers, NetLayer, ipv4}
+use Rattle.etherparse.specs.LinkSlices.{LinkLayer, ethernet2}
+use Rattle.etherparse.specs.Steps.{ipv4_headers_between, no_type}
+use Rattle.etherparse.specs.TransportHeaders.{udp_header_in}
+use Rattle.etherparse.specs.TransportParts.{TransportLayer}
+use Rattle.etherparse.specs.Types.BuildWriteError.{BuildWriteError}
+use Rattle.etherparse.specs.Types.LinkPart.TheVariants as link
+use Rattle.etherparse.specs.Types.TransportHeader.TheVariants as header
+use Rattle.etherparse.specs.Types.UdpHeader.{UdpHeader}
+
+-- the headers of a datagram of UDP over IPv4 between these hardware addresses, addresses and ports, each the sender's
+-- and the receiver's
+abbrev pub datagram : List ℕ × List ℕ → List ℕ × List ℕ → ℕ × ℕ → Held
+datagram hardware addresses ports = held_transport
+    (link.Ethernet2 (record { source = hardware.0; destination = hardware.1; ether_type = no_type }))
+    (ipv4_headers_between addresses.0 addresses.1 64)
+    (header.Udp (record { source_port = ports.0; destination_port = ports.1; length = 0; checksum = 0 }))
+
+-- the headers of the request
+abbrev pub request_headers : Held
+request_headers = datagram
+    (2 ∷ 0 ∷ 0 ∷ 0 ∷ 0 ∷ 1 ∷ [], 2 ∷ 0 ∷ 0 ∷ 0 ∷ 0 ∷ 2 ∷ [])
+    (192 ∷ 0 ∷ 2 ∷ 1 ∷ [], 192 ∷ 0 ∷ 2 ∷ 2 ∷ [])
+    (4000, 53)
+
+-- the headers of the answer to a datagram of UDP over IPv4, from its receiver to its sender; nothing else has one
+abbrev pub answer_between : Option LinkLayer → Option NetLayer → Option UdpHeader → Option Held
+answer_between (Some (ethernet2 frame payload)) (Some (ipv4 ip extensions inside)) (Some udp) = Some (datagram
+    (frame.destination, frame.source)
+    (ip.destination, ip.source)
+    (udp.destination_port, udp.source_port))
+answer_between frame ip udp = None
+
+abbrev pub answer_to : Layers → Option Held
+answer_to layers = answer_between
+    layers.link
+    layers.net
+    (option_and_then (λ (layer : TransportLayer). udp_header_in layer.header) layers.transport)
+
+-- the frame of the headers is appended, where there are some; the buffer is else as it was, and there is no result
+abbrev pub AppendsWhere : {Z : Type 0} → Option Held → List ℕ → Vec ℕ Z → Vec ℕ Z
+    → Option (Result (Unit {0}) BuildWriteError) → Type 0
+AppendsWhere (Some held) payload old new (Some result) = AppendsFrame held payload old new result
+AppendsWhere None payload old new None = new ≡ old
+AppendsWhere held payload old new result = ⊥

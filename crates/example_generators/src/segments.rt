@@ -1,0 +1,27 @@
+//! The first segment of a TCP connection, with options.
+
+ghost use Rattle.std.specs.Prelude.{[]};
+ghost use Rattle.etherparse.specs.AppendedFrames.{AppendsFrame};
+ghost use Rattle.example_generators.specs.Segments.{syn_headers};
+
+use etherparse::err::packet::BuildWriteError;
+use etherparse::{PacketBuilder, TcpOptionElement};
+
+/// Appends the first segment of a TCP connection (RFC 9293, 3.5), which tells the greatest segment (3.7.1), and by how
+/// many bits the window is shifted (RFC 7323, 2.2).
+pub fn write_syn(sequence_number: u32, buf: &mut Vec<u8>) -> Result<(), BuildWriteError>
+    ensures { AppendsFrame (syn_headers sequence_number) [] buf.old buf.new result }
+{
+    let options = [
+        TcpOptionElement::MaximumSegmentSize(1460),
+        TcpOptionElement::Noop,
+        TcpOptionElement::WindowScale(7),
+    ];
+    PacketBuilder::ethernet2([2, 0, 0, 0, 0, 1], [2, 0, 0, 0, 0, 2])
+        .ipv4([192, 0, 2, 1], [192, 0, 2, 2], 64)
+        .tcp(4000, 53, sequence_number, 65535)
+        .syn()
+        .options(&options)
+        .unwrap()
+        .write(buf, &[])
+}
