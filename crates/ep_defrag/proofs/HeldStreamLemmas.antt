@@ -1,5 +1,5 @@
 -- What a pool holds, after one stream changed, went or began, and after a drop.
-use Rattle.std.proofs.Common.{◌≡◌, ℕ, ◌≤◌, Bool, true, false, List, [], ◌∷◌, map, Bor, Option, Some, None, is_some, cond, sym, refl, ap, ◌∙◌, subst, arith, of_calls, inl, inr}
+use Rattle.std.proofs.Common.{◌≡◌, ℕ, ◌≤◌, Bool, true, false, List, [], ◌∷◌, map, Bor, Option, Some, None, is_some, cond, sym, refl, ap, ◌∙◌, subst, arith, inl, inr}
 use Rattle.std.specs.List.{filter, find, count_by, items_where_true}
 use Rattle.std.specs.Cmp.{IsEquivalence}
 use Rattle.std.specs.Fn.{Shared, FnReturnsAt}
@@ -141,7 +141,8 @@ where_true false x answers xs = refl
 told_at : {F T : Type 0} (calls : Shared F (Bor T × Unit {0}) Bool) (keep : F) (answers : T → Bool)
     → IsAnsweredBy calls keep answers → (timestamp : T) (answer : Bool) → FnReturnsAt calls keep timestamp answer
     → answer ≡ answers timestamp
-told_at calls keep answers told timestamp answer returned = search (of_calls, told)
+told_at calls keep answers told timestamp answer returned =
+    told returned.shown answer returned.says.met ∙ ap answers returned.shows
 
 -- where a drop answers by a function of the timestamp, it is a filter
 module _ {F T C : Type 0} (calls : Shared F (Bor T × Unit {0}) Bool) (keep : F) (answers : T → Bool)

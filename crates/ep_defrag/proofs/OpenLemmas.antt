@@ -1,5 +1,5 @@
 -- A stream that no drop drops where it stands.
-use Rattle.std.proofs.Common.{◌≡◌, ℕ, zero, suc, Bool, true, false, List, [], ◌∷◌, ◌++◌, append_assoc, take, drop, Option, Some, None, IfSome, slice_get, sym, refl, ap, ◌∙◌, inl, inr}
+use Rattle.std.proofs.Common.{◌≡◌, ℕ, suc, Bool, true, false, List, [], ◌∷◌, ◌++◌, append_assoc, take, drop, Option, Some, None, IfSome, slice_get, sym, refl, ap, ◌∙◌, inl, inr}
 use Rattle.std.specs.List.{filter_map, AllByRecursion, All}
 use Rattle.std.proofs.lemmas.Bool.{cases_Bool}
 use Rattle.std.proofs.lemmas.List.{append-nil, take-append-drop}

@@ -1,6 +1,6 @@
 //! Memory of streams that ended, for those that begin.
 
-ghost use Rattle.std.specs.Prelude.{◌≡◌, [], None};
+ghost use Rattle.std.specs.Prelude.{◌≡◌, ◌⊎◌, ◌+◌, ◌<◌, ◌≤◌, [], ◌∷◌, ◌++◌, None, OnOk, OnErr, vec_len, vec_capacity};
 ghost use Rattle.ep_defrag.specs.Buffers.{HoldsFragments, ip_number_of, data_of, sections_of, known_end_of};
 
 use crate::ip_defrag_buf::IpDefragBuf;
@@ -30,7 +30,14 @@ impl SpareBuffers {
     }
 
     /// Room in both lists for so many vectors, with those that lie there.
-    pub(crate) fn reserve(&mut self, count: usize) -> Result<(), AllocError> {
+    pub(crate) fn reserve(&mut self, count: usize) -> Result<(), AllocError>
+        ensures bytes { self.new.bytes.items ≡ self.old.bytes.items }
+        ensures sections { self.new.sections.items ≡ self.old.sections.items }
+        ensures room { OnOk result
+            ((count ≤ vec_capacity self.new.bytes) × (count ≤ vec_capacity self.new.sections)) }
+        ensures full { OnErr result
+            ((vec_capacity self.old.bytes < count) ⊎ (vec_capacity self.old.sections < count)) }
+    {
         self.bytes.reserve(count.saturating_sub(self.bytes.len()))?;
         self.sections
             .reserve(count.saturating_sub(self.sections.len()))
@@ -50,19 +57,32 @@ impl SpareBuffers {
     }
 
     /// Keeps both vectors of a buffer.
-    pub(crate) fn keep(&mut self, buffer: IpDefragBuf) {
+    pub(crate) fn keep(&mut self, buffer: IpDefragBuf)
+        ensures bytes { vec_len self.old.bytes < vec_capacity self.old.bytes →
+            vec_len self.new.bytes ≡ vec_len self.old.bytes + 1 }
+        ensures sections { vec_len self.old.sections < vec_capacity self.old.sections →
+            vec_len self.new.sections ≡ vec_len self.old.sections + 1 }
+    {
         let (bytes, sections) = buffer.take_bufs();
         self.keep_bytes(bytes);
         self.keep_sections(sections);
     }
 
-    pub(crate) fn keep_bytes(&mut self, bytes: Vec<u8>) {
+    pub(crate) fn keep_bytes(&mut self, bytes: Vec<u8>)
+        ensures kept { vec_len self.old.bytes < vec_capacity self.old.bytes →
+            self.new.bytes.items ≡ self.old.bytes.items ++ bytes ∷ [] }
+        ensures sections { self.new.sections ≡ self.old.sections }
+    {
         if self.bytes.len() < self.bytes.capacity() {
             let _ = self.bytes.push(bytes);
         }
     }
 
-    pub(crate) fn keep_sections(&mut self, sections: Vec<IpFragRange>) {
+    pub(crate) fn keep_sections(&mut self, sections: Vec<IpFragRange>)
+        ensures kept { vec_len self.old.sections < vec_capacity self.old.sections →
+            self.new.sections.items ≡ self.old.sections.items ++ sections ∷ [] }
+        ensures bytes { self.new.bytes ≡ self.old.bytes }
+    {
         if self.sections.len() < self.sections.capacity() {
             let _ = self.sections.push(sections);
         }

@@ -1,4 +1,4 @@
-use Rattle.std.proofs.Common.{◌∙◌, ap}
+use Rattle.std.proofs.Common.{◌∙◌, ap, rules}
 use Rattle.ep_defrag.specs.Buffers.{extended, overwritten}
 use Rattle.ep_defrag.proofs.ip_defrag_buf.IpDefragBuf.accept.Goals as goal
 
@@ -15,3 +15,9 @@ returns-else-not-more_fragments-clause-data c =
     c.put.ensures.items
     ∙ ap (λ bytes. overwritten (extended bytes range.end) range.start c.args.payload.now)
     c.in_ok-reserve_to.ensures.items
+
+pub returns-in_err-reserve-clause-in_place : goal.returns-in_err-reserve-clause-in_place
+returns-in_err-reserve-clause-in_place c = search rules
+
+pub returns-in_err-reserve-clause-lacks_room : goal.returns-in_err-reserve-clause-lacks_room
+returns-in_err-reserve-clause-lacks_room c = search rules
