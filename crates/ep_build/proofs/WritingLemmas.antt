@@ -34,7 +34,7 @@ use Rattle.ep_transport.specs.declared.transport_header.TransportHeader.{Transpo
 use Rattle.ep_transport.specs.declared.transport_header.TransportHeader.TheVariants as transport
 use Rattle.ep_build.specs.BuildErrors.{IsBuildable, IsBuildError, is_icmpv6_in_ipv4}
 use Rattle.ep_build.specs.BuiltFragments.{IsFragmentReadBack}
-use Rattle.ep_build.specs.BuiltFrames.{as_ether_type, built_frame, held_ip, held_transport}
+use Rattle.ep_build.specs.BuiltFrames.{Held, as_ether_type, built_frame, held_ip, held_transport}
 use Rattle.ep_build.specs.BuiltFrames.{link_before, link_part_bytes, transport_between, transport_number}
 use Rattle.ep_build.specs.BuiltFrames.{with_checksum_behind, with_length}
 use Rattle.ep_build.specs.declared.err.build_write_error.BuildWriteError.{BuildWriteError}
@@ -164,6 +164,20 @@ unrefused_len headers len none = within
     _
     (most_is_small headers)
     none
+
+second_row : {E : Type 0} (total most : ℕ) (first second : E) → total < 2 ^ 64 → most < total
+    → first_row ((nat_lt (2 ^ 64 - 1) total, first) ∷ (nat_lt most total, second) ∷ []) ≡ Some second
+second_row total most first second small long = grind (arith, common_steps)
+
+-- of a header alone it refuses what the field cannot count, as that length
+pub too_long_alone : (headers : IpHeaders) (len : ℕ) (error : ValueTooBigError ℕ) → ip_extensions_len headers ≡ 0
+    → len < 2 ^ 64 → most_behind_header headers < len → error ≡ too_long headers len (most_behind_header headers)
+    → Refuses (payload_len_rows headers len) error
+too_long_alone headers len error alone small long is =
+    let most = most_behind_header headers in
+    let total : len + ip_extensions_len headers ≡ len = omega (arith, alone) in
+    second_row (len + ip_extensions_len headers) most _ _ (omega (arith, total, small)) (omega (arith, total, long))
+    ∙ ap (λ (n : ℕ). Some (too_long headers n most)) total ∙ ap (λ (e : ValueTooBigError ℕ). Some e) (sym is)
 
 -- ---- the table of the builder
 
@@ -384,6 +398,10 @@ transport_ok link headers linked behind set filled last len type payload is numb
       is_transport_frame link headers linked behind filled last len type payload is number between
           (content_is headers behind filled len payload between counts fits) typed,
     )
+
+-- what is appended where the frame of what is held is written
+abbrev pub Appends : Held → List ℕ → List ℕ → List ℕ → Type 0
+Appends held payload old new = IsBuildable held (length payload) × (new ≡ old ++ built_frame held payload)
 
 -- ---- reading back
 

@@ -5,6 +5,8 @@ use Rattle.ep_base.specs.declared.ip_number.IpNumber.{IpNumber}
 use Rattle.ep_ext.specs.Ipv6Chains.{no_ipv6_extensions}
 use Rattle.ep_ip.specs.Ipv4.{default_ipv4_header}
 use Rattle.ep_ip.specs.Ipv6.{default_ipv6_header}
+use Rattle.ep_ip.specs.declared.ipv4_header.Ipv4Header.{Ipv4Header}
+use Rattle.ep_ip.specs.declared.ipv6_header.Ipv6Header.{Ipv6Header}
 use Rattle.ep_link.specs.ArpSlices.{arp_of}
 use Rattle.ep_link.specs.declared.arp.arp_packet.ArpPacket.{ArpPacket}
 use Rattle.ep_link.specs.declared.link.ethernet2_header.Ethernet2Header.{Ethernet2Header}
@@ -18,6 +20,8 @@ use Rattle.ep_build.specs.BuiltFrames.{Held, held_arp, held_ip, held_transport, 
 use Rattle.ep_packet.specs.IpHeaders.{ip_headers_len}
 use Rattle.ep_build.specs.BuiltFragments.{IsFragmentReadBack}
 use Rattle.ep_build.specs.ReadBack.{IsArpReadBack, IsReadBack}
+use Rattle.ep_build.specs.declared.ip_part.IpPart.{IpPart}
+use Rattle.ep_build.specs.declared.ip_part.IpPart.TheVariants as part
 use Rattle.ep_build.specs.declared.link_part.LinkPart.{LinkPart}
 use Rattle.ep_build.specs.declared.link_part.LinkPart.TheVariants as link
 use Rattle.ep_build.specs.declared.packet_builder.PacketBuilderStep.{PacketBuilderStep}
@@ -25,71 +29,86 @@ use Rattle.ep_build.specs.declared.packet_builder.PacketBuilderStep.{PacketBuild
 -- ---- steps that a net layer may follow: their link part
 
 -- that of a step whose last header is Ethernet II: this header
-abbrev pub ethernet2_link : PacketBuilderStep Ethernet2Header (Unit {0}) → LinkPart
+abbrev pub ethernet2_link : PacketBuilderStep Ethernet2Header (Unit {0}) Ethernet2Header → LinkPart
 ethernet2_link step = link.Ethernet2 step.last
 
 -- that of a step whose last header is of a cooked capture: this header
-abbrev pub linux_sll_link : PacketBuilderStep LinuxSllHeader (Unit {0}) → LinkPart
+abbrev pub linux_sll_link : PacketBuilderStep LinuxSllHeader (Unit {0}) LinuxSllHeader → LinkPart
 linux_sll_link step = link.LinuxSll step.last
 
 -- that of a step whose last headers are VLAN tags: the Ethernet II header before them, and the tags
-abbrev pub vlan_link : PacketBuilderStep VlanHeader Ethernet2Header → LinkPart
+abbrev pub vlan_link : PacketBuilderStep VlanHeader Ethernet2Header VlanHeader → LinkPart
 vlan_link step = link.Tagged step.before step.last
 
 -- ---- the step of IP headers
 
+-- a header of IPv4 without extension headers
+abbrev pub plain_ipv4 : Ipv4Header → IpHeaders
+plain_ipv4 header = version.Ipv4 header (record { auth = None })
+
+-- a header of IPv6 without extension headers
+abbrev pub plain_ipv6 : Ipv6Header → IpHeaders
+plain_ipv6 header = version.Ipv6 header no_ipv6_extensions
+
+-- the headers that a step was given
+abbrev pub part_headers : IpPart → IpHeaders
+part_headers (part.Plain4 header) = plain_ipv4 header
+part_headers (part.Plain6 header) = plain_ipv6 header
+part_headers (part.Any headers) = headers
+
 -- its link part
-abbrev pub ip_link : PacketBuilderStep IpHeaders LinkPart → LinkPart
+abbrev pub ip_link : PacketBuilderStep IpHeaders LinkPart IpPart → LinkPart
 ip_link step = step.before
 
 -- its headers
-abbrev pub ip_step_headers : PacketBuilderStep IpHeaders LinkPart → IpHeaders
-ip_step_headers step = step.last
+abbrev pub ip_step_headers : PacketBuilderStep IpHeaders LinkPart IpPart → IpHeaders
+ip_step_headers step = part_headers step.last
 
 -- what it holds, with the number of the payload
-abbrev pub ip_held : PacketBuilderStep IpHeaders LinkPart → IpNumber → Held
+abbrev pub ip_held : PacketBuilderStep IpHeaders LinkPart IpPart → IpNumber → Held
 ip_held step last = held_ip (ip_link step) (ip_step_headers step) last
 
 -- the number of bytes of its frame, with so many bytes of payload
-abbrev pub ip_step_size : PacketBuilderStep IpHeaders LinkPart → ℕ → ℕ
+abbrev pub ip_step_size : PacketBuilderStep IpHeaders LinkPart IpPart → ℕ → ℕ
 ip_step_size step len = link_part_len (ip_link step) + (ip_headers_len (ip_step_headers step) + len)
 
 -- its frame, with this number and this payload, is read back as the fragment that it is built from
-abbrev pub IpStepReadsBack : PacketBuilderStep IpHeaders LinkPart → IpNumber → List ℕ → Type 0
+abbrev pub IpStepReadsBack : PacketBuilderStep IpHeaders LinkPart IpPart → IpNumber → List ℕ → Type 0
 IpStepReadsBack step last payload = IsFragmentReadBack (ip_link step) (ip_step_headers step) last payload
 
 -- ---- steps of a transport header
 
 -- the header
-abbrev pub transport_header : {H : Type 0} → PacketBuilderStep H (LinkPart × IpHeaders) → H
+abbrev pub transport_header : {H : Type 0} → PacketBuilderStep H (LinkPart × IpPart) H → H
 transport_header step = step.last
 
 -- what the step holds, where its header is this transport header
-abbrev pub transport_held : {H : Type 0} → (H → TransportHeader) → PacketBuilderStep H (LinkPart × IpHeaders) → Held
-transport_held kind step = held_transport step.before.0 step.before.1 (kind (transport_header step))
+abbrev pub transport_held : {H : Type 0} → (H → TransportHeader) → PacketBuilderStep H (LinkPart × IpPart) H → Held
+transport_held kind step = held_transport step.before.0 (part_headers step.before.1) (kind (transport_header step))
 
 -- the frame of the step and a payload is read back
-abbrev pub StepReadsBack : {H : Type 0} → (H → TransportHeader) → PacketBuilderStep H (LinkPart × IpHeaders) → List ℕ
+abbrev pub StepReadsBack : {H : Type 0} → (H → TransportHeader) → PacketBuilderStep H (LinkPart × IpPart) H → List ℕ
     → Type 0
-StepReadsBack kind step payload = IsReadBack step.before.0 step.before.1 (kind (transport_header step)) payload
+StepReadsBack kind step payload =
+    IsReadBack step.before.0 (part_headers step.before.1) (kind (transport_header step)) payload
 
 -- what a transport header makes of the step of IP headers
-abbrev pub held_behind : PacketBuilderStep IpHeaders LinkPart → TransportHeader → Held
+abbrev pub held_behind : PacketBuilderStep IpHeaders LinkPart IpPart → TransportHeader → Held
 held_behind step behind = held_transport (ip_link step) (ip_step_headers step) behind
 
 -- the step with another header
-abbrev pub with_header : {H : Type 0} → PacketBuilderStep H (LinkPart × IpHeaders) → H
-    → PacketBuilderStep H (LinkPart × IpHeaders)
+abbrev pub with_header : {H : Type 0} → PacketBuilderStep H (LinkPart × IpPart) H → H
+    → PacketBuilderStep H (LinkPart × IpPart) H
 with_header step header = record step { last = header }
 
 -- ---- the step of an ARP packet
 
 -- what it holds
-abbrev pub arp_held : PacketBuilderStep ArpPacket LinkPart → Held
+abbrev pub arp_held : PacketBuilderStep ArpPacket LinkPart ArpPacket → Held
 arp_held step = held_arp step.before (arp_of step.last)
 
 -- its frame is read back
-abbrev pub ArpStepReadsBack : PacketBuilderStep ArpPacket LinkPart → Type 0
+abbrev pub ArpStepReadsBack : PacketBuilderStep ArpPacket LinkPart ArpPacket → Type 0
 ArpStepReadsBack step = IsArpReadBack step.before (arp_of step.last)
 
 -- ---- headers that are begun

@@ -114,7 +114,7 @@ fn linux_sll_fits(header: &LinuxSllHeader)
 
 /// An IPv4 header.
 #[inline]
-fn ipv4_fits(header: &Ipv4Header)
+pub(crate) fn ipv4_fits(header: &Ipv4Header)
     ensures { FitsIpv4 header.now }
 {
     let _dscp = header.dscp.value();
@@ -133,7 +133,7 @@ fn ipv4_fits(header: &Ipv4Header)
 
 /// An IPv6 header.
 #[inline]
-fn ipv6_fits(header: &Ipv6Header)
+pub(crate) fn ipv6_fits(header: &Ipv6Header)
     ensures { FitsIpv6 header.now }
 {
     let _traffic_class = header.traffic_class;

@@ -3,6 +3,7 @@
 
 pub mod err;
 mod facts;
+mod ip_part;
 pub mod laws;
 mod link_part;
 mod packet_builder;

@@ -1,11 +1,11 @@
 //! Frames that are built header by header.
 
 ghost use Rattle.std.specs.Prelude.{◌≡◌};
-ghost use Rattle.ep_build.specs.Steps.{ipv4_headers_between, ipv6_headers_between};
+ghost use Rattle.ep_build.specs.Steps.{ipv4_headers_between, ipv6_headers_between, part_headers};
 
+use crate::ip_part::IpPart;
 use crate::link_part::LinkPart;
 use ep_base::EtherType;
-use ep_ext::{Ipv4Extensions, Ipv6Extensions};
 use ep_ip::{Ipv4Header, Ipv6Header};
 use ep_link::{
     ArpHardwareId, Ethernet2Header, LinuxSllHeader, LinuxSllPacketType, LinuxSllProtocolType,
@@ -31,7 +31,7 @@ pub struct PacketBuilderStep<LastStep: HoldsHeaders> {
     /// The headers before the last one.
     before: LastStep::Before,
     /// The last header.
-    last: LastStep,
+    last: LastStep::Held,
 }
 
 impl PacketBuilder {
@@ -40,7 +40,7 @@ impl PacketBuilder {
     ghost use Rattle.ep_link.specs.declared.link.linux_sll_protocol_type.LinuxSllProtocolType.TheVariants as protocol;
 
     /// Begins with an Ethernet II header (IEEE 802.3, clause 3) of these addresses.
-    #[inline]
+    #[inline(always)]
     pub fn ethernet2(source: [u8; 6], destination: [u8; 6]) -> PacketBuilderStep<Ethernet2Header>
         ensures { ethernet2_link result ≡ LinkPart.Ethernet2 (record {
           source = source;
@@ -60,7 +60,7 @@ impl PacketBuilder {
 
     /// Begins with the header of a Linux cooked capture (SLL v1), of a device of Ethernet: which way the packet went,
     /// and the sender's address with its length in bytes.
-    #[inline]
+    #[inline(always)]
     pub fn linux_sll(
         packet_type: LinuxSllPacketType,
         sender_address_valid_length: u16,
@@ -88,7 +88,7 @@ impl PacketBuilder {
 
     /// Begins with an IPv4 header (RFC 791, 3.1) of these addresses and this number of hops, and else the default's
     /// fields.
-    #[inline]
+    #[inline(always)]
     pub fn ipv4(
         source: [u8; 4],
         destination: [u8; 4],
@@ -105,7 +105,7 @@ impl PacketBuilder {
 
     /// Begins with an IPv6 header (RFC 8200, 3) of these addresses and this number of hops, with the traffic class and
     /// the flow label 0.
-    #[inline]
+    #[inline(always)]
     pub fn ipv6(
         source: [u8; 16],
         destination: [u8; 16],
@@ -121,18 +121,18 @@ impl PacketBuilder {
     }
 
     /// Begins with these IP headers.
-    #[inline]
+    #[inline(always)]
     pub fn ip(ip_headers: IpHeaders) -> PacketBuilderStep<IpHeaders>
         ensures link { ip_link result ≡ LinkPart.Absent }
         ensures headers { ip_step_headers result ≡ ip_headers }
     {
-        ip_behind(LinkPart::Absent, ip_headers)
+        ip_behind(LinkPart::Absent, IpPart::Any(ip_headers))
     }
 }
 
 /// The step of IP headers behind this link part.
-#[inline]
-fn ip_behind(link: LinkPart, headers: IpHeaders) -> PacketBuilderStep<IpHeaders>
+#[inline(always)]
+fn ip_behind(link: LinkPart, headers: IpPart) -> PacketBuilderStep<IpHeaders>
     ensures { result ≡ record { before = link; last = headers } }
 {
     PacketBuilderStep {
@@ -142,9 +142,9 @@ fn ip_behind(link: LinkPart, headers: IpHeaders) -> PacketBuilderStep<IpHeaders>
 }
 
 /// The default headers of IPv4 with these addresses and this number of hops.
-#[inline]
-fn ipv4_between(source: [u8; 4], destination: [u8; 4], time_to_live: u8) -> IpHeaders
-    ensures { result ≡ ipv4_headers_between source destination time_to_live }
+#[inline(always)]
+fn ipv4_between(source: [u8; 4], destination: [u8; 4], time_to_live: u8) -> IpPart
+    ensures { part_headers result ≡ ipv4_headers_between source destination time_to_live }
 {
     let header = Ipv4Header {
         time_to_live,
@@ -152,13 +152,13 @@ fn ipv4_between(source: [u8; 4], destination: [u8; 4], time_to_live: u8) -> IpHe
         destination,
         ..Default::default()
     };
-    IpHeaders::Ipv4(header, Ipv4Extensions::default())
+    IpPart::Plain4(header)
 }
 
 /// The default headers of IPv6 with these addresses and this number of hops.
-#[inline]
-fn ipv6_between(source: [u8; 16], destination: [u8; 16], hop_limit: u8) -> IpHeaders
-    ensures { result ≡ ipv6_headers_between source destination hop_limit }
+#[inline(always)]
+fn ipv6_between(source: [u8; 16], destination: [u8; 16], hop_limit: u8) -> IpPart
+    ensures { part_headers result ≡ ipv6_headers_between source destination hop_limit }
 {
     let header = Ipv6Header {
         hop_limit,
@@ -166,5 +166,5 @@ fn ipv6_between(source: [u8; 16], destination: [u8; 16], hop_limit: u8) -> IpHea
         destination,
         ..Default::default()
     };
-    IpHeaders::Ipv6(header, Ipv6Extensions::default())
+    IpPart::Plain6(header)
 }

@@ -1,54 +1,51 @@
 //! Writing the headers that a step holds, and a payload: all checks first, then one reservation, then the bytes.
 
-ghost use Rattle.std.specs.Prelude.{◌≡◌, ◌≤◌, ◌<◌, ◌+◌, ◌++◌, ℕ, [], length, None, Err, IfErr, OnOk, OnErr, MatchResult, true};
-ghost use Rattle.std.specs.Prelude.{false, vec_len, vec_capacity};
-ghost use Rattle.ep_base.specs.Tables.{Refuses, first_row};
-ghost use Rattle.ep_packet.specs.IpHeaders.{LeadThrough, headers_for, ip_headers_parts, ip_headers_type, payload_len_rows};
-ghost use Rattle.ep_packet.specs.IpHeaders.{ip_headers_len, written_headers};
+ghost use Rattle.std.specs.Prelude.{◌≡◌, ◌≤◌, ◌<◌, ◌+◌, ◌++◌, ℕ, [], length, Err, IfErr, OnOk, OnErr, vec_len, vec_capacity};
+ghost use Rattle.ep_packet.specs.IpHeaders.{FitsIpHeader, LeadThrough, ip_headers_parts, ip_headers_len, written_headers};
 ghost use Rattle.ep_link.specs.ArpSlices.{arp_of};
 ghost use Rattle.ep_transport.specs.TransportHeaders.{transport_header_len};
 ghost use Rattle.ep_ext.specs.Chains.{FitParts};
 ghost use Rattle.ep_build.specs.BuiltFragments.{IsFragmentReadBack};
 ghost use Rattle.ep_build.specs.ReadBack.{IsArpReadBack, IsReadBack};
-ghost use Rattle.ep_build.specs.BuildErrors.{IsBuildable, IsBuildError, is_icmpv6_in_ipv4};
+ghost use Rattle.ep_build.specs.BuildErrors.{IsBuildable, IsBuildError};
 ghost use Rattle.ep_build.specs.BuiltFrames.{held_ip, held_transport, held_arp, built_frame, built_size};
 ghost use Rattle.ep_build.specs.BuiltFrames.{link_before, link_part_bytes, link_part_len, transport_number, with_length};
-ghost use Rattle.ep_build.specs.BuiltFrames.{with_checksum_behind};
+ghost use Rattle.ep_build.specs.Steps.{part_headers};
 
 use crate::err::BuildWriteError;
-use crate::facts::{ip_header_fits, link_fits, transport_fits};
+use crate::facts::{link_fits, transport_fits};
+use crate::ip_part::{IpPart, IsIpHeaders};
 use crate::link_part::LinkPart;
-use ep_base::err::ValueTooBigError;
 use ep_base::{EtherType, IpNumber};
 use ep_link::ArpPacket;
-use ep_packet::IpHeaders;
-use ep_transport::{TransportChecksumError, TransportHeader, UdpHeader};
+use ep_transport::{TransportHeader, UdpHeader};
 
 /// Appends the frame of IP headers that lead to this number.
-pub(crate) fn write_ip(
+#[inline(never)]
+pub(crate) fn write_ip<Headers: IsIpHeaders>(
     link: &LinkPart,
-    headers: &mut IpHeaders,
+    headers: &mut Headers,
     last: IpNumber,
     payload: &[u8],
     buf: &mut Vec<u8>,
 ) -> Result<(), BuildWriteError>
-    ensures ok { let held = held_ip link.now headers.old last in
+    ensures ok { let held = held_ip link.now (Headers.headers headers.old) last in
         OnOk result (IsBuildable held (length payload.now)
         × (buf.new.items ≡ buf.old.items ++ built_frame held payload.now)) }
     ensures err { OnErr result (buf.new.items ≡ buf.old.items) }
-    ensures refused { IfErr result (IsBuildError (held_ip link.now headers.old last) (length payload.now)) }
-    ensures fragment { OnOk result (IsFragmentReadBack link.now headers.old last payload.now) }
+    ensures refused { IfErr result
+        (IsBuildError (held_ip link.now (Headers.headers headers.old) last) (length payload.now)) }
+    ensures fragment { OnOk result (IsFragmentReadBack link.now (Headers.headers headers.old) last payload.now) }
     ensures full { result ≡ Err BuildWriteError.OutOfMemory → vec_capacity buf.old
-        < vec_len buf.old + built_size (held_ip link.now headers.old last) (length payload.now) }
+        < vec_len buf.old + built_size (held_ip link.now (Headers.headers headers.old) last) (length payload.now) }
     ensures capacity { vec_capacity buf.old ≤ vec_capacity buf.new }
 {
     link_fits(link);
-    let ether_type = match link_headers(headers, last, payload.len()) {
+    let ether_type = match headers.link(last, payload.len()) {
         Ok(ether_type) => ether_type,
         Err(error) => return Err(BuildWriteError::PayloadLen(error)),
     };
-    ip_header_fits(headers);
-    let size = link.header_len() + headers.header_len() + payload.len();
+    let size = link.header_len() + headers.headers_len() + payload.len();
     if buf.reserve(size).is_err() {
         return Err(BuildWriteError::OutOfMemory);
     }
@@ -57,37 +54,97 @@ pub(crate) fn write_ip(
     Ok(())
 }
 
+/// Appends the frame of the IP headers of a step, which lead to this number. It is inlined and takes the step's parts
+/// by value, so that where the call stands behind `ipv4` or `ipv6` there is no room for other headers.
+#[inline(always)]
+pub(crate) fn write_ip_part(
+    link: LinkPart,
+    ip: IpPart,
+    last: IpNumber,
+    payload: &[u8],
+    buf: &mut Vec<u8>,
+) -> Result<(), BuildWriteError>
+    ensures ok { let held = held_ip link (part_headers ip) last in
+        OnOk result (IsBuildable held (length payload.now)
+        × (buf.new.items ≡ buf.old.items ++ built_frame held payload.now)) }
+    ensures err { OnErr result (buf.new.items ≡ buf.old.items) }
+    ensures refused { IfErr result (IsBuildError (held_ip link (part_headers ip) last) (length payload.now)) }
+    ensures fragment { OnOk result (IsFragmentReadBack link (part_headers ip) last payload.now) }
+    ensures full { result ≡ Err BuildWriteError.OutOfMemory → vec_capacity buf.old
+        < vec_len buf.old + built_size (held_ip link (part_headers ip) last) (length payload.now) }
+    ensures capacity { vec_capacity buf.old ≤ vec_capacity buf.new }
+{
+    match ip {
+        IpPart::Plain4(mut header) => write_ip(&link, &mut header, last, payload, buf),
+        IpPart::Plain6(mut header) => write_ip(&link, &mut header, last, payload, buf),
+        IpPart::Any(mut headers) => write_ip(&link, &mut headers, last, payload, buf),
+    }
+}
+
+/// The same of the IP headers of a step and a transport header.
+#[inline(always)]
+pub(crate) fn write_behind(
+    link: LinkPart,
+    ip: IpPart,
+    mut transport: TransportHeader,
+    payload: &[u8],
+    buf: &mut Vec<u8>,
+) -> Result<(), BuildWriteError>
+    ensures ok { let held = held_transport link (part_headers ip) transport in
+        OnOk result (IsBuildable held (length payload.now)
+        × (buf.new.items ≡ buf.old.items ++ built_frame held payload.now)) }
+    ensures err { OnErr result (buf.new.items ≡ buf.old.items) }
+    ensures refused { IfErr result (IsBuildError (held_transport link (part_headers ip) transport)
+        (length payload.now)) }
+    ensures read_back { OnOk result (IsReadBack link (part_headers ip) transport payload.now) }
+    ensures full { result ≡ Err BuildWriteError.OutOfMemory → vec_capacity buf.old
+        < vec_len buf.old + built_size (held_transport link (part_headers ip) transport) (length payload.now) }
+    ensures capacity { vec_capacity buf.old ≤ vec_capacity buf.new }
+{
+    match ip {
+        IpPart::Plain4(mut header) => {
+            write_transport(&link, &mut header, &mut transport, payload, buf)
+        }
+        IpPart::Plain6(mut header) => {
+            write_transport(&link, &mut header, &mut transport, payload, buf)
+        }
+        IpPart::Any(mut headers) => {
+            write_transport(&link, &mut headers, &mut transport, payload, buf)
+        }
+    }
+}
+
 /// Appends the frame of IP headers and a transport header, which is that of what the headers lead to.
-pub(crate) fn write_transport(
+#[inline(never)]
+pub(crate) fn write_transport<Headers: IsIpHeaders>(
     link: &LinkPart,
-    headers: &mut IpHeaders,
+    headers: &mut Headers,
     transport: &mut TransportHeader,
     payload: &[u8],
     buf: &mut Vec<u8>,
 ) -> Result<(), BuildWriteError>
-    ensures ok { let held = held_transport link.now headers.old transport.old in
+    ensures ok { let held = held_transport link.now (Headers.headers headers.old) transport.old in
         OnOk result (IsBuildable held (length payload.now)
         × (buf.new.items ≡ buf.old.items ++ built_frame held payload.now)) }
     ensures err { OnErr result (buf.new.items ≡ buf.old.items) }
     ensures refused { IfErr result
-        (IsBuildError (held_transport link.now headers.old transport.old) (length payload.now)) }
-    ensures read_back { OnOk result (IsReadBack link.now headers.old transport.old payload.now) }
-    ensures full { result ≡ Err BuildWriteError.OutOfMemory → vec_capacity buf.old
-        < vec_len buf.old + built_size (held_transport link.now headers.old transport.old) (length payload.now) }
+        (IsBuildError (held_transport link.now (Headers.headers headers.old) transport.old) (length payload.now)) }
+    ensures read_back { OnOk result (IsReadBack link.now (Headers.headers headers.old) transport.old payload.now) }
+    ensures full { result ≡ Err BuildWriteError.OutOfMemory → vec_capacity buf.old < vec_len buf.old
+        + built_size (held_transport link.now (Headers.headers headers.old) transport.old) (length payload.now) }
     ensures capacity { vec_capacity buf.old ≤ vec_capacity buf.new }
 {
     link_fits(link);
     let last = number_of(transport);
     let content_len = transport.header_len() + payload.len();
-    let ether_type = match link_headers(headers, last, content_len) {
+    let ether_type = match headers.link(last, content_len) {
         Ok(ether_type) => ether_type,
         Err(error) => return Err(BuildWriteError::PayloadLen(error)),
     };
     set_length(transport, payload.len());
-    set_checksum(transport, headers, payload)?;
+    headers.set_checksum(transport, payload)?;
     transport_fits(transport);
-    ip_header_fits(headers);
-    let size = link.header_len() + headers.header_len() + content_len;
+    let size = link.header_len() + headers.headers_len() + content_len;
     if buf.reserve(size).is_err() {
         return Err(BuildWriteError::OutOfMemory);
     }
@@ -122,25 +179,6 @@ pub(crate) fn write_arp(
     Ok(())
 }
 
-/// Lets the headers lead to this number and count this many bytes behind them, and gives the ether type under which a
-/// link layer carries them.
-fn link_headers(
-    headers: &mut IpHeaders,
-    last: IpNumber,
-    len: usize,
-) -> Result<EtherType, ValueTooBigError<usize>>
-    ensures { MatchResult result
-        (λ ether_type. (first_row (payload_len_rows headers.old len) ≡ None)
-        × (headers.new ≡ headers_for headers.old last len) × (ether_type.0 ≡ ip_headers_type headers.old))
-        (λ error. Refuses (payload_len_rows headers.old len) error) }
-{
-    let ether_type = headers.set_next_headers(last);
-    match headers.set_payload_len(len) {
-        Ok(()) => Ok(ether_type),
-        Err(error) => Err(error),
-    }
-}
-
 /// The protocol number of a transport header.
 #[inline]
 fn number_of(transport: &TransportHeader) -> IpNumber
@@ -165,46 +203,27 @@ fn set_length(transport: &mut TransportHeader, len: usize)
     }
 }
 
-/// Sets the checksum of a transport header between these IP headers and this payload.
-#[inline]
-fn set_checksum(
-    transport: &mut TransportHeader,
-    headers: &IpHeaders,
-    payload: &[u8],
-) -> Result<(), BuildWriteError>
-    requires { transport_header_len transport.old + length payload.now ≤ 65535 }
-    ensures { MatchResult result
-        (λ _. (is_icmpv6_in_ipv4 headers.now transport.old ≡ false)
-        × (transport.new ≡ with_checksum_behind headers.now payload.now transport.old))
-        (λ error. (is_icmpv6_in_ipv4 headers.now transport.old ≡ true) × (error ≡ BuildWriteError.Icmpv6InIpv4)) }
-{
-    match headers {
-        IpHeaders::Ipv4(header, _) => match transport.update_checksum_ipv4(header, payload) {
-            Ok(()) => Ok(()),
-            Err(TransportChecksumError::PayloadLen(error)) => {
-                Err(BuildWriteError::PayloadLen(error))
-            }
-            Err(TransportChecksumError::Icmpv6InIpv4) => Err(BuildWriteError::Icmpv6InIpv4),
-        },
-        IpHeaders::Ipv6(header, _) => match transport.update_checksum_ipv6(header, payload) {
-            Ok(()) => Ok(()),
-            Err(error) => Err(BuildWriteError::PayloadLen(error)),
-        },
-    }
-}
-
 /// Appends the link part and linked IP headers, for which there is room.
-fn append_headers(link: &LinkPart, ether_type: EtherType, headers: &IpHeaders, buf: &mut Vec<u8>)
-    requires leads { (last : ℕ) × LeadThrough headers.now (ip_headers_parts headers.now) last }
-    requires room { vec_len buf.old + (link_part_len link.now + ip_headers_len headers.now) ≤ vec_capacity buf.old }
+#[inline]
+fn append_headers<Headers: IsIpHeaders>(
+    link: &LinkPart,
+    ether_type: EtherType,
+    headers: &Headers,
+    buf: &mut Vec<u8>,
+)
+    requires leads { (last : ℕ) × LeadThrough (Headers.headers headers.now)
+        (ip_headers_parts (Headers.headers headers.now)) last }
+    requires room { vec_len buf.old + (link_part_len link.now + ip_headers_len (Headers.headers headers.now))
+        ≤ vec_capacity buf.old }
+    requires fits { FitsIpHeader (Headers.headers headers.now) }
     ensures items { buf.new.items ≡ buf.old.items ++ (link_part_bytes (link_before link.now ether_type)
-        ++ written_headers headers.now (ip_headers_parts headers.now)) }
-    ensures len { vec_len buf.new ≡ vec_len buf.old + (link_part_len link.now + ip_headers_len headers.now) }
+        ++ written_headers (Headers.headers headers.now) (ip_headers_parts (Headers.headers headers.now))) }
+    ensures len { vec_len buf.new
+        ≡ vec_len buf.old + (link_part_len link.now + ip_headers_len (Headers.headers headers.now)) }
     ensures capacity { vec_capacity buf.old ≤ vec_capacity buf.new }
-    ensures fits { FitParts (ip_headers_parts headers.now) }
+    ensures fits { FitParts (ip_headers_parts (Headers.headers headers.now)) }
 {
     link_fits(link);
-    ip_header_fits(headers);
     link.write_before(ether_type, buf);
-    headers.write(buf).unwrap();
+    headers.append(buf);
 }

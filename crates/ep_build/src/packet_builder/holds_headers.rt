@@ -7,6 +7,7 @@ ghost use Rattle.ep_build.specs.Steps.{ethernet2_link, linux_sll_link, vlan_link
 
 use super::PacketBuilderStep;
 use crate::facts::{icmpv4_fits, icmpv6_fits};
+use crate::ip_part::IpPart;
 use crate::link_part::LinkPart;
 use ep_link::{ArpPacket, Ethernet2Header, LinuxSllHeader, VlanHeader};
 use ep_packet::IpHeaders;
@@ -17,42 +18,63 @@ use ep_transport::{Icmpv4Header, Icmpv6Header, TcpHeader, TransportHeader, UdpHe
 pub trait HoldsHeaders: Drop {
     /// The headers before the last one.
     type Before: Drop;
+
+    /// The last header, as it was given.
+    type Held: Drop;
 }
 
 impl HoldsHeaders for Ethernet2Header {
     type Before = ();
+
+    type Held = Ethernet2Header;
 }
 
 impl HoldsHeaders for LinuxSllHeader {
     type Before = ();
+
+    type Held = LinuxSllHeader;
 }
 
 impl HoldsHeaders for VlanHeader {
     type Before = Ethernet2Header;
+
+    type Held = VlanHeader;
 }
 
 impl HoldsHeaders for ArpPacket {
     type Before = LinkPart;
+
+    type Held = ArpPacket;
 }
 
 impl HoldsHeaders for IpHeaders {
     type Before = LinkPart;
+
+    type Held = IpPart;
 }
 
 impl HoldsHeaders for UdpHeader {
-    type Before = (LinkPart, IpHeaders);
+    type Before = (LinkPart, IpPart);
+
+    type Held = UdpHeader;
 }
 
 impl HoldsHeaders for TcpHeader {
-    type Before = (LinkPart, IpHeaders);
+    type Before = (LinkPart, IpPart);
+
+    type Held = TcpHeader;
 }
 
 impl HoldsHeaders for Icmpv4Header {
-    type Before = (LinkPart, IpHeaders);
+    type Before = (LinkPart, IpPart);
+
+    type Held = Icmpv4Header;
 }
 
 impl HoldsHeaders for Icmpv6Header {
-    type Before = (LinkPart, IpHeaders);
+    type Before = (LinkPart, IpPart);
+
+    type Held = Icmpv6Header;
 }
 
 /// A header that a net layer may follow. No other crate can name this trait either.
@@ -61,7 +83,7 @@ pub trait CarriesNet: HoldsHeaders {
     ghost use Rattle.ep_build.specs.declared.packet_builder.PacketBuilderStep.{PacketBuilderStep};
 
     /// What stands in front of the net layer.
-    ghost link: { PacketBuilderStep Self Self.Before → LinkPart };
+    ghost link: { PacketBuilderStep Self Self.Before Self.Held → LinkPart };
 
     /// The link part of a step of this header.
     fn link_part(step: PacketBuilderStep<Self>) -> LinkPart
@@ -71,7 +93,7 @@ pub trait CarriesNet: HoldsHeaders {
 impl CarriesNet for Ethernet2Header {
     ghost link = { ethernet2_link };
 
-    #[inline]
+    #[inline(always)]
     fn link_part(step: PacketBuilderStep<Ethernet2Header>) -> LinkPart
         ensures { result ≡ ethernet2_link step }
     {
@@ -82,7 +104,7 @@ impl CarriesNet for Ethernet2Header {
 impl CarriesNet for LinuxSllHeader {
     ghost link = { linux_sll_link };
 
-    #[inline]
+    #[inline(always)]
     fn link_part(step: PacketBuilderStep<LinuxSllHeader>) -> LinkPart
         ensures { result ≡ linux_sll_link step }
     {
@@ -93,7 +115,7 @@ impl CarriesNet for LinuxSllHeader {
 impl CarriesNet for VlanHeader {
     ghost link = { vlan_link };
 
-    #[inline]
+    #[inline(always)]
     fn link_part(step: PacketBuilderStep<VlanHeader>) -> LinkPart
         ensures { result ≡ vlan_link step }
     {
@@ -122,14 +144,14 @@ pub trait IsTransport: HoldsHeaders {
 impl IsTransport for UdpHeader {
     ghost kind = { transport.Udp };
 
-    #[inline]
+    #[inline(always)]
     fn into_transport(self) -> TransportHeader
         ensures { result ≡ transport.Udp self }
     {
         TransportHeader::Udp(self)
     }
 
-    #[inline]
+    #[inline(always)]
     fn transport_len(&self) -> usize
         ensures value { result ≡ transport_header_len (transport.Udp self.now) }
         ensures bytes { length (transport_bytes (transport.Udp self.now))
@@ -143,14 +165,14 @@ impl IsTransport for UdpHeader {
 impl IsTransport for TcpHeader {
     ghost kind = { transport.Tcp };
 
-    #[inline]
+    #[inline(always)]
     fn into_transport(self) -> TransportHeader
         ensures { result ≡ transport.Tcp self }
     {
         TransportHeader::Tcp(self)
     }
 
-    #[inline]
+    #[inline(always)]
     fn transport_len(&self) -> usize
         ensures value { result ≡ transport_header_len (transport.Tcp self.now) }
         ensures bytes { length (transport_bytes (transport.Tcp self.now))
@@ -164,14 +186,14 @@ impl IsTransport for TcpHeader {
 impl IsTransport for Icmpv4Header {
     ghost kind = { transport.Icmpv4 };
 
-    #[inline]
+    #[inline(always)]
     fn into_transport(self) -> TransportHeader
         ensures { result ≡ transport.Icmpv4 self }
     {
         TransportHeader::Icmpv4(self)
     }
 
-    #[inline]
+    #[inline(always)]
     fn transport_len(&self) -> usize
         ensures value { result ≡ transport_header_len (transport.Icmpv4 self.now) }
         ensures bytes { length (transport_bytes (transport.Icmpv4 self.now))
@@ -186,14 +208,14 @@ impl IsTransport for Icmpv4Header {
 impl IsTransport for Icmpv6Header {
     ghost kind = { transport.Icmpv6 };
 
-    #[inline]
+    #[inline(always)]
     fn into_transport(self) -> TransportHeader
         ensures { result ≡ transport.Icmpv6 self }
     {
         TransportHeader::Icmpv6(self)
     }
 
-    #[inline]
+    #[inline(always)]
     fn transport_len(&self) -> usize
         ensures value { result ≡ transport_header_len (transport.Icmpv6 self.now) }
         ensures bytes { length (transport_bytes (transport.Icmpv6 self.now))

@@ -13,9 +13,10 @@ ghost use Rattle.ep_build.specs.Steps.{IpStepReadsBack, held_behind, ip_held, ip
 use super::PacketBuilderStep;
 use super::holds_headers::HoldsHeaders;
 use crate::err::BuildWriteError;
-use crate::facts::{ip_header_fits, link_fits};
+use crate::facts::link_fits;
+use crate::ip_part::IpPart;
 use crate::link_part::LinkPart;
-use crate::writing::write_ip;
+use crate::writing::write_ip_part;
 use ep_base::IpNumber;
 use ep_packet::IpHeaders;
 use ep_transport::{
@@ -24,7 +25,7 @@ use ep_transport::{
 
 impl PacketBuilderStep<IpHeaders> {
     /// An ICMP message (RFC 792) of this type.
-    #[inline]
+    #[inline(always)]
     pub fn icmpv4(self, icmp_type: Icmpv4Type) -> PacketBuilderStep<Icmpv4Header>
         ensures { transport_held transport.Icmpv4 result
             ≡ held_behind self (transport.Icmpv4 (record { icmp_type = icmp_type; checksum = 0 })) }
@@ -33,7 +34,7 @@ impl PacketBuilderStep<IpHeaders> {
     }
 
     /// An ICMP message (RFC 792) of this type and code, with these bytes 4 to 7 of its header.
-    #[inline]
+    #[inline(always)]
     pub fn icmpv4_raw(
         self,
         type_u8: u8,
@@ -53,7 +54,7 @@ impl PacketBuilderStep<IpHeaders> {
     }
 
     /// A request to send back the payload, with this identifier and number.
-    #[inline]
+    #[inline(always)]
     pub fn icmpv4_echo_request(self, id: u16, seq: u16) -> PacketBuilderStep<Icmpv4Header>
         ensures { transport_held transport.Icmpv4 result ≡ held_behind self (transport.Icmpv4 (record {
           icmp_type = v4.EchoRequest (record { id = id; seq = seq });
@@ -64,7 +65,7 @@ impl PacketBuilderStep<IpHeaders> {
     }
 
     /// The answer to such a request.
-    #[inline]
+    #[inline(always)]
     pub fn icmpv4_echo_reply(self, id: u16, seq: u16) -> PacketBuilderStep<Icmpv4Header>
         ensures { transport_held transport.Icmpv4 result ≡ held_behind self (transport.Icmpv4 (record {
           icmp_type = v4.EchoReply (record { id = id; seq = seq });
@@ -75,7 +76,7 @@ impl PacketBuilderStep<IpHeaders> {
     }
 
     /// An ICMPv6 message (RFC 4443) of this type.
-    #[inline]
+    #[inline(always)]
     pub fn icmpv6(self, icmp_type: Icmpv6Type) -> PacketBuilderStep<Icmpv6Header>
         ensures { transport_held transport.Icmpv6 result
             ≡ held_behind self (transport.Icmpv6 (record { icmp_type = icmp_type; checksum = 0 })) }
@@ -84,7 +85,7 @@ impl PacketBuilderStep<IpHeaders> {
     }
 
     /// An ICMPv6 message (RFC 4443) of this type and code, with these bytes 4 to 7 of its header.
-    #[inline]
+    #[inline(always)]
     pub fn icmpv6_raw(
         self,
         type_u8: u8,
@@ -104,7 +105,7 @@ impl PacketBuilderStep<IpHeaders> {
     }
 
     /// A request to send back the payload, with this identifier and number.
-    #[inline]
+    #[inline(always)]
     pub fn icmpv6_echo_request(self, id: u16, seq: u16) -> PacketBuilderStep<Icmpv6Header>
         ensures { transport_held transport.Icmpv6 result ≡ held_behind self (transport.Icmpv6 (record {
           icmp_type = v6.EchoRequest (record { id = id; seq = seq });
@@ -115,7 +116,7 @@ impl PacketBuilderStep<IpHeaders> {
     }
 
     /// The answer to such a request.
-    #[inline]
+    #[inline(always)]
     pub fn icmpv6_echo_reply(self, id: u16, seq: u16) -> PacketBuilderStep<Icmpv6Header>
         ensures { transport_held transport.Icmpv6 result ≡ held_behind self (transport.Icmpv6 (record {
           icmp_type = v6.EchoReply (record { id = id; seq = seq });
@@ -126,7 +127,7 @@ impl PacketBuilderStep<IpHeaders> {
     }
 
     /// A UDP header (RFC 768) of these ports.
-    #[inline]
+    #[inline(always)]
     pub fn udp(self, source_port: u16, destination_port: u16) -> PacketBuilderStep<UdpHeader>
         ensures { transport_held transport.Udp result ≡ held_behind self (transport.Udp (record {
           source_port = source_port;
@@ -144,7 +145,7 @@ impl PacketBuilderStep<IpHeaders> {
     }
 
     /// A TCP header (RFC 9293, 3.1) of these ports, this sequence number and this window, without flags and options.
-    #[inline]
+    #[inline(always)]
     pub fn tcp(
         self,
         source_port: u16,
@@ -163,7 +164,7 @@ impl PacketBuilderStep<IpHeaders> {
     }
 
     /// This TCP header (RFC 9293, 3.1).
-    #[inline]
+    #[inline(always)]
     pub fn tcp_header(self, tcp_header: TcpHeader) -> PacketBuilderStep<TcpHeader>
         ensures { transport_held transport.Tcp result ≡ held_behind self (transport.Tcp tcp_header) }
     {
@@ -175,8 +176,9 @@ impl PacketBuilderStep<IpHeaders> {
     /// is no memory, which comes only where the buffer would have to grow. Where the headers say that the payload is a
     /// fragment (RFC 791, 3.2; RFC 8200, 4.5), and the number is none of an extension header, the frame is read back as
     /// that fragment, behind a cooked header where its packet type is a known one.
+    #[inline(always)]
     pub fn write(
-        mut self,
+        self,
         buf: &mut Vec<u8>,
         last_next_header_ip_number: IpNumber,
         payload: &[u8],
@@ -192,9 +194,9 @@ impl PacketBuilderStep<IpHeaders> {
             < vec_len buf.old + built_size (ip_held self last_next_header_ip_number) (length payload.now) }
         ensures capacity { vec_capacity buf.old ≤ vec_capacity buf.new }
     {
-        write_ip(
-            &self.before,
-            &mut self.last,
+        write_ip_part(
+            self.before,
+            self.last,
             last_next_header_ip_number,
             payload,
             buf,
@@ -202,7 +204,7 @@ impl PacketBuilderStep<IpHeaders> {
     }
 
     /// The number of bytes of the frame with a payload of this many bytes. Their sum must be a `usize`.
-    #[inline]
+    #[inline(always)]
     pub fn size(&self, payload_size: usize) -> usize
         requires { ip_step_size self.now payload_size < 2 ^ 64 }
         ensures value { result ≡ ip_step_size self.now payload_size }
@@ -210,13 +212,12 @@ impl PacketBuilderStep<IpHeaders> {
             → length (built_frame (ip_held self.now last) payload) ≡ result }
     {
         link_fits(&self.before);
-        ip_header_fits(&self.last);
         self.before.header_len() + self.last.header_len() + payload_size
     }
 
     /// The step of a transport header behind these.
-    #[inline]
-    fn followed_by<H: HoldsHeaders<Before = (LinkPart, IpHeaders)>>(
+    #[inline(always)]
+    fn followed_by<H: HoldsHeaders<Before = (LinkPart, IpPart), Held = H>>(
         self,
         header: H,
     ) -> PacketBuilderStep<H>

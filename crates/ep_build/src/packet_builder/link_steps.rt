@@ -8,6 +8,7 @@ ghost use Rattle.ep_build.specs.Steps.{ipv4_headers_between, ipv6_headers_betwee
 
 use super::holds_headers::CarriesNet;
 use super::{PacketBuilderStep, ip_behind, ipv4_between, ipv6_between};
+use crate::ip_part::IpPart;
 use crate::link_part::LinkPart;
 use ep_base::{EtherType, VlanId, VlanPcp};
 use ep_link::{ArpPacket, DoubleVlanHeader, Ethernet2Header, SingleVlanHeader, VlanHeader};
@@ -15,7 +16,7 @@ use ep_packet::IpHeaders;
 
 impl<Link: CarriesNet> PacketBuilderStep<Link> {
     /// An IPv4 header (RFC 791, 3.1) of these addresses and this number of hops, and else the default's fields.
-    #[inline]
+    #[inline(always)]
     pub fn ipv4(
         self,
         source: [u8; 4],
@@ -25,12 +26,15 @@ impl<Link: CarriesNet> PacketBuilderStep<Link> {
         ensures link { ip_link result ≡ Link.link self }
         ensures headers { ip_step_headers result ≡ ipv4_headers_between source destination time_to_live }
     {
-        self.ip(ipv4_between(source, destination, time_to_live))
+        ip_behind(
+            Link::link_part(self),
+            ipv4_between(source, destination, time_to_live),
+        )
     }
 
     /// An IPv6 header (RFC 8200, 3) of these addresses and this number of hops, with the traffic class and the flow
     /// label 0.
-    #[inline]
+    #[inline(always)]
     pub fn ipv6(
         self,
         source: [u8; 16],
@@ -40,20 +44,23 @@ impl<Link: CarriesNet> PacketBuilderStep<Link> {
         ensures link { ip_link result ≡ Link.link self }
         ensures headers { ip_step_headers result ≡ ipv6_headers_between source destination hop_limit }
     {
-        self.ip(ipv6_between(source, destination, hop_limit))
+        ip_behind(
+            Link::link_part(self),
+            ipv6_between(source, destination, hop_limit),
+        )
     }
 
     /// These IP headers.
-    #[inline]
+    #[inline(always)]
     pub fn ip(self, ip_headers: IpHeaders) -> PacketBuilderStep<IpHeaders>
         ensures link { ip_link result ≡ Link.link self }
         ensures headers { ip_step_headers result ≡ ip_headers }
     {
-        ip_behind(Link::link_part(self), ip_headers)
+        ip_behind(Link::link_part(self), IpPart::Any(ip_headers))
     }
 
     /// This ARP packet (RFC 826), which ends the frame.
-    #[inline]
+    #[inline(always)]
     pub fn arp(self, packet: ArpPacket) -> PacketBuilderStep<ArpPacket>
         ensures { arp_held result ≡ held_arp (Link.link self) (arp_of packet) }
     {
@@ -66,7 +73,7 @@ impl<Link: CarriesNet> PacketBuilderStep<Link> {
 
 impl PacketBuilderStep<Ethernet2Header> {
     /// These VLAN tags (IEEE 802.1Q, 9.6), one or two.
-    #[inline]
+    #[inline(always)]
     pub fn vlan(self, vlan: VlanHeader) -> PacketBuilderStep<VlanHeader>
         ensures { vlan_link result ≡ LinkPart.Tagged self.last vlan }
     {
@@ -77,7 +84,7 @@ impl PacketBuilderStep<Ethernet2Header> {
     }
 
     /// One VLAN tag of this identifier, of priority 0 and not to be dropped first.
-    #[inline]
+    #[inline(always)]
     pub fn single_vlan(self, vlan_identifier: VlanId) -> PacketBuilderStep<VlanHeader>
         ensures { vlan_link result ≡ LinkPart.Tagged self.last (VlanHeader.Single (tag_of vlan_identifier)) }
     {
@@ -85,7 +92,7 @@ impl PacketBuilderStep<Ethernet2Header> {
     }
 
     /// Two VLAN tags of these identifiers, of priority 0 and not to be dropped first.
-    #[inline]
+    #[inline(always)]
     pub fn double_vlan(
         self,
         outer_vlan_identifier: VlanId,
@@ -104,7 +111,7 @@ impl PacketBuilderStep<Ethernet2Header> {
 }
 
 /// A VLAN tag of this identifier, whose other fields are 0.
-#[inline]
+#[inline(always)]
 fn tag_of(identifier: VlanId) -> SingleVlanHeader
     ensures { result ≡ tag_of identifier }
 {

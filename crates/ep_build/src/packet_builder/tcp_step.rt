@@ -10,7 +10,7 @@ use ep_transport::{TcpHeader, TcpOptionElement, TcpOptionWriteError};
 
 impl PacketBuilderStep<TcpHeader> {
     /// The nonce sum of congestion notification (RFC 3540) is set.
-    #[inline]
+    #[inline(always)]
     pub fn ns(mut self) -> PacketBuilderStep<TcpHeader>
         ensures { result ≡ with_header self (record (transport_header self) { ns = true }) }
     {
@@ -19,7 +19,7 @@ impl PacketBuilderStep<TcpHeader> {
     }
 
     /// The sender has no more data.
-    #[inline]
+    #[inline(always)]
     pub fn fin(mut self) -> PacketBuilderStep<TcpHeader>
         ensures { result ≡ with_header self (record (transport_header self) { fin = true }) }
     {
@@ -28,7 +28,7 @@ impl PacketBuilderStep<TcpHeader> {
     }
 
     /// The sequence numbers are to be agreed on.
-    #[inline]
+    #[inline(always)]
     pub fn syn(mut self) -> PacketBuilderStep<TcpHeader>
         ensures { result ≡ with_header self (record (transport_header self) { syn = true }) }
     {
@@ -37,7 +37,7 @@ impl PacketBuilderStep<TcpHeader> {
     }
 
     /// The connection is reset.
-    #[inline]
+    #[inline(always)]
     pub fn rst(mut self) -> PacketBuilderStep<TcpHeader>
         ensures { result ≡ with_header self (record (transport_header self) { rst = true }) }
     {
@@ -46,7 +46,7 @@ impl PacketBuilderStep<TcpHeader> {
     }
 
     /// What was received is to be handed on.
-    #[inline]
+    #[inline(always)]
     pub fn psh(mut self) -> PacketBuilderStep<TcpHeader>
         ensures { result ≡ with_header self (record (transport_header self) { psh = true }) }
     {
@@ -55,7 +55,7 @@ impl PacketBuilderStep<TcpHeader> {
     }
 
     /// The next place in the receiver's stream that is waited for is this one.
-    #[inline]
+    #[inline(always)]
     pub fn ack(mut self, acknowledgment_number: u32) -> PacketBuilderStep<TcpHeader>
         ensures { result ≡ with_header self (record (transport_header self) {
           ack = true;
@@ -68,7 +68,7 @@ impl PacketBuilderStep<TcpHeader> {
     }
 
     /// The urgent data end here, counted from the sequence number.
-    #[inline]
+    #[inline(always)]
     pub fn urg(mut self, urgent_pointer: u16) -> PacketBuilderStep<TcpHeader>
         ensures { result ≡ with_header self (record (transport_header self) {
           urg = true;
@@ -81,7 +81,7 @@ impl PacketBuilderStep<TcpHeader> {
     }
 
     /// Congestion was seen (RFC 3168).
-    #[inline]
+    #[inline(always)]
     pub fn ece(mut self) -> PacketBuilderStep<TcpHeader>
         ensures { result ≡ with_header self (record (transport_header self) { ece = true }) }
     {
@@ -90,7 +90,7 @@ impl PacketBuilderStep<TcpHeader> {
     }
 
     /// The sender has reduced its window (RFC 3168).
-    #[inline]
+    #[inline(always)]
     pub fn cwr(mut self) -> PacketBuilderStep<TcpHeader>
         ensures { result ≡ with_header self (record (transport_header self) { cwr = true }) }
     {
@@ -99,7 +99,7 @@ impl PacketBuilderStep<TcpHeader> {
     }
 
     /// These options, whose bytes are at most 40, filled up by zero bytes to words of 4. A refusal drops the step.
-    #[inline]
+    #[inline(always)]
     pub fn options(
         mut self,
         options: &[TcpOptionElement],
@@ -117,7 +117,7 @@ impl PacketBuilderStep<TcpHeader> {
     }
 
     /// Options of these bytes, at most 40, filled up by zero bytes to words of 4. A refusal drops the step.
-    #[inline]
+    #[inline(always)]
     pub fn options_raw(
         mut self,
         options: &[u8],

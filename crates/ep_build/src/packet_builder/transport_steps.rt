@@ -8,20 +8,21 @@ ghost use Rattle.ep_build.specs.Steps.{StepReadsBack, transport_held};
 use super::PacketBuilderStep;
 use super::holds_headers::{HoldsHeaders, IsTransport};
 use crate::err::BuildWriteError;
-use crate::facts::{ip_header_fits, link_fits};
+use crate::facts::link_fits;
+use crate::ip_part::IpPart;
 use crate::link_part::LinkPart;
-use crate::writing::write_transport;
-use ep_packet::IpHeaders;
+use crate::writing::write_behind;
 
-impl<Transport: HoldsHeaders<Before = (LinkPart, IpHeaders)> + IsTransport> PacketBuilderStep<
-    Transport,
-> {
+impl<
+    Transport: HoldsHeaders<Before = (LinkPart, IpPart), Held = Transport> + IsTransport,
+> PacketBuilderStep<Transport> {
     /// Appends the frame of the headers and this payload. A refusal leaves the buffer as it was: headers and payload
     /// are longer than the length field of IP can count, the transport header is of ICMPv6 behind IPv4, or there is no
     /// memory, which comes only where the buffer would have to grow. The frame is read back with this transport header
     /// and payload where the packet is no fragment, an ICMPv4 message has the length of its type, and a cooked header
     /// a known packet type.
-    pub fn write(mut self, buf: &mut Vec<u8>, payload: &[u8]) -> Result<(), BuildWriteError>
+    #[inline(always)]
+    pub fn write(self, buf: &mut Vec<u8>, payload: &[u8]) -> Result<(), BuildWriteError>
         ensures ok { let held = transport_held Transport.kind self in
             OnOk result (IsBuildable held (length payload.now)
             × (buf.new.items ≡ buf.old.items ++ built_frame held payload.now)) }
@@ -33,13 +34,13 @@ impl<Transport: HoldsHeaders<Before = (LinkPart, IpHeaders)> + IsTransport> Pack
             < vec_len buf.old + built_size (transport_held Transport.kind self) (length payload.now) }
         ensures capacity { vec_capacity buf.old ≤ vec_capacity buf.new }
     {
-        let mut transport = self.last.into_transport();
-        let (link, headers) = &mut self.before;
-        write_transport(link, headers, &mut transport, payload, buf)
+        let transport = self.last.into_transport();
+        let (link, ip) = self.before;
+        write_behind(link, ip, transport, payload, buf)
     }
 
     /// The number of bytes of the frame with a payload of this many bytes. Their sum must be a `usize`.
-    #[inline]
+    #[inline(always)]
     pub fn size(&self, payload_size: usize) -> usize
         requires { built_size (transport_held Transport.kind self.now) payload_size < 2 ^ 64 }
         ensures value { result ≡ built_size (transport_held Transport.kind self.now) payload_size }
@@ -47,7 +48,6 @@ impl<Transport: HoldsHeaders<Before = (LinkPart, IpHeaders)> + IsTransport> Pack
             → length (built_frame (transport_held Transport.kind self.now) payload) ≡ result }
     {
         link_fits(&self.before.0);
-        ip_header_fits(&self.before.1);
         self.before.0.header_len()
             + self.before.1.header_len()
             + self.last.transport_len()

@@ -1,6 +1,6 @@
 use Rattle.std.proofs.Common.{◌≡◌, ◌+◌, ap, ◌∙◌, arith}
 use Rattle.ep_build.specs.BuiltFrames.{built_size}
-use Rattle.ep_build.specs.Steps.{transport_held}
+use Rattle.ep_build.specs.Steps.{part_headers, transport_held}
 use Rattle.ep_build.proofs.SizeLemmas.{transport_size}
 use Rattle.ep_build.proofs.packet_builder.PacketBuilderStep.size.Goals as goal
 
@@ -9,8 +9,8 @@ returns-clause-frame g c = λ payload same.
     let step = c.args.self.now in
     let kind = g.Transport.IsTransport.kind in
     let held = transport_held kind step in
-    let whole = transport_size step.before.0 step.before.1 (kind step.last) payload c.link_fits.ensures
-    c.ip_header_fits.ensures c.transport_len.ensures.bytes in
+    let whole = transport_size step.before.0 (part_headers step.before.1) (kind step.last) payload
+    c.link_fits.ensures c.header_len-2.ensures.fits c.transport_len.ensures.bytes in
     let sized : built_size held c.args.payload_size
     ≡ c.header_len.result + c.header_len-2.result + c.transport_len.result + c.args.payload_size = omega arith in
     whole ∙ ap (built_size held) same ∙ sized

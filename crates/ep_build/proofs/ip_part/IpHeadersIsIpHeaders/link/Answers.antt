@@ -4,11 +4,11 @@ use Rattle.ep_packet.specs.IpHeaders.{ip_extensions_len, linked_headers, most_be
 use Rattle.ep_packet.specs.IpHeaders.{with_payload_len}
 use Rattle.ep_packet.specs.declared.ip_headers.IpHeaders.{IpHeaders}
 use Rattle.ep_build.proofs.WritingLemmas.{counted, rows_linked}
-use Rattle.ep_build.proofs.writing.link_headers.Goals as goal
+use Rattle.ep_build.proofs.ip_part.IpHeadersIsIpHeaders.link.Goals as goal
 
 pub returns-in-Ok : goal.returns-in-Ok
 returns-in-Ok c =
-    let old = c.args.headers.now in
+    let old = c.args.self.now in
     let last = c.args.last in
     let linked = c.set_next_headers-ether_type.ensures.linked in
     let there = subst (λ (h : IpHeaders). (c.args.len + ip_extensions_len h ≤ most_behind_header h)
@@ -20,7 +20,7 @@ returns-in-Ok c =
 
 pub returns-in-Err : goal.returns-in-Err
 returns-in-Err c =
-    let old = c.args.headers.now in
+    let old = c.args.self.now in
     let last = c.args.last in
     let linked = c.set_next_headers-ether_type.ensures.linked in
     sym (ap first_row (rows_linked old last c.args.len))

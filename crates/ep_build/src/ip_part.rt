@@ -1,0 +1,201 @@
+//! The IP headers of a step, as they were given: a header alone has not the room that extension headers take.
+
+ghost use Rattle.std.specs.Prelude.{◌≡◌, ◌+◌, ◌≤◌, ◌++◌, ℕ, length, None, MatchResult, true, false, vec_len, vec_capacity};
+ghost use Rattle.ep_base.specs.Tables.{Refuses, first_row};
+ghost use Rattle.ep_ext.specs.Chains.{FitParts};
+ghost use Rattle.ep_packet.specs.IpHeaders.{FitsIpHeader, LeadThrough, headers_for, ip_headers_len, ip_headers_parts};
+ghost use Rattle.ep_packet.specs.IpHeaders.{ip_headers_type, payload_len_rows, written_headers};
+ghost use Rattle.ep_packet.specs.declared.ip_headers.IpHeaders.{IpHeaders};
+ghost use Rattle.ep_transport.specs.TransportHeaders.{transport_header_len};
+ghost use Rattle.ep_build.specs.BuildErrors.{is_icmpv6_in_ipv4};
+ghost use Rattle.ep_build.specs.BuiltFrames.{with_checksum_behind};
+ghost use Rattle.ep_build.specs.Steps.{part_headers, plain_ipv4, plain_ipv6};
+
+use crate::err::BuildWriteError;
+use crate::facts::{ip_header_fits, ipv4_fits, ipv6_fits};
+use ep_base::err::ValueTooBigError;
+use ep_base::{EtherType, IpNumber};
+use ep_ip::{Ipv4Header, Ipv6Header};
+use ep_packet::IpHeaders;
+use ep_transport::{TransportChecksumError, TransportHeader};
+
+/// The IP headers of a step.
+#[derive(Drop)]
+pub enum IpPart {
+    /// A header of IPv4, and no extension header.
+    Plain4(Ipv4Header),
+    /// A header of IPv6, and no extension header.
+    Plain6(Ipv6Header),
+    /// Any headers.
+    Any(IpHeaders),
+}
+
+impl IpPart {
+    /// The number of bytes of the headers: at most 9268.
+    #[inline(always)]
+    pub(crate) fn header_len(&self) -> usize
+        ensures value { result ≡ ip_headers_len (part_headers self.now) }
+        ensures bound { result ≤ 9268 }
+        ensures fits { FitsIpHeader (part_headers self.now) }
+    {
+        match self {
+            IpPart::Plain4(header) => header.headers_len(),
+            IpPart::Plain6(header) => header.headers_len(),
+            IpPart::Any(headers) => headers.headers_len(),
+        }
+    }
+}
+
+/// IP headers from which a frame is written.
+pub(crate) trait IsIpHeaders {
+    /// All headers that these are.
+    ghost headers: { Self → IpHeaders };
+
+    /// Lets the headers lead to this number and count this many bytes behind them, and gives the ether type under which
+    /// a link layer carries them.
+    fn link(&mut self, last: IpNumber, len: usize) -> Result<EtherType, ValueTooBigError<usize>>
+        ensures { MatchResult result
+            (λ ether_type. (first_row (payload_len_rows (headers self.old) len) ≡ None)
+            × (headers self.new ≡ headers_for (headers self.old) last len)
+            × (ether_type.0 ≡ ip_headers_type (headers self.old)))
+            (λ error. Refuses (payload_len_rows (headers self.old) len) error) };
+
+    /// Sets the checksum of a transport header between these headers and this payload.
+    fn set_checksum(
+        &self,
+        transport: &mut TransportHeader,
+        payload: &[u8],
+    ) -> Result<(), BuildWriteError>
+        requires { transport_header_len transport.old + length payload.now ≤ 65535 }
+        ensures { MatchResult result
+            (λ _. (is_icmpv6_in_ipv4 (headers self.now) transport.old ≡ false)
+            × (transport.new ≡ with_checksum_behind (headers self.now) payload.now transport.old))
+            (λ error. (is_icmpv6_in_ipv4 (headers self.now) transport.old ≡ true)
+            × (error ≡ BuildWriteError.Icmpv6InIpv4)) };
+
+    /// The number of bytes of the headers: at most 9268.
+    fn headers_len(&self) -> usize
+        ensures value { result ≡ ip_headers_len (headers self.now) }
+        ensures bound { result ≤ 9268 }
+        ensures fits { FitsIpHeader (headers self.now) };
+
+    /// Appends headers that lead through all of them, for which there is room.
+    fn append(&self, buf: &mut Vec<u8>)
+        requires leads { (last : ℕ) × LeadThrough (headers self.now) (ip_headers_parts (headers self.now)) last }
+        requires room { vec_len buf.old + ip_headers_len (headers self.now) ≤ vec_capacity buf.old }
+        ensures items { buf.new.items
+            ≡ buf.old.items ++ written_headers (headers self.now) (ip_headers_parts (headers self.now)) }
+        ensures capacity { vec_capacity buf.old ≤ vec_capacity buf.new }
+        ensures fits { FitParts (ip_headers_parts (headers self.now)) };
+}
+
+impl IsIpHeaders for Ipv4Header {
+    ghost headers = { plain_ipv4 };
+
+    #[inline]
+    fn link(&mut self, last: IpNumber, len: usize) -> Result<EtherType, ValueTooBigError<usize>> {
+        let _header_len = self.header_len();
+        self.protocol = last;
+        match self.set_payload_len(len) {
+            Ok(()) => Ok(EtherType::IPV4),
+            Err(error) => Err(error),
+        }
+    }
+
+    #[inline]
+    fn set_checksum(
+        &self,
+        transport: &mut TransportHeader,
+        payload: &[u8],
+    ) -> Result<(), BuildWriteError> {
+        match transport.update_checksum_ipv4(self, payload) {
+            Ok(()) => Ok(()),
+            Err(TransportChecksumError::PayloadLen(error)) => {
+                Err(BuildWriteError::PayloadLen(error))
+            }
+            Err(TransportChecksumError::Icmpv6InIpv4) => Err(BuildWriteError::Icmpv6InIpv4),
+        }
+    }
+
+    #[inline]
+    fn headers_len(&self) -> usize {
+        ipv4_fits(self);
+        self.header_len()
+    }
+
+    #[inline]
+    fn append(&self, buf: &mut Vec<u8>) {
+        self.write(buf).unwrap();
+    }
+}
+
+impl IsIpHeaders for Ipv6Header {
+    ghost headers = { plain_ipv6 };
+
+    #[inline]
+    fn link(&mut self, last: IpNumber, len: usize) -> Result<EtherType, ValueTooBigError<usize>> {
+        self.next_header = last;
+        match self.set_payload_length(len) {
+            Ok(()) => Ok(EtherType::IPV6),
+            Err(error) => Err(error),
+        }
+    }
+
+    #[inline]
+    fn set_checksum(
+        &self,
+        transport: &mut TransportHeader,
+        payload: &[u8],
+    ) -> Result<(), BuildWriteError> {
+        match transport.update_checksum_ipv6(self, payload) {
+            Ok(()) => Ok(()),
+            Err(error) => Err(BuildWriteError::PayloadLen(error)),
+        }
+    }
+
+    #[inline]
+    fn headers_len(&self) -> usize {
+        ipv6_fits(self);
+        self.header_len()
+    }
+
+    #[inline]
+    fn append(&self, buf: &mut Vec<u8>) {
+        self.write(buf).unwrap();
+    }
+}
+
+impl IsIpHeaders for IpHeaders {
+    ghost headers = { λ headers. headers };
+
+    fn link(&mut self, last: IpNumber, len: usize) -> Result<EtherType, ValueTooBigError<usize>> {
+        let ether_type = self.set_next_headers(last);
+        match self.set_payload_len(len) {
+            Ok(()) => Ok(ether_type),
+            Err(error) => Err(error),
+        }
+    }
+
+    #[inline]
+    fn set_checksum(
+        &self,
+        transport: &mut TransportHeader,
+        payload: &[u8],
+    ) -> Result<(), BuildWriteError> {
+        match self {
+            IpHeaders::Ipv4(header, _) => header.set_checksum(transport, payload),
+            IpHeaders::Ipv6(header, _) => header.set_checksum(transport, payload),
+        }
+    }
+
+    #[inline]
+    fn headers_len(&self) -> usize {
+        ip_header_fits(self);
+        self.header_len()
+    }
+
+    fn append(&self, buf: &mut Vec<u8>) {
+        ip_header_fits(self);
+        self.write(buf).unwrap();
+    }
+}
