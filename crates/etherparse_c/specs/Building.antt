@@ -97,9 +97,13 @@ icmpv6_echo is_reply id seq =
     if is_reply == 0 then v6.EchoRequest (record { id = id; seq = seq })
     else v6.EchoReply (record { id = id; seq = seq })
 
--- the echo message of the route's version of IP
-abbrev pub echo_of : Route → ℕ → ℕ → ℕ → TransportHeader
-echo_of route is_reply id seq =
-    if route.version == 4
+-- an echo message of ICMP, or else of ICMPv6
+abbrev pub echo_header : Bool → ℕ → ℕ → ℕ → TransportHeader
+echo_header is_ipv4 is_reply id seq =
+    if is_ipv4
     then transport.Icmpv4 (record { icmp_type = icmpv4_echo is_reply id seq; checksum = 0 })
     else transport.Icmpv6 (record { icmp_type = icmpv6_echo is_reply id seq; checksum = 0 })
+
+-- the echo message of the route's version of IP
+abbrev pub echo_of : Route → ℕ → ℕ → ℕ → TransportHeader
+echo_of route is_reply id seq = echo_header (route.version == 4) is_reply id seq

@@ -1,10 +1,13 @@
 //! Building a frame into the caller's buffer.
 
-ghost use Rattle.std.specs.Prelude.{◌≡◌, ◌<◌, ◌≤◌, ◌++◌, ◌⊎◌, Option, None, Some, MatchOption, MatchResult, length};
+ghost use Rattle.std.specs.Prelude.{◌≡◌, ◌<◌, ◌≤◌, ◌++◌, ◌⊎◌, MatchResult, length};
+ghost use Rattle.etherparse.specs.BuildErrors.{IsBuildable, IsBuildError};
+ghost use Rattle.etherparse.specs.BuiltFrames.{built_frame};
+ghost use Rattle.etherparse.specs.Steps.{held_behind};
+ghost use Rattle.etherparse.specs.Types.TransportHeader.{TransportHeader};
 ghost use Rattle.etherparse.specs.Types.TransportHeader.TheVariants as transport;
-ghost use Rattle.etherparse.specs.Steps.{ip_link, ip_step_headers};
-ghost use Rattle.etherparse_c.specs.Building.{IsBuildAnswer, echo_of, icmpv4_echo, icmpv6_echo, route_headers};
-ghost use Rattle.etherparse_c.specs.Building.{route_link, tcp_of, udp_between};
+ghost use Rattle.etherparse_c.specs.Building.{IsBuildAnswer, IsBuilt, echo_header, echo_of, icmpv4_echo, icmpv6_echo};
+ghost use Rattle.etherparse_c.specs.Building.{tcp_of, udp_between};
 ghost use Rattle.etherparse_c.specs.Placing.{IsPlaced};
 
 use crate::numbers;
@@ -33,15 +36,11 @@ pub extern "C" fn etherparse_build_udp(
     ensures { IsBuildAnswer route.now (udp_between source_port destination_port) payload.now
         buffer.old buffer.new written.new result }
 {
-    let Some(step) = ip_step(route) else {
-        *written = 0;
-        return numbers::UNKNOWN_CHOICE;
+    let ports = UdpPorts {
+        source_port,
+        destination_port,
     };
-    let mut frame = Vec::new(alloc);
-    let built = step
-        .udp(source_port, destination_port)
-        .write(&mut frame, payload);
-    copied(built, frame.as_slice(), buffer, written)
+    build(alloc, route, ports, payload, buffer, written)
 }
 
 /// The same of a TCP segment.
@@ -57,15 +56,7 @@ pub extern "C" fn etherparse_build_tcp(
     ensures { IsBuildAnswer route.now (tcp_of fields.now) payload.now
         buffer.old buffer.new written.new result }
 {
-    let Some(step) = ip_step(route) else {
-        *written = 0;
-        return numbers::UNKNOWN_CHOICE;
-    };
-    let mut frame = Vec::new(alloc);
-    let built = step
-        .tcp_header(tcp_header(fields))
-        .write(&mut frame, payload);
-    copied(built, frame.as_slice(), buffer, written)
+    build(alloc, route, tcp_header(fields), payload, buffer, written)
 }
 
 /// The same of an echo request (`is_reply` is 0) or an echo reply of the route's version of ICMP.
@@ -83,52 +74,152 @@ pub extern "C" fn etherparse_build_icmp_echo(
     ensures { IsBuildAnswer route.now (echo_of route.now is_reply id seq) payload.now
         buffer.old buffer.new written.new result }
 {
-    let Some(step) = ip_step(route) else {
-        *written = 0;
-        return numbers::UNKNOWN_CHOICE;
+    let echo = Echo {
+        is_ipv4: route.version == 4,
+        is_reply,
+        id,
+        seq,
     };
-    let mut frame = Vec::new(alloc);
-    let built = if route.version == 4 {
-        step.icmpv4(icmpv4_echo(is_reply, id, seq))
-            .write(&mut frame, payload)
-    } else {
-        step.icmpv6(icmpv6_echo(is_reply, id, seq))
-            .write(&mut frame, payload)
-    };
-    copied(built, frame.as_slice(), buffer, written)
+    build(alloc, route, echo, payload, buffer, written)
 }
 
-/// The headers of a route.
-fn ip_step(route: &Route) -> Option<PacketBuilderStep<IpHeaders>>
-    ensures { MatchOption result (route_headers route.now ≡ None)
-        (λ step. (ip_link step ≡ route_link route.now) × (Some (ip_step_headers step) ≡ route_headers route.now)) }
+/// What a frame has behind its IP headers, besides the payload.
+trait IsBehind: Drop {
+    /// The transport header that it is.
+    ghost header: { Self → TransportHeader };
+
+    /// Appends the frame of these IP headers, the transport header and the payload.
+    fn write(
+        self,
+        step: PacketBuilderStep<IpHeaders>,
+        frame: &mut Vec<u8>,
+        payload: &[u8],
+    ) -> Result<(), BuildWriteError>
+        ensures { MatchResult result
+            (λ _. IsBuildable (held_behind step (header self)) (length payload.now)
+            × (frame.new.items ≡ frame.old.items ++ built_frame (held_behind step (header self)) payload.now))
+            (IsBuildError (held_behind step (header self)) (length payload.now)) };
+}
+
+/// The ports of a UDP datagram.
+#[derive(Clone, Copy)]
+struct UdpPorts {
+    source_port: u16,
+    destination_port: u16,
+}
+
+/// An echo message of ICMP, or else of ICMPv6.
+#[derive(Clone, Copy)]
+struct Echo {
+    is_ipv4: bool,
+    is_reply: u8,
+    id: u16,
+    seq: u16,
+}
+
+impl IsBehind for UdpPorts {
+    ghost header = { λ ports. udp_between ports.source_port ports.destination_port };
+
+    #[inline(always)]
+    fn write(
+        self,
+        step: PacketBuilderStep<IpHeaders>,
+        frame: &mut Vec<u8>,
+        payload: &[u8],
+    ) -> Result<(), BuildWriteError> {
+        step.udp(self.source_port, self.destination_port)
+            .write(frame, payload)
+    }
+}
+
+impl IsBehind for TcpHeader {
+    ghost header = { transport.Tcp };
+
+    #[inline(always)]
+    fn write(
+        self,
+        step: PacketBuilderStep<IpHeaders>,
+        frame: &mut Vec<u8>,
+        payload: &[u8],
+    ) -> Result<(), BuildWriteError> {
+        step.tcp_header(self).write(frame, payload)
+    }
+}
+
+impl IsBehind for Echo {
+    ghost header = { λ echo. echo_header echo.is_ipv4 echo.is_reply echo.id echo.seq };
+
+    #[inline(always)]
+    fn write(
+        self,
+        step: PacketBuilderStep<IpHeaders>,
+        frame: &mut Vec<u8>,
+        payload: &[u8],
+    ) -> Result<(), BuildWriteError> {
+        if self.is_ipv4 {
+            step.icmpv4(icmpv4_echo(self.is_reply, self.id, self.seq))
+                .write(frame, payload)
+        } else {
+            step.icmpv6(icmpv6_echo(self.is_reply, self.id, self.seq))
+                .write(frame, payload)
+        }
+    }
+}
+
+/// Builds the frame of a route and what stands behind its IP headers, and copies it to the front of the buffer. Each
+/// arm is one chain of the builder, which is inlined: so no step is moved.
+#[inline(always)]
+fn build<Behind: IsBehind>(
+    alloc: Global,
+    route: &Route,
+    behind: Behind,
+    payload: &[u8],
+    buffer: &mut [u8],
+    written: &mut usize,
+) -> u32
+    ensures { IsBuildAnswer route.now (Behind.header behind) payload.now
+        buffer.old buffer.new written.new result }
 {
     let route = *route;
+    let (source, destination) = (route.ethernet_source, route.ethernet_destination);
     if route.version == 4 {
-        let step = if route.with_ethernet == 0 {
-            PacketBuilder::ipv4(route.ipv4_source, route.ipv4_destination, route.hop_limit)
-        } else {
-            PacketBuilder::ethernet2(route.ethernet_source, route.ethernet_destination).ipv4(
-                route.ipv4_source,
-                route.ipv4_destination,
-                route.hop_limit,
-            )
-        };
-        return Some(step);
+        let (from, to) = (route.ipv4_source, route.ipv4_destination);
+        if route.with_ethernet == 0 {
+            let step = PacketBuilder::ipv4(from, to, route.hop_limit);
+            return write_behind(alloc, step, behind, payload, buffer, written);
+        }
+        let step = PacketBuilder::ethernet2(source, destination).ipv4(from, to, route.hop_limit);
+        return write_behind(alloc, step, behind, payload, buffer, written);
     }
     if route.version == 6 {
-        let step = if route.with_ethernet == 0 {
-            PacketBuilder::ipv6(route.ipv6_source, route.ipv6_destination, route.hop_limit)
-        } else {
-            PacketBuilder::ethernet2(route.ethernet_source, route.ethernet_destination).ipv6(
-                route.ipv6_source,
-                route.ipv6_destination,
-                route.hop_limit,
-            )
-        };
-        return Some(step);
+        let (from, to) = (route.ipv6_source, route.ipv6_destination);
+        if route.with_ethernet == 0 {
+            let step = PacketBuilder::ipv6(from, to, route.hop_limit);
+            return write_behind(alloc, step, behind, payload, buffer, written);
+        }
+        let step = PacketBuilder::ethernet2(source, destination).ipv6(from, to, route.hop_limit);
+        return write_behind(alloc, step, behind, payload, buffer, written);
     }
-    None
+    *written = 0;
+    numbers::UNKNOWN_CHOICE
+}
+
+/// Builds the frame of these IP headers and what stands behind them, and copies it to the front of the buffer.
+#[inline(always)]
+fn write_behind<Behind: IsBehind>(
+    alloc: Global,
+    step: PacketBuilderStep<IpHeaders>,
+    behind: Behind,
+    payload: &[u8],
+    buffer: &mut [u8],
+    written: &mut usize,
+) -> u32
+    ensures { IsBuilt (held_behind step (Behind.header behind)) payload.now
+        buffer.old buffer.new written.new result }
+{
+    let mut frame = Vec::new(alloc);
+    let built = behind.write(step, &mut frame, payload);
+    copied(built, frame.as_slice(), buffer, written)
 }
 
 /// The TCP header of these fields.

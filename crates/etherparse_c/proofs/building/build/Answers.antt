@@ -1,0 +1,38 @@
+use Rattle.std.proofs.Common.{◌≡◌, ℕ, List, Option, Some, sym, subst, rules}
+use Rattle.etherparse.specs.BuiltFrames.{held_transport}
+use Rattle.etherparse.specs.Steps.{ip_link, ip_step_headers}
+use Rattle.etherparse.specs.Types.IpHeaders.{IpHeaders}
+use Rattle.etherparse.specs.Types.LinkPart.{LinkPart}
+use Rattle.etherparse.specs.Types.TransportHeader.{TransportHeader}
+use Rattle.etherparse_c.specs.Building.{IsBuildAnswer, IsBuildAnswerBy, IsBuilt, route_headers, route_link}
+use Rattle.etherparse_c.specs.declared.route.Route.{Route}
+use Rattle.etherparse_c.proofs.building.build.Goals as goal
+
+-- the answer for the headers of a route
+answered : (route : Route) (behind : TransportHeader) (link : LinkPart) (headers : IpHeaders) (payload old new : List ℕ)
+    (written status : ℕ) → route_link route ≡ link → route_headers route ≡ Some headers
+    → IsBuilt (held_transport link headers behind) payload old new written status
+    → IsBuildAnswer route behind payload old new written status
+answered route behind link headers payload old new written status links leads built =
+    subst (λ (l : LinkPart). IsBuildAnswerBy l behind (route_headers route) payload old new written status) (sym links)
+    (subst (λ (h : Option IpHeaders). IsBuildAnswerBy link behind h payload old new written status) (sym leads) built)
+
+pub returns-then-route-eq0 : goal.returns-then-route-eq0
+returns-then-route-eq0 g c =
+    let route = c.args.route.now in
+    let step = c.ipv4-step.result in
+    let links : route_link route ≡ ip_link step = search rules in
+    let leads : route_headers route ≡ Some (ip_step_headers step) = search rules in
+    answered route (g.Behind.IsBehind.header c.args.behind) (ip_link step) (ip_step_headers step) c.args.payload.now
+    c.args.buffer.now c.write_behind.new.buffer c.write_behind.new.written c.write_behind.result links leads
+    c.write_behind.ensures
+
+pub returns-then-route-eq4 : goal.returns-then-route-eq4
+returns-then-route-eq4 g c =
+    let route = c.args.route.now in
+    let step = c.ipv4-step-then-route-eq4.result in
+    let links : route_link route ≡ ip_link step = search rules in
+    let leads : route_headers route ≡ Some (ip_step_headers step) = search rules in
+    answered route (g.Behind.IsBehind.header c.args.behind) (ip_link step) (ip_step_headers step) c.args.payload.now
+    c.args.buffer.now c.write_behind-then-route-eq4.new.buffer c.write_behind-then-route-eq4.new.written
+    c.write_behind-then-route-eq4.result links leads c.write_behind-then-route-eq4.ensures
