@@ -7,6 +7,10 @@ bytes.
 udp64        Ethernet II, IPv4, UDP with a payload of 64 bytes
 udp1400      the same with 1,400 bytes
 vlan2        udp64 behind a service tag and a customer tag
+vlan1        udp64 behind a customer tag
+tcp64        Ethernet II, IPv4, TCP with a payload of 64 bytes
+udp64ipv6    Ethernet II, IPv6, UDP with a payload of 64 bytes
+raw64        Ethernet II, IPv4, 64 bytes of a protocol that is not read
 mix          IPv4 and IPv6, with and without options, extension headers and tags; UDP, TCP with options, ICMP, ARP
 interleaved  1,000 streams of FRAGMENTS fragments each (1,000 where it is left out) of 64 bytes, in turn
 streams      the same fragments, one stream after the other
@@ -109,6 +113,16 @@ def udp_frame(rng, length, tags=()):
     return ethernet(rng, 0x0800, packet, tags)
 
 
+def tcp_frame(rng, length):
+    addresses = rng.randbytes(8)
+    return ethernet(rng, 0x0800, ipv4(rng, 6, tcp(rng, addresses, rng.randbytes(length)), addresses=addresses))
+
+
+def udp_ipv6_frame(rng, length):
+    addresses = rng.randbytes(32)
+    return ethernet(rng, 0x86DD, ipv6(rng, 17, udp(rng, addresses, rng.randbytes(length)), addresses))
+
+
 def mixed_frame(rng):
     payload = rng.randbytes(rng.choice((0, 32, 64, 512, 1200)))
     four, six = rng.randbytes(8), rng.randbytes(32)
@@ -181,6 +195,11 @@ def main(arguments):
     write(folder, "descending", frames[::-1])
     write(folder, "shuffled", rng.sample(frames, len(frames)))
     write(folder, "alternating", frames[::2] + frames[1::2])
+    # Last, so that they change no byte of the others.
+    write(folder, "vlan1", [udp_frame(rng, 64, ((0x8100, 9),)) for _ in range(FRAMES)])
+    write(folder, "tcp64", [tcp_frame(rng, 64) for _ in range(FRAMES)])
+    write(folder, "udp64ipv6", [udp_ipv6_frame(rng, 64) for _ in range(FRAMES)])
+    write(folder, "raw64", [ethernet(rng, 0x0800, ipv4(rng, 253, rng.randbytes(64))) for _ in range(FRAMES)])
 
 
 if __name__ == "__main__":

@@ -1,6 +1,6 @@
 -- What a contract sees of a reader.
 use Rattle.std.specs.Prelude.{◌≡◌, ℕ, ◌+◌, ◌-◌, ◌<◌, true, false, List, [], ◌∷◌, ◌++◌, length, drop, slice_range}
-use Rattle.std.specs.Prelude.{Option, Some, None, Result, Ok, Err}
+use Rattle.std.specs.Prelude.{Option, Some, None, Result, Ok, Err, vec_capacity, vec_len}
 use Rattle.ep_base.specs.Tables.{Refuses}
 use Rattle.capture_reader.specs.Blocks.{most_block}
 use Rattle.capture_reader.specs.Captures.{Item, packet, Stage, at_start, in_records, in_section}
@@ -49,6 +49,18 @@ reader_left reader = length reader.buffer.items - reader.end
 -- how many of the bytes that were taken it keeps, read or not
 abbrev pub reader_held : CaptureReader → ℕ
 reader_held reader = length reader.buffer.items
+
+-- how many bytes it has room for that are not read, behind the next piece
+abbrev pub bytes_room : CaptureReader → ℕ
+bytes_room reader = vec_capacity reader.spare
+
+-- how many interfaces it has room for
+abbrev pub interfaces_room : CaptureReader → ℕ
+interfaces_room reader = vec_capacity reader.interfaces
+
+-- how many interfaces the section described so far
+abbrev pub interfaces_held : CaptureReader → ℕ
+interfaces_held reader = vec_len reader.interfaces
 
 -- how many bytes were read
 abbrev pub reader_offset : CaptureReader → ℕ

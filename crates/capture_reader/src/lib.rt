@@ -17,8 +17,6 @@ pub mod packet;
 pub mod reader;
 pub mod refusal;
 pub mod shown;
-#[cfg(test)]
-mod tests;
 
 pub use crate::byte_order::ByteOrder;
 pub use crate::heading::{Heading, Resolution, knows_link};

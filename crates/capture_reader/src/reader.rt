@@ -1,7 +1,7 @@
 //! A capture that comes in pieces.
 
 ghost use Rattle.std.specs.Prelude.{◌≡◌, ◌≤◌, ◌<◌, ◌+◌, ◌-◌, ◌^◌, ◌++◌, [], ℕ, List, OnErr, OnOk};
-ghost use Rattle.std.specs.Prelude.{◌*◌, false, true, length, vec_capacity, vec_len};
+ghost use Rattle.std.specs.Prelude.{◌*◌, ◌/◌, ◌⊎◌, false, true, length, vec_capacity, vec_len};
 ghost use Rattle.capture_reader.specs.Captures.{begins_section};
 ghost use Rattle.capture_reader.specs.States.{in_front};
 
@@ -72,8 +72,10 @@ pub struct CaptureReader {
 
 impl CaptureReader {
     ghost use Rattle.capture_reader.specs.Captures.{Item};
-    ghost use Rattle.capture_reader.specs.Classic.{packet_of};
+    ghost use Rattle.capture_reader.specs.BlockContents.{known_shown};
+    ghost use Rattle.capture_reader.specs.Classic.{kept_packet, packet_of};
     ghost use Rattle.capture_reader.specs.Readers.{AdvancesTo, Answers, Passes, Reads, ReadsBlocks, Waits};
+    ghost use Rattle.capture_reader.specs.Readers.{bytes_room, interfaces_held, interfaces_room};
     ghost use Rattle.capture_reader.specs.Readers.{heading_in, most_held, reader_held, reader_left, reader_offset, reader_packet};
     ghost use Rattle.capture_reader.specs.Readers.{reader_rest, reader_shown, reader_stage, refused_at, shown_of};
 
@@ -82,6 +84,9 @@ impl CaptureReader {
         ensures reads { Reads result [] [] }
         ensures left { reader_left result ≡ 0 }
         ensures offset { reader_offset result ≡ 0 }
+        ensures held { reader_held result ≡ 0 }
+        ensures packet { reader_packet result ≡ kept_packet Record.NONE [] }
+        ensures shown { reader_shown result ≡ known_shown Known.NONE [] }
     {
         CaptureReader {
             state: State::Start,
@@ -114,6 +119,11 @@ impl CaptureReader {
         ensures left { OnOk result (reader_left self.new ≡ reader_left self.old + length piece.now) }
         ensures held { OnOk result (reader_held self.new ≡ reader_left self.new) }
         ensures offset { reader_offset self.new ≡ reader_offset self.old }
+
+        // Memory is wanting only for as many bytes as are then not read, or an interface for each 20 of them.
+        ensures full { let left = reader_left self.old + length piece.now in
+            OnErr result ((bytes_room self.old < left)
+            ⊎ (interfaces_room self.old < interfaces_held self.old + left / 20)) }
     {
         self.spare.clear();
         self.spare

@@ -1,10 +1,10 @@
 -- The digits of a number, the last one first.
-use Rattle.std.proofs.Common.{◌≡◌, ℕ, zero, suc, ◌+◌, ◌-◌, ◌*◌, ◌/◌, ◌%◌, ◌^◌, ◌<◌, ◌≤◌, List, [], ◌∷◌, ◌++◌, length, drop, set}
+use Rattle.std.proofs.Common.{◌≡◌, ℕ, zero, suc, ◌+◌, ◌-◌, ◌*◌, ◌/◌, ◌%◌, ◌^◌, ◌<◌, ◌≤◌, List, [], ◌∷◌, ◌++◌, length, drop, set, take}
 use Rattle.std.proofs.Common.{sym, ap, ◌∙◌, subst, arith, append_assoc}
 use Rattle.std.specs.Fmt.{decimal}
 use Rattle.std.proofs.Math.Nat.{pow-succ'}
 use Rattle.std.proofs.lemmas.Fmt.{decimal_digit, decimal_step}
-use Rattle.std.proofs.lemmas.List.{drop-set}
+use Rattle.std.proofs.lemmas.List.{drop-set, length-drop, length-set, take_all}
 
 -- the digits behind this place, with those of what is left of the number in front, are those of the number
 abbrev pub AreLastDigits : ℕ → ℕ → ℕ → List ℕ → Type 0
@@ -50,3 +50,14 @@ pub AreLastDigits-first : (number rest start : ℕ) (digits : List ℕ) → AreL
 AreLastDigits-first number rest start digits last within one =
     drop-set digits start (48 + rest) within
     ∙ ap (λ t. t ++ drop (start + 1) digits) (sym (decimal_digit rest one)) ∙ sym last
+
+-- all digits, in room for twenty
+pub digits-whole : (number rest start : ℕ) (digits : List ℕ) → length digits ≡ 20 → start < 20
+    → AreLastDigits number rest start digits → rest < 10
+    → take (20 - start) (drop start (set digits start (48 + rest))) ≡ decimal number
+digits-whole number rest start digits long within last one =
+    let written = set digits start (48 + rest) in
+    let whole : take (20 - start) (drop start written) ≡ drop start written =
+    take_all (20 - start) (drop start written)
+    (omega (arith, length-drop start written, length-set digits start (48 + rest), long)) in
+    whole ∙ AreLastDigits-first number rest start digits last (omega (arith, long, within)) one

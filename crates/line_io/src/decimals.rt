@@ -1,6 +1,6 @@
 //! Numbers as decimal digits.
 
-ghost use Rattle.std.specs.Prelude.{◌≡◌, ◌++◌, OnOk, drop};
+ghost use Rattle.std.specs.Prelude.{◌≡◌, ◌<◌, ◌+◌, ◌++◌, OnErr, OnOk, drop, length, vec_capacity, vec_len};
 ghost use Rattle.std.specs.Fmt.{decimal};
 
 use std::alloc::AllocError;
@@ -10,7 +10,9 @@ const MOST_DIGITS: usize = 20;
 
 /// Appends a text and then a number.
 pub fn push_behind(output: &mut Vec<u8>, text: &[u8], number: u64) -> Result<(), AllocError>
-    ensures { OnOk result (output.new.items ≡ output.old.items ++ (text.now ++ decimal number)) }
+    ensures text { OnOk result (output.new.items ≡ output.old.items ++ (text.now ++ decimal number)) }
+    ensures full { OnErr result (vec_capacity output.old
+        < vec_len output.old + (length text.now + length (decimal number))) }
 {
     output.extend_from_slice(text)?;
     push(output, number)
@@ -18,7 +20,8 @@ pub fn push_behind(output: &mut Vec<u8>, text: &[u8], number: u64) -> Result<(),
 
 /// Appends a number. It costs its digits, where `write!` costs several calls.
 pub fn push(output: &mut Vec<u8>, number: u64) -> Result<(), AllocError>
-    ensures { OnOk result (output.new.items ≡ output.old.items ++ decimal number) }
+    ensures text { OnOk result (output.new.items ≡ output.old.items ++ decimal number) }
+    ensures full { OnErr result (vec_capacity output.old < vec_len output.old + length (decimal number)) }
 {
     let mut digits = [0; MOST_DIGITS];
     let mut start = MOST_DIGITS - 1;
@@ -34,7 +37,8 @@ pub fn push(output: &mut Vec<u8>, number: u64) -> Result<(), AllocError>
 
 /// Appends the digits of a number without the first.
 pub fn push_behind_first(output: &mut Vec<u8>, number: u64) -> Result<(), AllocError>
-    ensures { OnOk result (output.new.items ≡ output.old.items ++ drop 1 (decimal number)) }
+    ensures text { OnOk result (output.new.items ≡ output.old.items ++ drop 1 (decimal number)) }
+    ensures full { OnErr result (vec_capacity output.old < vec_len output.old + length (decimal number)) }
 {
     let start = output.len();
     push(output, number)?;

@@ -1,5 +1,5 @@
 -- What was read and written of a capture, and where it stops.
-use Rattle.std.proofs.Common.{◌≡◌, ◌≤◌, ℕ, Bool, true, false, List, [], ◌++◌, Option, refl, sym, ap, subst, ◌∙◌, append_assoc}
+use Rattle.std.proofs.Common.{◌≡◌, ◌≤◌, ℕ, Bool, true, false, List, [], ◌++◌, Option, refl, sym, ap, subst, ◌∙◌, append_assoc, arith}
 use Rattle.std.proofs.KnownBytes.{Appends-nil, Appends-trans, Consumes-kept, Consumes-nil, Consumes-trans}
 use Rattle.std.proofs.lemmas.List.{append-nil}
 use Rattle.std.specs.Io.KnownBytes.{Appends, Consumes, Keeps}
@@ -8,9 +8,10 @@ use Rattle.capture_reader.specs.Readers.{reader_rest}
 use Rattle.line_io.specs.Transfers.{Moves}
 use Rattle.line_io.specs.WatchedWords.{AppendsFront}
 use Rattle.capture_reader.specs.declared.refusal.CaptureError.{CaptureError}
-use Rattle.packet_dump.specs.Dumps.{AreAllTexts, AreShown, BeginsDump, IsDump, IsRefused}
+use Rattle.packet_dump.specs.Dumps.{AreAllTexts, AreShown, BeginsDump, IsDump, IsRefused, IsSummedDump}
 use Rattle.packet_dump.specs.PacketCalls.{PoolHistory, new_pool}
 use Rattle.packet_dump.specs.Sessions.{Drains, Stands, ending_of, ends_run}
+use Rattle.packet_dump.specs.declared.ending.Ending.{Ending}
 use Rattle.packet_dump.specs.declared.session.Session.{Session}
 use Rattle.packet_dump.specs.declared.session.Standing.{Standing}
 use Rattle.packet_dump.specs.declared.session.Standing.TheVariants.{MayEnd, Enough, Cut, Refused}
@@ -192,3 +193,23 @@ Moves-taken view old new piece had has then_has held holds (read, written, consu
       appended,
       (items, history, take view read items history stands, texts),
     )
+
+-- no summary was wanted
+pub Moves-unsummed : (wanted : Bool) (view : View) (ended : Bool) (ending : Ending) (had has held holds : Option (List ℕ))
+    → Moves (IsDump view ended ending) had has held holds
+    → Moves (IsSummedDump wanted view ended ending) had has held holds
+Moves-unsummed wanted view ended ending had has held holds (read, written, consumed, appended, dump) =
+    (read, written, consumed, appended, (written, [], dump, sym (append-nil written), λ unasked. refl))
+
+-- a summary was wanted, and written
+pub Moves-summed : (wanted : Bool) (view : View) (ended : Bool) (ending : Ending)
+    (had has held holds then_holds : Option (List ℕ)) → wanted ≡ true
+    → Moves (IsDump view ended ending) had has held holds → (text : List ℕ) × Appends holds then_holds text
+    → Moves (IsSummedDump wanted view ended ending) had has held then_holds
+Moves-summed wanted view ended ending had has held holds then_holds asked (read, written, consumed, appended, dump) (text, more) = (
+  read,
+  written ++ text,
+  consumed,
+  Appends-trans held holds then_holds written text appended more,
+  (written, text, dump, refl, λ unasked. grind (arith, asked, unasked)),
+)

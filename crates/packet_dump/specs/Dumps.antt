@@ -116,3 +116,9 @@ IsDump view ended (Broken packets error) read written =
 abbrev pub BeginsDump : View → List ℕ → List ℕ → Type 0
 BeginsDump view read written =
     (items : List Item) × (more : List ℕ) × Begin read items × AreShown view items (written ++ more)
+
+-- what was written is the lines of a dump, and where a summary is wanted its text behind them
+abbrev pub IsSummedDump : Bool → View → Bool → Ending → List ℕ → List ℕ → Type 0
+IsSummedDump wanted view ended ending read written =
+    (lines summary : List ℕ) × IsDump view ended ending read lines × (written ≡ lines ++ summary)
+    × (wanted ≡ false → summary ≡ [])

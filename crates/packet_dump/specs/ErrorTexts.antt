@@ -1,5 +1,7 @@
 -- The texts of errors, and the exit status.
-use Rattle.std.specs.Prelude.{ℕ, List, Result, Ok, Err, codes}
+use Rattle.std.specs.Prelude.{ℕ, List, Option, Some, None, Result, Ok, Err, codes}
+use Rattle.capture_reader.specs.declared.refusal.Refusal.{Refusal}
+use Rattle.capture_reader.specs.declared.refusal.Refusal.TheVariants.{UnsupportedLinkType}
 use Rattle.line_io.specs.declared.run_error.RunError.{RunError}
 use Rattle.line_io.specs.declared.run_error.RunError.TheVariants.{Read, Write, OutOfMemory}
 use Rattle.packet_dump.specs.declared.ending.Ending.{Ending}
@@ -17,3 +19,9 @@ status_of (Ok Whole) = 0
 status_of (Ok Enough) = 0
 status_of (Ok (Broken packets error)) = 1
 status_of (Err error) = 1
+
+-- what can be done about a capture that is refused so
+abbrev pub hint_text : Refusal → Option (List ℕ)
+hint_text (UnsupportedLinkType link) = Some (codes
+    "packet_dump: what is read is Ethernet, raw IP, and Linux cooked captures (tcpdump -y LINUX_SLL -i any)")
+hint_text other = None

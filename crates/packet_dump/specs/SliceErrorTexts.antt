@@ -54,3 +54,20 @@ reason_text (Tcp (tcp_error.DataOffsetTooSmall data_offset)) = codes "DataOffset
 -- that they are refused, a space before it
 abbrev pub refusal_text : SliceError → List ℕ
 refusal_text error = codes " refused " ++ reason_text error
+
+-- what an error is counted as: of too few bytes the layer, and of others what is wrong
+abbrev pub error_name : SliceError → List ℕ
+error_name (Len error) = layer_name error.layer
+error_name (LinuxSll (linux_sll_error.UnsupportedPacketTypeField number)) = codes "LinuxSll UnsupportedPacketTypeField"
+error_name (LinuxSll (linux_sll_error.UnsupportedArpHardwareId number)) = codes "LinuxSll UnsupportedArpHardwareId"
+error_name (Macsec macsec_error.UnexpectedVersion) = codes "Macsec UnexpectedVersion"
+error_name (Macsec macsec_error.InvalidUnmodifiedShortLen) = codes "Macsec InvalidUnmodifiedShortLen"
+error_name (Ip (ip_error.UnsupportedIpVersion version)) = codes "Ip UnsupportedIpVersion"
+error_name (Ip (ip_error.Ipv4HeaderLengthSmallerThanHeader ihl)) = codes "Ip Ipv4HeaderLengthSmallerThanHeader"
+error_name (Ipv4 (ipv4_error.UnexpectedVersion version)) = codes "Ipv4 UnexpectedVersion"
+error_name (Ipv4 (ipv4_error.HeaderLengthSmallerThanHeader ihl)) = codes "Ipv4 HeaderLengthSmallerThanHeader"
+error_name (Ipv6 (ipv6_error.UnexpectedVersion version)) = codes "Ipv6 UnexpectedVersion"
+error_name (Ipv4Exts auth_error.ZeroPayloadLen) = codes "Ipv4Exts ZeroPayloadLen"
+error_name (Ipv6Exts exts_error.HopByHopNotAtStart) = codes "Ipv6Exts HopByHopNotAtStart"
+error_name (Ipv6Exts (exts_error.IpAuth auth_error.ZeroPayloadLen)) = codes "Ipv6Exts ZeroPayloadLen"
+error_name (Tcp (tcp_error.DataOffsetTooSmall data_offset)) = codes "Tcp DataOffsetTooSmall"

@@ -5,9 +5,14 @@
 //! of it was kept where that is not all. `packet_dump --help` lists the options.
 #![tactic(auto)]
 
-ghost use Rattle.std.specs.Prelude.{◌≡◌};
+ghost use Rattle.std.specs.Prelude.{◌≡◌, ◌≢◌, ◌^◌, ◌↔◌, if◌then◌else◌, false, true, Err, IfOk, List, OnErr, OnOk, ℕ};
+ghost use Rattle.std.specs.Io.KnownBytes.{Appends};
+ghost use Rattle.std.specs.Option.{option_copied};
 ghost use Rattle.std.specs.Process.{exit_status};
-ghost use Rattle.packet_dump.specs.ErrorTexts.{status_of};
+ghost use Rattle.line_io.specs.Transfers.{Transfers};
+ghost use Rattle.line_io.specs.WatchedWords.{has_ended, has_failed, inner_of, reads_left};
+ghost use Rattle.packet_dump.specs.Dumps.{BeginsDump, IsSummedDump};
+ghost use Rattle.packet_dump.specs.ErrorTexts.{hint_text, status_of};
 
 mod addresses;
 pub mod ending;
@@ -25,8 +30,6 @@ mod refusals;
 mod session;
 mod shown;
 pub mod summary;
-#[cfg(test)]
-mod tests;
 mod transports;
 pub mod view;
 
@@ -38,7 +41,8 @@ use crate::summary::Summary;
 use crate::view::View;
 use capture_reader::Refusal;
 use line_io::{RunError, Watched};
-use std::io::{IsTerminal, Read};
+use std::alloc::Global;
+use std::io::{IsTerminal, Read, Write};
 use std::process::ExitCode;
 use std::rt::{Env, Files};
 use std::{env, fs};
@@ -66,10 +70,11 @@ input is read.
   --version          the version
 
 It ends with 0, with 1 where the capture is none or is cut, a file cannot be
-read or a line not be written, and with 2 where the command line is wrong.";
+read or a line not be written, and with 2 where the command line is wrong.
+";
 
 /// The text of `--version`.
-const VERSION: &str = "packet_dump 0.1.0";
+const VERSION: &str = "packet_dump 0.1.0\n";
 
 fn main(rt: HostRuntime) -> ExitCode {
     let Ok(args) = env::args(&rt) else {
@@ -86,8 +91,8 @@ fn main(rt: HostRuntime) -> ExitCode {
         [] => &[],
     };
     match parse(behind_name) {
-        Ok(Request::Help) => printed(&rt, HELP),
-        Ok(Request::Version) => printed(&rt, VERSION),
+        Ok(Request::Help) => printed(&mut Watched::new(rt.stdout(), 0), HELP),
+        Ok(Request::Version) => printed(&mut Watched::new(rt.stdout(), 0), VERSION),
         Ok(
             Request::Dump {
                 view,
@@ -100,8 +105,13 @@ fn main(rt: HostRuntime) -> ExitCode {
 }
 
 /// Prints a text, and ends.
-fn printed(rt: &impl Print, text: &str) -> ExitCode {
-    match rt.println(text) {
+fn printed<W: Write>(writer: &mut Watched<W>, text: &str) -> ExitCode
+    requires { has_failed writer.old ≡ false }
+    ensures text { has_failed writer.new ≡ false →
+        Appends (W.contents (inner_of writer.old)) (W.contents (inner_of writer.new)) text.now }
+    ensures status { exit_status result ≡ (if has_failed writer.new then 1 else 0) }
+{
+    match writer.write_all(text.as_bytes()) {
         Ok(()) => ExitCode::SUCCESS,
         Err(_) => ExitCode::from(1),
     }
@@ -139,59 +149,86 @@ fn refused(rt: &impl Eprint, error: &UsageError<'_>) -> ExitCode
 
 /// Writes the lines of a file or of standard input, and the summary where it is wanted.
 fn dump(rt: &HostRuntime, view: View, path: Option<&str>, wanted: bool) -> ExitCode {
-    let mut summary = Summary::new(rt.alloc(), wanted);
-    let outcome = match path {
-        Some(path) => {
-            let Ok(file) = fs::open(rt, path) else {
-                let _ = eprintln!(rt; "packet_dump: {path} cannot be opened");
-                return ExitCode::from(1);
-            };
-            dump_file(rt, view, &mut summary, file)
-        }
-        None => dump_reader(rt, view, &mut summary, rt.stdin()),
+    let mut writer = Watched::new(rt.stdout(), 0);
+    let Some(path) = path else {
+        let mut reader = Watched::new(rt.stdin(), MOST_READS);
+        let outcome = dump_reader(rt.alloc(), view, wanted, &mut reader, &mut writer);
+        return ended(rt, outcome);
     };
-    if wanted && outcome.is_ok() {
-        if let Err(error) = summarized(rt, &summary) {
-            return said(rt, error_text(&error), 1);
+    match fs::open(rt, path) {
+        Ok(file) => ended(rt, dump_file(rt, view, wanted, file, &mut writer)),
+        Err(_) => {
+            let _ = eprintln!(rt; "packet_dump: {path} cannot be opened");
+            ExitCode::from(1)
         }
     }
-    ended(rt, outcome)
 }
 
-/// Writes the lines of a file. How far it was read is said where that takes long and nobody sees the lines come.
-fn dump_file(
+/// Writes the lines of a file, and the summary where it is wanted. How far the file was read is said where that takes
+/// long and nobody sees the lines come.
+fn dump_file<W: Write>(
     rt: &HostRuntime,
     view: View,
-    summary: &mut Summary,
+    wanted: bool,
     file: fs::File,
-) -> Result<Ending, RunError> {
+    writer: &mut Watched<W>,
+) -> Result<Ending, RunError>
+    requires { has_failed writer.old ≡ false }
+    ensures write { (result ≡ Err RunError.Write) ↔ (has_failed writer.new ≡ true) }
+{
     match file.metadata() {
         Ok(metadata) if metadata.len() >= LONG && !rt.stdout().is_terminal() => {
-            dump_reader(rt, view, summary, Progress::new(file, rt, metadata.len()))
+            let mut reader = Watched::new(Progress::new(file, rt, metadata.len()), MOST_READS);
+            dump_reader(rt.alloc(), view, wanted, &mut reader, writer)
         }
-        _ => dump_reader(rt, view, summary, file),
+        _ => {
+            let mut reader = Watched::new(file, MOST_READS);
+            dump_reader(rt.alloc(), view, wanted, &mut reader, writer)
+        }
     }
 }
 
-/// Writes the lines of what a reader gives.
-fn dump_reader(
-    rt: &HostRuntime,
+/// Writes the lines of what a reader gives, which is read as often as may be, and the summary where it is wanted.
+fn dump_reader<R: Read, W: Write>(
+    alloc: Global,
     view: View,
-    summary: &mut Summary,
-    reader: impl Read + Drop,
-) -> Result<Ending, RunError> {
-    let mut reader = Watched::new(reader, MOST_READS);
-    let mut writer = Watched::new(rt.stdout(), 0);
-    run(rt.alloc(), view, summary, &mut reader, &mut writer)
+    wanted: bool,
+    reader: &mut Watched<R>,
+    writer: &mut Watched<W>,
+) -> Result<Ending, RunError>
+    requires reader_sound { has_failed reader.old ≡ false }
+    requires reader_open { has_ended reader.old ≡ false }
+    requires reads { reads_left reader.old ≡ 2 ^ 47 }
+    requires writer_sound { has_failed writer.old ≡ false }
+    ensures ok { IfOk result (λ ending. Transfers (IsSummedDump wanted view (has_ended reader.new) ending)
+        R.remaining reader.old reader.new W.contents writer.old writer.new) }
+    ensures err { OnErr result (wanted ≡ false → Transfers (BeginsDump view) R.remaining reader.old reader.new
+        W.contents writer.old writer.new) }
+    ensures read { (result ≡ Err RunError.Read) ↔ (has_failed reader.new ≡ true) }
+    ensures write { (result ≡ Err RunError.Write) ↔ (has_failed writer.new ≡ true) }
+{
+    let mut summary = Summary::new(alloc, wanted);
+    let ending = run(alloc, view, &mut summary, reader, writer)?;
+    if wanted {
+        summarized(alloc, &summary, writer)?;
+    }
+    Ok(ending)
 }
 
 /// Prints the summary.
-fn summarized(rt: &HostRuntime, summary: &Summary) -> Result<(), RunError> {
-    let text = summary.text(rt.alloc())?;
-    match rt.print(text) {
-        Ok(()) => Ok(()),
-        Err(_) => Err(RunError::Write),
-    }
+fn summarized<W: Write>(
+    alloc: Global,
+    summary: &Summary,
+    writer: &mut Watched<W>,
+) -> Result<(), RunError>
+    requires { has_failed writer.old ≡ false }
+    ensures all { OnOk result ((text : List ℕ)
+        × Appends (W.contents (inner_of writer.old)) (W.contents (inner_of writer.new)) text) }
+    ensures read { result ≢ Err RunError.Read }
+    ensures write { (result ≡ Err RunError.Write) ↔ (has_failed writer.new ≡ true) }
+{
+    let text = summary.text(alloc)?;
+    writer.write_all(text.as_bytes())
 }
 
 /// How the program ends after a run.
@@ -212,7 +249,9 @@ fn ended(rt: &impl Eprint, outcome: Result<Ending, RunError>) -> ExitCode
 }
 
 /// What can be done about a file that is not read.
-fn hint(refusal: Refusal) -> Option<&'static str> {
+fn hint(refusal: Refusal) -> Option<&'static str>
+    ensures { option_copied result ≡ hint_text refusal }
+{
     match refusal {
         Refusal::UnsupportedLinkType { .. } => Some(
             "packet_dump: what is read is Ethernet, raw IP, and Linux cooked captures \

@@ -36,6 +36,8 @@ impl<'a, R, E> Progress<'a, R, E> {
 }
 
 impl<R: Read, E: Eprint> Read for Progress<'_, R, E> {
+    ghost remaining = { λ p. R.remaining p.inner };
+
     fn read(&mut self, piece: &mut [u8]) -> io::Result<usize> {
         let count = self.inner.read(piece)?;
         self.read = self.read.saturating_add(count as u64);

@@ -1,5 +1,8 @@
 //! What a capture held, counted.
 
+ghost use Rattle.std.specs.Prelude.{◌≡◌, ◌+◌, ◌-◌, ◌^◌, min};
+ghost use Rattle.packet_dump.specs.SliceErrorTexts.{error_name};
+
 use crate::pooling::Pooling;
 use capture_reader::Shown;
 use etherparse::err::packet::SliceError;
@@ -193,7 +196,9 @@ impl Layers {
 }
 
 /// Counts on. The greatest count stays.
-fn more(count: &mut u64, by: u64) {
+fn more(count: &mut u64, by: u64)
+    ensures { count.new ≡ min (count.old + by) (2 ^ 64 - 1) }
+{
     *count = count.saturating_add(by);
 }
 
@@ -203,7 +208,9 @@ fn push_count(text: &mut String, name: &str, times: u64) -> Result<(), AllocErro
 }
 
 /// The name of an error: of too few bytes the layer, and of others what is wrong.
-fn error_name(error: &SliceError) -> &'static str {
+fn error_name(error: &SliceError) -> &'static str
+    ensures { result.now ≡ error_name error.now }
+{
     match error {
         SliceError::Len(error) => error.layer.name(),
         SliceError::LinuxSll(linux_sll::HeaderError::UnsupportedPacketTypeField { .. }) => {

@@ -22,6 +22,7 @@ REPEATS = 5
 SHORT_REPEATS = 20
 FRAMES = ["udp64", "udp1400", "vlan2", "mix"]
 MEASUREMENTS = ["slicing", "slicing-apart", "filling", "decoding", "rereading", "ipv4-slice", "ip-headers"]
+BUILDING = ["building", "building-from-addresses"]
 # the fragments of a corpus, by how many rounds are made besides the first
 FRAGMENTS = dict.fromkeys(["streams", "interleaved", "queue", "crowd"], 5)
 FRAGMENTS |= dict.fromkeys(["ascending", "descending", "shuffled", "alternating"], 60)
@@ -71,10 +72,11 @@ def main(program, folder):
             values = [least(rf"{name} +\d+ +\d+ +([\d.]+)", program, file, 1000, name) for name in MEASUREMENTS]
             row(f"`{corpus}`", [*values, least(r"([\d.]+) ns", f"{made}/walk", file, 1000)])
 
-        heading("Frame", "`building`", "by hand in C")
+        heading("Frame", *(f"`{name}`" for name in BUILDING), "by hand in C")
         for corpus, size in [("udp64", 64), ("udp1400", 1400)]:
-            mean = least(r"building +\d+ +\d+ +([\d.]+)", program, f"{folder}/{corpus}", 60, "building")
-            row(f"`{corpus}`", [mean, least(r"([\d.]+) ns", f"{made}/build", size, 200_000)], 0)
+            file = f"{folder}/{corpus}"
+            means = [least(rf"{name} +\d+ +\d+ +([\d.]+)", program, file, 60, name) for name in BUILDING]
+            row(f"`{corpus}`", [*means, least(r"([\d.]+) ns", f"{made}/build", size, 200_000)], 0)
 
         heading("", *(f"`{corpus}`" for corpus in FRAGMENTS))
         here, by_hand = [], []

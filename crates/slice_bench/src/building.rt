@@ -146,19 +146,33 @@ pub fn built(alloc: Global, all: &[FrameParts<'_>]) -> Result<u64, BenchError>
     let mut buffer = Vec::new(alloc);
     let mut total: u64 = 0;
     for parts in all {
-        total = total.wrapping_add(number_of(parts, &mut buffer)?);
+        buffer.clear();
+        let built = build(parts, &mut buffer);
+        total = total.wrapping_add(number_of(built, buffer.as_slice())?);
     }
     Ok(total)
 }
 
-/// What is summed of the frame that is built of these, and 0 where the builder refuses them. The buffer's bytes are
-/// overwritten.
-fn number_of(parts: &FrameParts<'_>, buffer: &mut Vec<u8>) -> Result<u64, BenchError>
+/// The same of frames that are built from addresses and ports.
+pub fn built_from_addresses(alloc: Global, all: &[FrameParts<'_>]) -> Result<u64, BenchError>
     ensures err { IfErr result (λ error. error ≡ BenchError.OutOfMemory) }
 {
-    buffer.clear();
-    match build(parts, buffer) {
-        Ok(()) => Ok(frame_number(buffer.as_slice())),
+    let mut buffer = Vec::new(alloc);
+    let mut total: u64 = 0;
+    for parts in all {
+        buffer.clear();
+        let built = build_from_addresses(parts, &mut buffer);
+        total = total.wrapping_add(number_of(built, buffer.as_slice())?);
+    }
+    Ok(total)
+}
+
+/// What is summed of a frame that was built, and 0 where the builder refused it.
+fn number_of(built: Result<(), BuildWriteError>, frame: &[u8]) -> Result<u64, BenchError>
+    ensures err { IfErr result (λ error. error ≡ BenchError.OutOfMemory) }
+{
+    match built {
+        Ok(()) => Ok(frame_number(frame)),
         Err(BuildWriteError::OutOfMemory) => Err(BenchError::OutOfMemory),
         Err(_) => Ok(0),
     }
@@ -185,6 +199,85 @@ pub fn build(parts: &FrameParts<'_>, buffer: &mut Vec<u8>) -> Result<(), BuildWr
                 None => link.arp(packet).write(buffer),
             }
         }
+    }
+}
+
+/// Appends the frame of the addresses, tags, ports and payload of these, and nothing at an error: headers of IP without
+/// options and extension headers, and of TCP without options and with no flag but ACK.
+pub fn build_from_addresses(
+    parts: &FrameParts<'_>,
+    buffer: &mut Vec<u8>,
+) -> Result<(), BuildWriteError> {
+    let link = PacketBuilder::ethernet2(parts.link.source, parts.link.destination);
+    match &parts.inside {
+        Inside::Ipv4(header, _, behind) => {
+            let (source, destination) = (header.source, header.destination);
+            let hops = header.time_to_live;
+            match &parts.tags {
+                None => build_ports(link.ipv4(source, destination, hops), behind, buffer),
+                Some(VlanHeader::Single(tag)) => {
+                    let link = link.single_vlan(tag.vlan_id);
+                    build_ports(link.ipv4(source, destination, hops), behind, buffer)
+                }
+                Some(VlanHeader::Double(tags)) => {
+                    let link = link.double_vlan(tags.outer.vlan_id, tags.inner.vlan_id);
+                    build_ports(link.ipv4(source, destination, hops), behind, buffer)
+                }
+            }
+        }
+        Inside::Ipv6(header, _, behind) => {
+            let (source, destination) = (header.source, header.destination);
+            let hops = header.hop_limit;
+            match &parts.tags {
+                None => build_ports(link.ipv6(source, destination, hops), behind, buffer),
+                Some(VlanHeader::Single(tag)) => {
+                    let link = link.single_vlan(tag.vlan_id);
+                    build_ports(link.ipv6(source, destination, hops), behind, buffer)
+                }
+                Some(VlanHeader::Double(tags)) => {
+                    let link = link.double_vlan(tags.outer.vlan_id, tags.inner.vlan_id);
+                    build_ports(link.ipv6(source, destination, hops), behind, buffer)
+                }
+            }
+        }
+        Inside::Arp(packet) => link.arp(packet.clone().unwrap()).write(buffer),
+    }
+}
+
+/// Appends the frame of a step of IP headers, the ports or the type of a transport header, and the payload. It is
+/// inlined, once for each place: so what the step holds is known there.
+#[inline(always)]
+fn build_ports(
+    step: PacketBuilderStep<IpHeaders>,
+    behind: &Behind<'_>,
+    buffer: &mut Vec<u8>,
+) -> Result<(), BuildWriteError> {
+    match behind {
+        Behind::Payload(number, payload) => step.write(buffer, *number, payload),
+        Behind::Transport(transport, payload) => match transport {
+            TransportHeader::Udp(header) => {
+                step.udp(header.source_port, header.destination_port)
+                    .write(buffer, payload)
+            }
+            TransportHeader::Tcp(header) => {
+                step.tcp(
+                    header.source_port,
+                    header.destination_port,
+                    header.sequence_number,
+                    header.window_size,
+                )
+                .ack(header.acknowledgment_number)
+                .write(buffer, payload)
+            }
+            TransportHeader::Icmpv4(header) => {
+                step.icmpv4(header.icmp_type.clone().unwrap())
+                    .write(buffer, payload)
+            }
+            TransportHeader::Icmpv6(header) => {
+                step.icmpv6(header.icmp_type.clone().unwrap())
+                    .write(buffer, payload)
+            }
+        },
     }
 }
 

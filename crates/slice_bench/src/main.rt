@@ -14,8 +14,6 @@ mod files;
 pub mod laws;
 mod measure;
 mod reassembly;
-#[cfg(test)]
-mod tests;
 
 use crate::bench_error::BenchError;
 use crate::building::frame_parts_of;
@@ -98,7 +96,7 @@ fn measurement_named(name: &str) -> Result<Measurement, BenchError> {
 /// Prints what the columns are.
 fn print_heading<R: Print>(rt: &R) -> Result<(), BenchError> {
     let printed = println!(rt;
-        "{:<12} {:>9} {:>9} {:>10} {:>20}",
+        "{:<23} {:>9} {:>9} {:>10} {:>20}",
         "measurement", "items", "rounds", "ns/item", "sum"
     );
     printed.map_err(|_| BenchError::Output)
@@ -114,19 +112,19 @@ fn print_measured<R: Clock + Print + AllocGlobal>(
     let name = measurement.name();
     let items = measurement.count(corpus) as u64;
     if items == 0 {
-        return println!(rt; "{name:<12} {items:>9}").map_err(|_| BenchError::Output);
+        return println!(rt; "{name:<23} {items:>9}").map_err(|_| BenchError::Output);
     }
     let measured = measure(rt, rt.alloc(), measurement, corpus, rounds)?;
     let rounds = measured.rounds;
     let count = items.saturating_mul(rounds);
     if count == 0 {
-        return println!(rt; "{name:<12} {items:>9} {rounds:>9}").map_err(|_| BenchError::Output);
+        return println!(rt; "{name:<23} {items:>9} {rounds:>9}").map_err(|_| BenchError::Output);
     }
     let tenths = mean_tenths(measured.nanos, count);
     let whole = tenths / 10;
     let part = tenths % 10;
     let sum = measured.sum;
-    println!(rt; "{name:<12} {items:>9} {rounds:>9} {whole:>8}.{part} {sum:>20}").map_err(
+    println!(rt; "{name:<23} {items:>9} {rounds:>9} {whole:>8}.{part} {sum:>20}").map_err(
         |_| BenchError::Output,
     )
 }

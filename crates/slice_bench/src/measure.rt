@@ -4,7 +4,7 @@ ghost use Rattle.std.specs.Prelude.{◌≡◌, ◌*◌, ◌/◌, ◌<◌, ◌^�
 ghost use Rattle.slice_bench.specs.BenchTexts.{measurement_name};
 
 use crate::bench_error::BenchError;
-use crate::building::{FrameParts, built};
+use crate::building::{FrameParts, built, built_from_addresses};
 use crate::columns::{
     Decoding, Filling, ReadingIpHeaders, Rereading, Slicing, SlicingApart, SlicingIpv4, total,
 };
@@ -43,13 +43,15 @@ pub enum Measurement {
     ReadingIpHeaders,
     /// A frame is built anew from its headers by value and its payload.
     Building,
+    /// A frame is built from the addresses, ports and payload of one.
+    BuildingFromAddresses,
     /// A frame is sliced and given to a pool, which is new in each round.
     Reassembly,
 }
 
 impl Measurement {
     /// Each of them, in the order in which they are made.
-    pub const ALL: [Measurement; 9] = [
+    pub const ALL: [Measurement; 10] = [
         Measurement::Slicing,
         Measurement::SlicingApart,
         Measurement::Filling,
@@ -58,6 +60,7 @@ impl Measurement {
         Measurement::SlicingIpv4,
         Measurement::ReadingIpHeaders,
         Measurement::Building,
+        Measurement::BuildingFromAddresses,
         Measurement::Reassembly,
     ];
 
@@ -74,6 +77,7 @@ impl Measurement {
             Measurement::SlicingIpv4 => "ipv4-slice",
             Measurement::ReadingIpHeaders => "ip-headers",
             Measurement::Building => "building",
+            Measurement::BuildingFromAddresses => "building-from-addresses",
             Measurement::Reassembly => "reassembly",
         }
     }
@@ -88,7 +92,9 @@ impl Measurement {
             | Measurement::Rereading
             | Measurement::Reassembly => corpus.frames.len(),
             Measurement::SlicingIpv4 | Measurement::ReadingIpHeaders => corpus.ip_packets.len(),
-            Measurement::Building => corpus.frame_parts.len(),
+            Measurement::Building | Measurement::BuildingFromAddresses => {
+                corpus.frame_parts.len()
+            }
         }
     }
 
@@ -105,6 +111,9 @@ impl Measurement {
                 corpus.ip_packets.as_slice(),
             )),
             Measurement::Building => built(alloc, corpus.frame_parts.as_slice()),
+            Measurement::BuildingFromAddresses => {
+                built_from_addresses(alloc, corpus.frame_parts.as_slice())
+            }
             Measurement::Reassembly => handed_out(alloc, corpus.frames.as_slice()),
         }
     }

@@ -1,6 +1,6 @@
-use Rattle.std.proofs.Common.{◌≡◌, ◌+◌, ◌-◌, ◌%◌, ◌∙◌, drop, take, set, arith}
-use Rattle.std.proofs.lemmas.List.{length-drop, length-set, take_all}
-use Rattle.line_io.proofs.DecimalLemmas.{AreLastDigits-first, AreLastDigits-more, HasRoom-front, HasRoom-more}
+use Rattle.std.proofs.Common.{ℕ, List, ◌<◌, ◌+◌, ◌-◌, ◌%◌, ◌∙◌, OnErr, drop, length, subst, take, set, arith, vec_capacity, vec_len}
+use Rattle.std.proofs.lemmas.List.{length-set}
+use Rattle.line_io.proofs.DecimalLemmas.{AreLastDigits-more, HasRoom-front, HasRoom-more, digits-whole}
 use Rattle.line_io.proofs.ResultLemmas.{OnOk-appended}
 use Rattle.line_io.proofs.decimals.push.Goals as goal
 
@@ -15,15 +15,18 @@ digits-preserved c =
           (omega (arith, known.0, known.1)) known.2 c.digits-test.true c.digits.auto.rest-fits.fits,
     )
 
-pub returns : goal.returns
-returns c =
+pub returns-clause-text : goal.returns-clause-text
+returns-clause-text c =
     let known = c.digits.invariant in
     let written = set c.digits.digits c.digits.start (48 + c.digits.rest) in
-    let behind = drop c.digits.start written in
-    let long = length-set c.digits.digits c.digits.start (48 + c.digits.rest) in
-    let whole : take (20 - c.digits.start) behind ≡ behind =
-    take_all (20 - c.digits.start) behind (omega (arith, length-drop c.digits.start written, long, known.0)) in
     OnOk-appended c.extend_from_slice.result c.args.output.now.items c.extend_from_slice.new.self.items
-    (take (20 - c.digits.start) behind) _ c.extend_from_slice.ensures.items
-    (whole ∙ AreLastDigits-first c.args.number c.digits.rest c.digits.start c.digits.digits known.3
-    (omega (arith, known.0, known.1)) c.digits-test.false)
+    (take (20 - c.digits.start) (drop c.digits.start written)) _ c.extend_from_slice.ensures.items
+    (digits-whole c.args.number c.digits.rest c.digits.start c.digits.digits known.0 known.1 known.3 c.digits-test.false)
+
+pub returns-clause-full : goal.returns-clause-full
+returns-clause-full c =
+    let known = c.digits.invariant in
+    subst (λ (text : List ℕ). OnErr c.extend_from_slice.result
+    (vec_capacity c.args.output.now < vec_len c.args.output.now + length text))
+    (digits-whole c.args.number c.digits.rest c.digits.start c.digits.digits known.0 known.1 known.3 c.digits-test.false)
+    c.extend_from_slice.ensures.full

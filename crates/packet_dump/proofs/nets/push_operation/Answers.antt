@@ -16,4 +16,4 @@ returns c =
     (λ last.
     last ∙ (λ i. start ++ (codes " arp operation " ++ decimal (c.from.ensures i)))
     ∙ ap (λ (t : List ℕ). start ++ t) (sym (neither c.args.operation _ _ _ c.if-operation-eq1.false c.if-operation-eq2.false)))
-    c.push_behind.ensures
+    c.push_behind.ensures.text

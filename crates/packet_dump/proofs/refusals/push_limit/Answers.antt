@@ -17,4 +17,4 @@ returns c =
     three_parts start c.extend_from_slice.new.self.items c.extend_from_slice-2.new.self.items
     c.push_behind.new.output.items (codes " there (limit ") c.as_bytes.result.now offset
     c.in_ok-extend_from_slice.ensures.items c.in_ok-extend_from_slice-2.ensures.items last
-    ∙ (λ i. start ++ (codes " there (limit " ++ name i ++ offset))) c.push_behind.ensures
+    ∙ (λ i. start ++ (codes " there (limit " ++ name i ++ offset))) c.push_behind.ensures.text

@@ -18,5 +18,5 @@ returns c =
     (λ last.
     three_parts start c.extend_from_slice.new.self.items c.push_behind.new.output.items
     c.push_behind-2.new.output.items c.as_bytes.result.now needed there c.in_ok-extend_from_slice.ensures.items
-    c.in_ok-push_behind.ensures last
-    ∙ (λ i. start ++ (name i ++ needed ++ there))) c.push_behind-2.ensures
+    c.in_ok-push_behind.ensures.text last
+    ∙ (λ i. start ++ (name i ++ needed ++ there))) c.push_behind-2.ensures.text

@@ -18,6 +18,6 @@ returns c =
     (λ last.
     four_parts start c.extend_from_slice.new.self.items c.push_flags.new.output.items c.push_behind.new.output.items
     c.push_acknowledgment.new.output.items (codes " [") flags (codes "] seq " ++ decimal c.from.result) acknowledgment
-    c.in_ok-extend_from_slice.ensures.items c.in_ok-push_flags.ensures c.in_ok-push_behind.ensures last
+    c.in_ok-extend_from_slice.ensures.items c.in_ok-push_flags.ensures c.in_ok-push_behind.ensures.text last
     ∙ (λ i. start ++ (codes " [" ++ flags ++ (codes "] seq " ++ decimal (number i)) ++ acknowledgment)))
     c.push_acknowledgment.ensures

@@ -1,0 +1,22 @@
+use Rattle.line_io.specs.WatchedWords.{has_ended, inner_of}
+use Rattle.packet_dump.proofs.DumpLemmas.{Moves-summed, Moves-unsummed}
+use Rattle.packet_dump.proofs.dump_reader.Goals as goal
+use Rattle.packet_dump.proofs.dump_reader.Goals.{then-wanted+in_ok-summarized, else-wanted}
+
+pub returns-clause-ok : goal.returns-clause-ok
+returns-clause-ok g c =
+    let had = g.R.Read.remaining (inner_of c.args.reader.now) in
+    let has = g.R.Read.remaining (inner_of c.run.new.reader) in
+    let held = g.W.Write.contents (inner_of c.args.writer.now) in
+    let holds = g.W.Write.contents (inner_of c.run.new.writer) in
+    let ended = has_ended c.run.new.reader in
+    elim c.if-wanted.branch [
+      | then-wanted+in_ok-summarized w ↦
+          rw w.writer-is
+          (Moves-summed c.args.wanted c.args.view ended c.in_ok-ending.ending had has held holds
+          (g.W.Write.contents (inner_of w.summarized.new.writer)) w.if-wanted.true c.in_ok-ending.ensures.ok
+          w.in_ok-summarized.ensures.all)
+      | else-wanted w ↦
+          rw w.writer-is
+          (Moves-unsummed c.args.wanted c.args.view ended c.in_ok-ending.ending had has held holds c.in_ok-ending.ensures.ok)
+    ]
