@@ -1,27 +1,31 @@
 #!/usr/bin/env python3
 """Refuses each request for memory in turn, of built tests and of the built program: python3 refuse.py [--write]
 
-    rt test && (cd ../frame_bench && rt test && rt run < stdin)      # builds them
+    rt test && (cd ../frame_bench && rt test && rt run < stdin)      # builds them, and so does rt ci
 
-Runs each test of this crate, and each of frame_bench about memory, with its first request for memory refused, then
-with its second, until it meets no refusal (refuse.c, preloaded). Each run has to pass, and each request has to be named
-by the call that it is refused to; which requests are those of which call has to be what the file `requests` says; with
---write it is written there. Then the program frame_bench on its file `stdin`, and on random lines with many limits, the
-same way: a refused run ends with status 1 and `frame_bench: out of memory`, and what it wrote begins its answers.
+Runs each test of this crate but those of `ample`, and each of frame_bench about memory, with its first request for
+memory refused, then with its second, until it meets no refusal (refuse.c, preloaded). Each run has to pass, and each
+request has to be named by the call that it is refused to; which requests are those of which call has to be what the
+file `requests` says; with --write it is written there. Then the program frame_bench on its file `stdin`, and on random
+lines with many limits, the same way: a refused run ends with status 1 and `frame_bench: out of memory`, and what it
+wrote begins its answers. The status is 1 at the first difference.
 """
 import collections
+import difflib
 import os
 import pathlib
 import random
 import re
+import shutil
 import subprocess
 import sys
 import tempfile
 
 HERE = pathlib.Path(__file__).resolve().parent
 BENCH = HERE.parent / "frame_bench"
-# Where tests stand, and how the names of those begin that pass whatever is refused.
-TESTS = [(HERE, ""), (BENCH, "tests::memory::")]
+# Where tests stand, and how the names begin of those that pass whatever is refused, and of those among them that ask
+# too often for that to be tried.
+TESTS = [(HERE, "", "ample::"), (BENCH, "tests::memory::", None)]
 MOST = 100_000
 # Random lines, of which so many are limits.
 LINES, LIMITS = 2000, 50
@@ -46,7 +50,10 @@ class Refusing:
     def __init__(self, folder):
         self.library = str(folder / "refuse.so")
         self.met = folder / "met"
-        command = ["cc", "-O2", "-shared", "-fPIC", "-o", self.library, str(HERE / "refuse.c")]
+        compiler = next(filter(shutil.which, ["cc", "gcc", "clang"]), None)
+        if compiler is None:
+            sys.exit("no C compiler")
+        command = [compiler, "-O2", "-shared", "-fPIC", "-o", self.library, str(HERE / "refuse.c")]
         subprocess.run(command, check=True)
 
     def run(self, command, nth, given=b""):
@@ -87,17 +94,23 @@ def ranges(numbers):
 def table_of(refusing):
     """Which requests are those of which call, in a line for each call of each test."""
     rows = []
-    for folder, begin in TESTS:
+    for folder, begin, often in TESTS:
         program = built(folder, f"{folder.name}_tests")
         listed = subprocess.run([program, "--list"], capture_output=True, text=True, check=True).stdout
         for test in re.findall(r"^(\S+): test$", listed, re.MULTILINE):
-            if not test.startswith(begin):
+            if not test.startswith(begin) or (often and test.startswith(often)):
                 continue
             numbers = collections.defaultdict(list)
             for nth, call in enumerate(requests_of(refusing, program, test), 1):
                 numbers[call].append(nth)
             rows += [(folder.name, test, asked, call) for call, asked in numbers.items()]
     return "".join(f"{name}: {test}: {call}: {ranges(asked)}\n" for name, test, asked, call in sorted(rows))
+
+
+def requests_in(table):
+    """How many requests a table names."""
+    spans = re.findall(r"(\d+)(?:-(\d+))?", " ".join(line.rpartition(": ")[2] for line in table.splitlines()))
+    return sum(int(last or first) - int(first) + 1 for first, last in spans)
 
 
 def program_refused(refusing, name, given, wanted):
@@ -134,8 +147,9 @@ def main(arguments):
         if arguments == ["--write"]:
             file.write_text(table)
         elif table != file.read_text():
-            sys.exit(f"not what {file.name} says:\n{table}")
-        print(f"tests: {table.count(chr(10))} calls, each request of which was refused")
+            lines = difflib.unified_diff(file.read_text().splitlines(), table.splitlines(), file.name, "now", "", "", 0, "")
+            sys.exit("\n".join(lines))
+        print(f"tests: {requests_in(table)} requests of {table.count(chr(10))} calls refused in turn")
         program_refused(refusing, "stdin", (BENCH / "stdin").read_bytes(), (BENCH / "stdout").read_bytes())
         program_refused(refusing, f"{LINES:,} random lines", *random_lines())
 

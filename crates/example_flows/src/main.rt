@@ -1,7 +1,7 @@
 //! Counts the TCP segments of each flow among Ethernet frames, which stand in lines of hexadecimal.
 #![tactic(auto)]
 
-ghost use Rattle.std.specs.Prelude.{◌≡◌};
+ghost use Rattle.std.specs.Prelude.{◌≡◌, Ok};
 ghost use Rattle.etherparse.specs.Types.Entry.TheVariants.{Ethernet as ethernet};
 ghost use Rattle.etherparse.specs.Frame.{IsFrame};
 ghost use Rattle.etherparse.specs.Layers.{Layers, layers_of};
@@ -42,7 +42,8 @@ fn main(rt: HostRuntime) -> io::Result<()> {
 pub fn add_segment(flows: &mut Flows, frame: &[u8]) -> Result<(), AllocError>
     ensures frames { (layers : Layers) → IsFrame ethernet frame.now layers
         → Counts ⟦<(SocketAddr, SocketAddr) as Ord>⟧.cmp layers flows.old flows.new result }
-    ensures others { ((layers : Layers) → ¬ IsFrame ethernet frame.now layers) → flows.new ≡ flows.old }
+    ensures others { ((layers : Layers) → ¬ IsFrame ethernet frame.now layers) →
+        (flows.new ≡ flows.old) × (result ≡ Ok tt) }
 {
     match SlicedPacket::from_ethernet(frame) {
         Ok(packet) => add_packet(flows, &packet),

@@ -20,6 +20,10 @@ import answers
 
 VLAN_TYPES = [0x8100, 0x88A8, 0x9100]
 EXTENSIONS = [0, 43, 44, 51, 60]
+# The VLAN identifiers of a stream's frames, the innermost first, where None is a MACsec tag: some differ in their order
+# alone, in how many they are, or in any one of three.
+STREAM_TAGS = [[], [], [], [1], [1], [2], [1, 2], [2, 1], [None, 1]]
+STREAM_TAGS += [[1, 2, 3], [1, 2, 4], [1, 4, 3], [3, 2, 1], [4, 2, 1]]
 # How often a field is not what the other fields ask for.
 SELDOM = 0.06
 
@@ -220,6 +224,8 @@ class Lines:
         self.now = 0
         # Fragments that are still to be given, of payloads that were cut.
         self.waiting = []
+        # The stream of the last fragment of any length.
+        self.last = None
 
     def number(self, value):
         """A number as a word, with leading zeros now and then."""
@@ -243,13 +249,18 @@ class Lines:
         an IPv6 fragment header, or whether an IPv4 header is authenticated.
         """
         version = self.chance.choice([4, 4, 6])
-        tags = self.chance.choice([[], [], [], [1], [1], [2], [1, 2], [None, 1]])
+        tags = self.chance.choice(STREAM_TAGS)
         address = int(self.frames.seldom(0.2))
         number = self.chance.choice([17, 17, 17, 253, 6])
         behind = []
         if self.frames.seldom(0.15):
             behind = [51] if version == 4 else self.chance.choice([[60], [43], [44], [51], [60, 44], [51, 60]])
         return version, tags, address, identification, number, behind
+
+    def beside(self, stream):
+        """A stream that differs from another in its tags alone, if at all."""
+        version, _, *others = stream
+        return version, self.chance.choice(STREAM_TAGS), *others
 
     def fragment(self, stream, offset, more, data):
         """A frame that carries a fragment."""
@@ -280,11 +291,22 @@ class Lines:
         length = self.chance.choice([0, 8, 8, 8, 16, 24])
         if self.frames.seldom(0.1):
             length = self.chance.choice([1, 7, 9, 15, 33])
-        return self.fragment(self.stream(self.chance.randrange(2)), offset, self.frames.seldom(0.6), self.chance.randbytes(length))
+        is_beside = self.last is not None and self.frames.seldom(0.5)
+        self.last = self.beside(self.last) if is_beside else self.stream(self.chance.randrange(2))
+        return self.fragment(self.last, offset, self.frames.seldom(0.6), self.chance.randbytes(length))
 
     def cut(self):
-        """Cuts of one payload, in any order and with repeats, to be given among other lines."""
+        """Cuts of one payload, or of two whose streams differ in their tags, to be given among other lines."""
         stream, channel = self.stream(self.chance.randrange(2, 8)), self.channel()
+        cuts = [(stream, channel, part) for part in self.parts()]
+        if self.frames.seldom(0.3):
+            other = self.beside(stream)
+            cuts += [(other, channel, part) for part in self.parts()]
+            self.chance.shuffle(cuts)
+        self.waiting.extend(reversed(cuts))
+
+    def parts(self):
+        """Cuts of one payload, in any order and with repeats."""
         whole = self.chance.randbytes(self.chance.choice([40, 41, 64, 200, 1000, self.chance.randrange(3000)]))
         if self.frames.seldom(0.01):
             whole = self.chance.randbytes(self.chance.choice([65527, 65528, 65535]))
@@ -298,7 +320,7 @@ class Lines:
             self.chance.shuffle(parts)
         for _ in range(self.chance.randrange(3)):
             parts.insert(self.chance.randrange(len(parts) + 1), self.chance.choice(parts or [(0, False, b"")]))
-        self.waiting.extend((stream, channel, part) for part in reversed(parts))
+        return parts
 
     def pool_line(self):
         if len(self.waiting) < 20 and self.frames.seldom(0.2):

@@ -1,13 +1,13 @@
 //! How the program ends.
 
-ghost use Rattle.std.specs.Prelude.{◌≡◌};
+ghost use Rattle.std.specs.Prelude.{List, ◌≡◌, ℕ};
 ghost use Rattle.std.specs.Option.{option_map};
 ghost use Rattle.frame_bench.specs.Endings.{complaint_of, run_error_text, status_of};
 
 use line_io::RunError;
 
 /// How the program ends after a run.
-#[derive(Drop)]
+#[derive(Debug, Drop)]
 pub struct Ending {
     /// The status of the process.
     pub status: u8,
@@ -28,19 +28,29 @@ impl Ending {
             },
             Err(error) => Ending {
                 status: 1,
-                complaint: Some(error_text(&error)),
+                complaint: Some(error.text()),
             },
         }
     }
 }
 
-/// The line for standard error after an error, without its line feed.
-pub fn error_text(error: &RunError) -> &'static str
-    ensures { result.now ≡ run_error_text error.now }
-{
-    match error {
-        RunError::Read => "frame_bench: read failed",
-        RunError::Write => "frame_bench: write failed",
-        RunError::OutOfMemory => "frame_bench: out of memory",
+/// An error with a line of text for standard error.
+pub trait ErrorText {
+    ghost text_of: { Self → List ℕ };
+
+    /// The line, without its line feed.
+    fn text(&self) -> &'static str
+        ensures { result.now ≡ text_of self.now };
+}
+
+impl ErrorText for RunError {
+    ghost text_of = { run_error_text };
+
+    fn text(&self) -> &'static str {
+        match self {
+            RunError::Read => "frame_bench: read failed",
+            RunError::Write => "frame_bench: write failed",
+            RunError::OutOfMemory => "frame_bench: out of memory",
+        }
     }
 }

@@ -18,6 +18,13 @@
 //! Any other line is answered `err line`.
 #![tactic(auto)]
 
+ghost use Rattle.std.specs.Prelude.{◌≡◌, ◌≢◌, ◌≤◌, ◌⊎◌, false, true};
+ghost use Rattle.std.specs.Process.{exit_status};
+ghost use Rattle.line_io.specs.Transfers.{Transfers};
+ghost use Rattle.line_io.specs.WatchedWords.{has_ended, has_failed};
+ghost use Rattle.frame_bench.specs.Answers.{AnswersTo, BeginsAnswersTo};
+ghost use Rattle.frame_bench.specs.Endings.{status_of};
+
 pub mod ending;
 pub mod engine;
 mod hex_text;
@@ -33,13 +40,44 @@ mod texts;
 
 use crate::ending::Ending;
 use crate::engine::run;
-use line_io::Watched;
+pub use line_io::{RunError, Watched};
+use std::alloc::Global;
+use std::io::{Read, Write};
 use std::process::ExitCode;
 
 fn main(rt: HostRuntime) -> ExitCode {
     let mut reader = Watched::new(rt.stdin(), u64::MAX);
     let mut writer = Watched::new(rt.stdout(), 0);
-    let ending = Ending::after(run(rt.alloc(), &mut reader, &mut writer));
+    answered(&rt, rt.alloc(), &mut reader, &mut writer)
+}
+
+/// Answers the lines of a reader in a writer. The status is 0 where all are answered, and else 1, and why is said on
+/// standard error.
+fn answered<R: Read, W: Write>(
+    rt: &impl Eprint,
+    alloc: Global,
+    reader: &mut Watched<R>,
+    writer: &mut Watched<W>,
+) -> ExitCode
+    requires reader_sound { has_failed reader.old ≡ false }
+    requires reader_open { has_ended reader.old ≡ false }
+    requires writer_sound { has_failed writer.old ≡ false }
+    ensures whole { exit_status result ≡ 0 → Transfers AnswersTo R.remaining reader.old reader.new
+        W.contents writer.old writer.new }
+    ensures begun { exit_status result ≢ 0 → Transfers BeginsAnswersTo R.remaining reader.old reader.new
+        W.contents writer.old writer.new }
+    ensures ended { exit_status result ≡ 0 → has_ended reader.new ≡ true }
+    ensures failed { has_failed reader.new ≡ true ⊎ has_failed writer.new ≡ true → exit_status result ≡ 1 }
+    ensures status { exit_status result ≤ 1 }
+{
+    ended(rt, run(alloc, reader, writer))
+}
+
+/// How the program ends after a run.
+fn ended(rt: &impl Eprint, outcome: Result<(), RunError>) -> ExitCode
+    ensures { exit_status result ≡ status_of outcome }
+{
+    let ending = Ending::after(outcome);
     if let Some(complaint) = ending.complaint {
         let _ = rt.eprintln(complaint);
     }

@@ -110,6 +110,46 @@ fn overlapping(rt: HostRuntime) {
     );
 }
 
+/// Each fragment comes twice, and then one over both of the first.
+const REPEATED: [Step; 6] = [
+    (0, true, b"abcdefgh"),
+    (0, true, b"abcdefgh"),
+    (1, true, b"ijklmnop"),
+    (1, true, b"ijklmnop"),
+    (0, true, b"ABCDEFGHIJKLMNOP"),
+    (2, false, b"qrst"),
+];
+
+#[test]
+fn repeated(rt: HostRuntime) {
+    makes(
+        &rt,
+        rt.alloc(),
+        "add, repeated",
+        &REPEATED,
+        b"ABCDEFGHIJKLMNOPqrst",
+    );
+}
+
+/// A final fragment over one that does not say so, and the gap is filled last.
+const LAST_FILLS: [Step; 4] = [
+    (0, true, b"abcdefghijklmnop"),
+    (4, true, b"ABCDEFGHIJKLMNOP"),
+    (4, false, b"0123456789ABCDEF"),
+    (2, true, b"qrstuvwxyzqrstuv"),
+];
+
+#[test]
+fn last_fills(rt: HostRuntime) {
+    makes(
+        &rt,
+        rt.alloc(),
+        "add, the gap last",
+        &LAST_FILLS,
+        b"abcdefghijklmnopqrstuvwxyzqrstuv0123456789ABCDEF",
+    );
+}
+
 /// 2,000 bytes, and a final fragment without bytes.
 const LARGE_AND_EMPTY: [Step; 2] = [(0, true, &[7; 2000]), (250, false, b"")];
 

@@ -185,7 +185,7 @@ fn of_frames(rt: HostRuntime) {
 }
 
 /// A fragment of a list.
-fn fragment(
+pub fn fragment(
     rt: &impl Abort,
     units: u16,
     more_fragments: bool,
@@ -198,11 +198,13 @@ fn fragment(
     }
 }
 
-/// What a new buffer without room puts together.
+/// What a new buffer without room puts together of 8, 8 and 4 bytes, where the first come again, alone and together.
 fn put_together(rt: &impl Abort, alloc: Global) -> Result<IpDefragBuf, RunStop> {
     let fragments = [
+        fragment(rt, 0, true, b"________"),
         fragment(rt, 0, true, b"abcdefgh"),
-        fragment(rt, 1, true, b"ijklmnop"),
+        fragment(rt, 1, true, b"________"),
+        fragment(rt, 0, true, b"abcdefghijklmnop"),
         fragment(rt, 2, false, b"qrst"),
     ];
     match add_all(

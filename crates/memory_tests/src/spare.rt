@@ -7,13 +7,13 @@ use etherparse::*;
 use std::alloc::Global;
 use std::process::Abort;
 
-type Pool = IpDefragPool<u64, u8>;
+pub type Pool = IpDefragPool<u64, u8>;
 
 /// Two fragments of a payload, of which the second is final and starts where the first ends.
 type Halves = (&'static [u8], &'static [u8]);
 
 /// The answer to a fragment of a stream, and where that was refused, the answer to it when it comes again.
-fn answer(
+pub fn answer(
     rt: &(impl Abort + Print),
     pool: &mut Pool,
     identification: u16,
@@ -29,6 +29,16 @@ fn answer(
     }
 }
 
+/// A stream begins with these bytes.
+pub fn begins(rt: &(impl Abort + Print), pool: &mut Pool, identification: u16, payload: &[u8]) {
+    let fragment = Fragment {
+        offset: offset(rt, 0),
+        more_fragments: true,
+        payload,
+    };
+    same(rt, &answer(rt, pool, identification, &fragment), &None);
+}
+
 /// The payload of a stream of two fragments.
 fn completed(
     rt: &(impl Abort + Print),
@@ -36,12 +46,7 @@ fn completed(
     identification: u16,
     (first, last): Halves,
 ) -> IpDefragPayloadVec {
-    let fragment = Fragment {
-        offset: offset(rt, 0),
-        more_fragments: true,
-        payload: first,
-    };
-    same(rt, &answer(rt, pool, identification, &fragment), &None);
+    begins(rt, pool, identification, first);
     let units = u16::try_from(first.len() / 8).unwrap_or(0);
     let fragment = Fragment {
         offset: offset(rt, units),
@@ -103,6 +108,63 @@ fn steady(rt: HostRuntime) {
         let whole = completed(&rt, &mut pool, identification, (b"abcdefgh", b"ijkl"));
         pool.return_buf(whole);
     }
+    asks_once(&rt, rt.alloc());
+}
+
+/// Streams begin and are dropped, one after the other: after the first one none asks for memory.
+#[test]
+fn dropped(rt: HostRuntime) {
+    let mut pool = IpDefragPool::new(rt.alloc());
+    for identification in 0..3 {
+        begins(&rt, &mut pool, identification, b"abcdefgh");
+        pool.retain(|_timestamp| false);
+    }
+    asks_once(&rt, rt.alloc());
+}
+
+/// What a refused fragment would have begun its stream with serves the next one.
+#[test]
+fn refused_first(rt: HostRuntime) {
+    let mut pool = IpDefragPool::new(rt.alloc());
+    begins(&rt, &mut pool, 1, b"abcdefgh");
+    pool.retain(|_timestamp| false);
+    let unaligned = Fragment {
+        offset: offset(&rt, 1),
+        more_fragments: true,
+        payload: b"1234567",
+    };
+    let refusal = IpDefragError::UnalignedFragmentPayloadLen {
+        offset: offset(&rt, 1),
+        payload_len: 7,
+    };
+    let answer = pool.process_fragment(name(2), &unaligned, 1);
+    same(&rt, &answer, &Err(refusal));
+    begins(&rt, &mut pool, 3, b"abcdefgh");
+    asks_once(&rt, rt.alloc());
+}
+
+/// Gives a payload of another origin to a pool.
+fn gives(rt: &(impl Abort + Print), alloc: Global, pool: &mut Pool) {
+    pool.return_buf(IpDefragPayloadVec {
+        ip_number: IpNumber::UDP,
+        len_source: LenSource::Slice,
+        payload: full(rt, alloc, b"abcdefgh"),
+    });
+}
+
+/// Where as many vectors lie as have a place, and there were four streams at once, a second one asks for no place.
+#[test]
+fn full_of_vectors(rt: HostRuntime) {
+    let mut pool = IpDefragPool::new(rt.alloc());
+    for identification in 1..5 {
+        begins(&rt, &mut pool, identification, b"abcdefgh");
+    }
+    pool.retain(|_timestamp| false);
+    begins(&rt, &mut pool, 5, b"abcdefgh");
+    for _ in 0..8 {
+        gives(&rt, rt.alloc(), &mut pool);
+    }
+    begins(&rt, &mut pool, 6, b"abcdefgh");
     asks_once(&rt, rt.alloc());
 }
 

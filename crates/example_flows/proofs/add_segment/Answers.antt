@@ -11,5 +11,5 @@ returns-in-Ok c = record {
 pub returns-in-Err : goal.returns-in-Err
 returns-in-Err c = record {
   frames = λ layers is. absurd (c.in-Err.ensures.only layers is);
-  others = λ none. refl;
+  others = λ none. (refl, refl);
 }

@@ -1,23 +1,19 @@
 //! Numbers as decimal digits, to the greatest.
 
 use line_io::decimals::push;
-use std::test::Fail;
+use std::alloc::Global;
+use std::process::Abort;
 
-const ROWS: [(u64, &[u8]); 6] = [
-    (0, b"0"),
-    (9, b"9"),
-    (10, b"10"),
-    (99_999, b"99999"),
-    (10_000_000_000_000_000_000, b"10000000000000000000"),
-    (u64::MAX, b"18446744073709551615"),
-];
+/// A number is written by these digits.
+fn writes(rt: &impl Abort, alloc: Global, number: u64, digits: &[u8]) {
+    let mut output = Vec::new(alloc);
+    assert!(rt; push(&mut output, number).is_ok());
+    assert!(rt; output.as_slice() == digits);
+}
 
 #[test]
-fn numbers(rt: HostRuntime) -> Result<(), Fail> {
-    for (number, digits) in ROWS {
-        let mut output = Vec::new(rt.alloc());
-        push(&mut output, number)?;
-        assert!(rt; output.as_slice() == digits);
-    }
-    Ok(())
+fn numbers(rt: HostRuntime) {
+    writes(&rt, rt.alloc(), 0, b"0");
+    writes(&rt, rt.alloc(), 10, b"10");
+    writes(&rt, rt.alloc(), u64::MAX, b"18446744073709551615");
 }

@@ -1,7 +1,7 @@
 //! Runs of which one request for memory is refused: `memory_tests/refuse.py` refuses each in turn, and each of the
 //! program on its file `stdin` too.
 
-use super::limits;
+use super::rows;
 use super::streams::{Turn, WHOLE, ending_of};
 use std::alloc::Global;
 use std::process::Abort;
@@ -56,7 +56,7 @@ fn four_frames(rt: HostRuntime) {
     answers(&rt, rt.alloc(), FRAMES, FOUR);
 }
 
-/// The lines of the first run with limits, one by one.
+/// The lines with limits, one by one.
 const LIMITS: &[Turn] = &[
     Turn::Moves(12),
     Turn::Moves(9),
@@ -71,5 +71,5 @@ const LIMITS: &[Turn] = &[
 /// Each line that gives a limit is answered, or the run ends there; and the new pool asks anew for what it holds.
 #[test]
 fn limit_lines(rt: HostRuntime) {
-    answers(&rt, rt.alloc(), LIMITS, limits::RUNS[0]);
+    answers(&rt, rt.alloc(), LIMITS, rows::LIMITS);
 }

@@ -2,15 +2,14 @@
 
 ghost use Rattle.std.specs.Prelude.{◌≤◌, IfOk};
 
-use super::{fragments, frames, texts_of};
-use crate::ending::error_text;
+use super::rows;
+use crate::ending::ErrorText;
 use crate::engine::run;
 use line_io::{RunError, Watched};
 use std::alloc::Global;
 use std::io;
 use std::io::{ErrorKind, Read, Write};
 use std::process::Abort;
-use std::test::Fail;
 
 /// What a call of a reader or a writer does.
 #[derive(Clone, Copy)]
@@ -132,7 +131,7 @@ fn assert_streams(rt: &impl Abort, alloc: Global, streams: &Streams, input: &[u8
 pub(super) const WHOLE: &[Turn] = &[Turn::Moves(usize::MAX)];
 
 /// Each call moves one byte.
-pub(super) const SINGLE: &[Turn] = &[Turn::Moves(1)];
+const SINGLE: &[Turn] = &[Turn::Moves(1)];
 
 /// Three lines, the last without its line feed.
 const LINES: &[u8] = b"a\nslice eth -\nb";
@@ -252,21 +251,14 @@ const STREAMS: [Streams; 13] = [
 ];
 
 #[test]
-fn moves_little_or_fails(rt: HostRuntime) -> Result<(), Fail> {
+fn moves_little_or_fails(rt: HostRuntime) {
     for streams in &STREAMS {
         assert_streams(&rt, rt.alloc(), streams, LINES, ANSWERS);
     }
-    // Each row, a byte at a time, and each run on one pool.
-    let (input, wanted) = texts_of(rt.alloc(), &frames::ROWS)?;
-    assert_single(&rt, rt.alloc(), input.as_slice(), wanted.as_slice());
-    for (input, wanted) in fragments::RUNS {
-        assert_single(&rt, rt.alloc(), input.as_bytes(), wanted.as_bytes());
-    }
-    Ok(())
 }
 
 /// Runs with a reader and a writer that move a byte a call.
-fn assert_single(rt: &impl Abort, alloc: Global, input: &[u8], wanted: &[u8]) {
+fn assert_single(rt: &impl Abort, alloc: Global, (input, wanted): rows::Row) {
     let streams = Streams {
         reading: SINGLE,
         writing: SINGLE,
@@ -274,12 +266,18 @@ fn assert_single(rt: &impl Abort, alloc: Global, input: &[u8], wanted: &[u8]) {
         calls: (input.len().saturating_add(1), wanted.len()),
         written: wanted.len(),
     };
-    assert_streams(rt, alloc, &streams, input, wanted);
+    assert_streams(rt, alloc, &streams, input.as_bytes(), wanted.as_bytes());
+}
+
+#[test]
+fn moves_single_bytes(rt: HostRuntime) {
+    assert_single(&rt, rt.alloc(), rows::STREAMS_BY_VLAN);
+    assert_single(&rt, rt.alloc(), rows::LIMITS);
 }
 
 #[test]
 fn tells_each_failure(rt: HostRuntime) {
-    assert!(rt; error_text(&RunError::Read) == "frame_bench: read failed");
-    assert!(rt; error_text(&RunError::Write) == "frame_bench: write failed");
-    assert!(rt; error_text(&RunError::OutOfMemory) == "frame_bench: out of memory");
+    assert!(rt; RunError::Read.text() == "frame_bench: read failed");
+    assert!(rt; RunError::Write.text() == "frame_bench: write failed");
+    assert!(rt; RunError::OutOfMemory.text() == "frame_bench: out of memory");
 }

@@ -11,5 +11,5 @@ returns c =
     let last = space ∷ decimal c.args.max in
     OnOk-appended_two c.push_behind.result c.args.output.now.items c.push_pair.new.output.items
     c.push_behind.new.output.items (codes "err too-big " ++ (decimal c.args.offset ++ pair)) last _
-    (rw c.from.ensures at c.in_ok-push_pair.ensures) (rw c.from-2.ensures at c.push_behind.ensures)
+    (rw c.from.ensures at c.in_ok-push_pair.ensures) (rw c.from-2.ensures at c.push_behind.ensures.text)
     (ap (λ t. codes "err too-big " ++ t) (append_assoc (decimal c.args.offset) pair last))
