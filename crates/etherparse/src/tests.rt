@@ -8,3 +8,5 @@ mod example;
 mod hostile;
 mod packet;
 mod samples;
+mod sizes;
+mod upstream;

@@ -1,4 +1,5 @@
-//! What each public type derives. A derive that nothing calls could be dropped unnoticed.
+//! What each public type derives. A derive that nothing calls could be dropped unnoticed. A tuple derives what all of its
+//! parts do.
 
 use std::error::Error;
 use std::fmt::Debug;
@@ -9,16 +10,16 @@ mod ip;
 mod link;
 mod transport;
 
-fn is_copied_ordered_and_hashed<T: Copy + Debug + Eq + Ord + Hash>() {}
+fn are_copied_ordered_and_hashed<T: Copy + Debug + Eq + Ord + Hash>() {}
 
-fn is_ordered_and_hashed<T: Clone + Debug + Eq + Ord + Hash>() {}
+fn are_ordered_and_hashed<T: Clone + Debug + Eq + Ord + Hash>() {}
 
-fn is_hashed<T: Clone + Debug + Eq + Hash>() {}
+fn are_hashed<T: Clone + Debug + Eq + Hash>() {}
 
-fn is_error<T: Clone + Debug + Eq + Hash + Error>() {}
+fn are_errors<A: Error, B: Error, C: Error>() {}
 
 fn is_copied<T: Copy + Debug + Eq>() {}
 
-fn is_compared<T: Clone + Debug + Eq>() {}
+fn are_compared<T: Clone + Debug + Eq>() {}
 
-fn has_default<T: Default>() {}
+fn have_defaults<T: Default>() {}

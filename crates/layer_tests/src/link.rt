@@ -5,3 +5,4 @@ mod frames;
 mod link_ext;
 mod macsec;
 mod vlan;
+mod writes;

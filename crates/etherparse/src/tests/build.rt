@@ -1,5 +1,4 @@
-//! Built frames: rows from outside, each read back by every entry of its first layer; refusals; and that the greatest
-//! are written where there is memory.
+//! Built frames: rows from outside; refusals; and that the greatest are written where there is memory.
 
 use crate::err::packet::BuildWriteError;
 use crate::tests::checks::{same, shows};

@@ -9,12 +9,13 @@ use std::alloc::{AllocError, Global};
 use std::process::Abort;
 
 mod buffers;
+mod drops;
 mod frames;
 mod late_ends;
 mod limits;
 pub(crate) mod lists;
+pub(crate) mod names;
 pub(crate) mod pool;
-mod sections;
 
 /// So many bytes: those that rise by 1 from the first, modulo 256, or zeros.
 #[derive(Clone, Copy)]

@@ -7,6 +7,7 @@ use crate::defrag::IpDefragPool;
 use crate::tests::checks::same;
 use crate::tests::defrag::lists::Halved;
 use crate::tests::defrag::pool::*;
+use crate::tests::sizes::ALIKE;
 use crate::{LenSource, SlicedPacket};
 use std::alloc::Global;
 use std::hash::{Hash, Hasher};
@@ -100,10 +101,10 @@ fn hand_out(
     }
 }
 
-/// 1,000 streams whose names all hash alike: all begin, and then each is completed.
+/// Streams whose names all hash alike: all begin, and then each is completed.
 #[test]
 fn many_alike_names(rt: HostRuntime) {
     let mut pool = IpDefragPool::new(rt.alloc());
-    hand_out(&rt, &mut pool, 0..1000, (VLAN_1_FIRST, b""));
-    hand_out(&rt, &mut pool, 0..1000, (VLAN_1_LAST, WHOLE));
+    hand_out(&rt, &mut pool, 0..ALIKE, (VLAN_1_FIRST, b""));
+    hand_out(&rt, &mut pool, 0..ALIKE, (VLAN_1_LAST, WHOLE));
 }

@@ -13,60 +13,87 @@ use ep_base::{
 
 #[test]
 fn copied_ordered_and_hashed() {
-    is_copied_ordered_and_hashed::<EtherType>();
-    is_copied_ordered_and_hashed::<IpFragOffset>();
-    is_copied_ordered_and_hashed::<IpNumber>();
-    is_copied_ordered_and_hashed::<Ipv4Dscp>();
-    is_copied_ordered_and_hashed::<Ipv4Ecn>();
-    is_copied_ordered_and_hashed::<Ipv6FlowLabel>();
-    is_copied_ordered_and_hashed::<LenSource>();
-    is_copied_ordered_and_hashed::<MacsecAn>();
-    is_copied_ordered_and_hashed::<MacsecShortLen>();
-    is_copied_ordered_and_hashed::<VlanId>();
-    is_copied_ordered_and_hashed::<VlanPcp>();
+    are_copied_ordered_and_hashed::<
+        (
+            EtherType,
+            IpFragOffset,
+            IpNumber,
+            Ipv4Dscp,
+            Ipv4Ecn,
+            Ipv6FlowLabel,
+            LenSource,
+            MacsecAn,
+            MacsecShortLen,
+            VlanId,
+            VlanPcp,
+        ),
+    >();
 }
 
 #[test]
 fn ordered_and_hashed() {
-    is_ordered_and_hashed::<EtherPayloadSlice<'_>>();
-    is_ordered_and_hashed::<IpPayloadSlice<'_>>();
+    are_ordered_and_hashed::<(EtherPayloadSlice<'_>, IpPayloadSlice<'_>)>();
 }
 
 #[test]
 fn hashed() {
-    is_hashed::<Layer>();
-    is_hashed::<ValueType>();
+    are_hashed::<(Layer, ValueType)>();
 }
 
 #[test]
 fn errors() {
-    is_error::<LenError>();
-    is_error::<ValueTooBigError<usize>>();
-    is_error::<linux_sll::HeaderError>();
-    is_error::<linux_sll::HeaderSliceError>();
-    is_error::<macsec::HeaderError>();
-    is_error::<macsec::HeaderSliceError>();
-    is_error::<tcp::HeaderError>();
-    is_error::<tcp::HeaderSliceError>();
-    is_error::<ip::HeaderError>();
-    is_error::<ip::HeadersError>();
-    is_error::<ip::HeadersSliceError>();
-    is_error::<ip::SliceError>();
-    is_error::<ip_auth::HeaderError>();
-    is_error::<ip_auth::HeaderSliceError>();
-    is_error::<ip_exts::ExtsWalkError>();
-    is_error::<ipv4::HeaderError>();
-    is_error::<ipv4::HeaderSliceError>();
-    is_error::<ipv4::SliceError>();
-    is_error::<ipv4_exts::ExtsWalkError>();
-    is_error::<ipv4_exts::HeaderWriteError>();
-    is_error::<ipv6::HeaderError>();
-    is_error::<ipv6::HeaderSliceError>();
-    is_error::<ipv6::SliceError>();
-    is_error::<ipv6_exts::ExtsWalkError>();
-    is_error::<ipv6_exts::HeaderError>();
-    is_error::<ipv6_exts::HeaderSliceError>();
-    is_error::<ipv6_exts::HeaderWriteError>();
+    are_hashed::<
+        (
+            LenError,
+            ValueTooBigError<usize>,
+            linux_sll::HeaderError,
+            linux_sll::HeaderSliceError,
+            macsec::HeaderError,
+            macsec::HeaderSliceError,
+            tcp::HeaderError,
+            tcp::HeaderSliceError,
+            ip::HeaderError,
+            ip::HeadersError,
+            ip::HeadersSliceError,
+            ip::SliceError,
+        ),
+    >();
+    are_hashed::<
+        (
+            ip_auth::HeaderError,
+            ip_auth::HeaderSliceError,
+            ip_exts::ExtsWalkError,
+            ipv4::HeaderError,
+            ipv4::HeaderSliceError,
+            ipv4::SliceError,
+            ipv4_exts::ExtsWalkError,
+            ipv4_exts::HeaderWriteError,
+            ipv6::HeaderError,
+            ipv6::HeaderSliceError,
+            ipv6::SliceError,
+            ipv6_exts::ExtsWalkError,
+        ),
+    >();
+    are_hashed::<
+        (
+            ipv6_exts::HeaderError,
+            ipv6_exts::HeaderSliceError,
+            ipv6_exts::HeaderWriteError,
+        ),
+    >();
+    are_errors::<LenError, ValueTooBigError<usize>, linux_sll::HeaderError>();
+    are_errors::<linux_sll::HeaderSliceError, macsec::HeaderError, macsec::HeaderSliceError>();
+    are_errors::<tcp::HeaderError, tcp::HeaderSliceError, ip::HeaderError>();
+    are_errors::<ip::HeadersError, ip::HeadersSliceError, ip::SliceError>();
+    are_errors::<ip_auth::HeaderError, ip_auth::HeaderSliceError, ip_exts::ExtsWalkError>();
+    are_errors::<ipv4::HeaderError, ipv4::HeaderSliceError, ipv4::SliceError>();
+    are_errors::<ipv4_exts::ExtsWalkError, ipv4_exts::HeaderWriteError, ipv6::HeaderError>();
+    are_errors::<ipv6::HeaderSliceError, ipv6::SliceError, ipv6_exts::ExtsWalkError>();
+    are_errors::<
+        ipv6_exts::HeaderError,
+        ipv6_exts::HeaderSliceError,
+        ipv6_exts::HeaderWriteError,
+    >();
 }
 
 #[test]
@@ -76,10 +103,10 @@ fn copied() {
 
 #[test]
 fn compared() {
-    is_compared::<Sum16BitWords>();
+    are_compared::<Sum16BitWords>();
 }
 
 #[test]
 fn defaults() {
-    has_default::<VlanId>();
+    have_defaults::<VlanId>();
 }

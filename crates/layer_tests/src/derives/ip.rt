@@ -15,42 +15,53 @@ use ep_ip::{
 
 #[test]
 fn errors() {
-    is_error::<BadOptionsLen>();
-    is_error::<ExtPayloadLenError>();
-    is_error::<IcvLenError>();
+    are_hashed::<(BadOptionsLen, ExtPayloadLenError, IcvLenError)>();
+    are_errors::<BadOptionsLen, ExtPayloadLenError, IcvLenError>();
 }
 
 #[test]
 fn compared() {
-    is_compared::<IpAuthHeader>();
-    is_compared::<IpAuthHeaderSlice<'_>>();
-    is_compared::<IpSlice<'_>>();
-    is_compared::<Ipv4Extensions>();
-    is_compared::<Ipv4ExtensionsSlice<'_>>();
-    is_compared::<Ipv4Header>();
-    is_compared::<Ipv4HeaderSlice<'_>>();
-    is_compared::<Ipv4Options>();
-    is_compared::<Ipv4Slice<'_>>();
-    is_compared::<Ipv6ExtensionSlice<'_>>();
-    is_compared::<Ipv6ExtensionSliceIter<'_>>();
-    is_compared::<Ipv6Extensions>();
-    is_compared::<Ipv6ExtensionsSlice<'_>>();
-    is_compared::<Ipv6FragmentHeader>();
-    is_compared::<Ipv6FragmentHeaderSlice<'_>>();
-    is_compared::<Ipv6Header>();
-    is_compared::<Ipv6HeaderSlice<'_>>();
-    is_compared::<Ipv6RawExtHeader>();
-    is_compared::<Ipv6RawExtHeaderSlice<'_>>();
-    is_compared::<Ipv6RoutingExtensions>();
-    is_compared::<Ipv6Slice<'_>>();
+    are_compared::<
+        (
+            IpAuthHeader,
+            IpAuthHeaderSlice<'_>,
+            IpSlice<'_>,
+            Ipv4Extensions,
+            Ipv4ExtensionsSlice<'_>,
+            Ipv4Header,
+            Ipv4HeaderSlice<'_>,
+            Ipv4Options,
+            Ipv4Slice<'_>,
+            Ipv6ExtensionSlice<'_>,
+            Ipv6ExtensionSliceIter<'_>,
+            Ipv6Extensions,
+        ),
+    >();
+    are_compared::<
+        (
+            Ipv6ExtensionsSlice<'_>,
+            Ipv6FragmentHeader,
+            Ipv6FragmentHeaderSlice<'_>,
+            Ipv6Header,
+            Ipv6HeaderSlice<'_>,
+            Ipv6RawExtHeader,
+            Ipv6RawExtHeaderSlice<'_>,
+            Ipv6RoutingExtensions,
+            Ipv6Slice<'_>,
+        ),
+    >();
 }
 
 #[test]
 fn defaults() {
-    has_default::<Ipv4Extensions>();
-    has_default::<Ipv4ExtensionsSlice<'_>>();
-    has_default::<Ipv4Header>();
-    has_default::<Ipv4Options>();
-    has_default::<Ipv6Extensions>();
-    has_default::<Ipv6Header>();
+    have_defaults::<
+        (
+            Ipv4Extensions,
+            Ipv4ExtensionsSlice<'_>,
+            Ipv4Header,
+            Ipv4Options,
+            Ipv6Extensions,
+            Ipv6Header,
+        ),
+    >();
 }

@@ -12,47 +12,52 @@ use ep_link::{
 
 #[test]
 fn copied_ordered_and_hashed() {
-    is_copied_ordered_and_hashed::<ArpHardwareId>();
-    is_copied_ordered_and_hashed::<ArpOperation>();
+    are_copied_ordered_and_hashed::<(ArpHardwareId, ArpOperation)>();
 }
 
 #[test]
 fn errors() {
-    is_error::<ArpHwAddrError>();
-    is_error::<ArpNewError>();
-    is_error::<ArpProtoAddrError>();
+    are_hashed::<(ArpHwAddrError, ArpNewError, ArpProtoAddrError)>();
+    are_errors::<ArpHwAddrError, ArpNewError, ArpProtoAddrError>();
 }
 
 #[test]
 fn compared() {
-    is_compared::<ArpPacket>();
-    is_compared::<ArpPacketSlice<'_>>();
-    is_compared::<DoubleVlanHeader>();
-    is_compared::<DoubleVlanSlice<'_>>();
-    is_compared::<Ethernet2Header>();
-    is_compared::<Ethernet2Slice<'_>>();
-    is_compared::<LinkExtHeader>();
-    is_compared::<LinkExtSlice<'_>>();
-    is_compared::<LinkHeader>();
-    is_compared::<LinkSlice<'_>>();
-    is_compared::<LinuxSllHeader>();
-    is_compared::<LinuxSllPacketType>();
-    is_compared::<LinuxSllPayloadSlice<'_>>();
-    is_compared::<LinuxSllProtocolType>();
-    is_compared::<LinuxSllSlice<'_>>();
-    is_compared::<MacsecHeader>();
-    is_compared::<MacsecHeaderSlice<'_>>();
-    is_compared::<MacsecPType>();
-    is_compared::<MacsecPayloadSlice<'_>>();
-    is_compared::<MacsecSlice<'_>>();
-    is_compared::<SingleVlanHeader>();
-    is_compared::<SingleVlanSlice<'_>>();
-    is_compared::<VlanHeader>();
-    is_compared::<VlanSlice<'_>>();
+    are_compared::<
+        (
+            ArpPacket,
+            ArpPacketSlice<'_>,
+            DoubleVlanHeader,
+            DoubleVlanSlice<'_>,
+            Ethernet2Header,
+            Ethernet2Slice<'_>,
+            LinkExtHeader,
+            LinkExtSlice<'_>,
+            LinkHeader,
+            LinkSlice<'_>,
+            LinuxSllHeader,
+            LinuxSllPacketType,
+        ),
+    >();
+    are_compared::<
+        (
+            LinuxSllPayloadSlice<'_>,
+            LinuxSllProtocolType,
+            LinuxSllSlice<'_>,
+            MacsecHeader,
+            MacsecHeaderSlice<'_>,
+            MacsecPType,
+            MacsecPayloadSlice<'_>,
+            MacsecSlice<'_>,
+            SingleVlanHeader,
+            SingleVlanSlice<'_>,
+            VlanHeader,
+            VlanSlice<'_>,
+        ),
+    >();
 }
 
 #[test]
 fn defaults() {
-    has_default::<LinkExtHeader>();
-    has_default::<LinkExtSlice<'_>>();
+    have_defaults::<(LinkExtHeader, LinkExtSlice<'_>)>();
 }

@@ -10,37 +10,48 @@ use ep_transport::{
 
 #[test]
 fn errors() {
-    is_error::<TcpOptionReadError>();
-    is_error::<TcpOptionWriteError>();
-    is_error::<TransportChecksumError>();
+    are_hashed::<
+        (
+            TcpOptionReadError,
+            TcpOptionWriteError,
+            TransportChecksumError,
+        ),
+    >();
+    are_errors::<TcpOptionReadError, TcpOptionWriteError, TransportChecksumError>();
 }
 
 #[test]
 fn compared() {
-    is_compared::<IcmpEchoHeader>();
-    is_compared::<Icmpv4Header>();
-    is_compared::<Icmpv4Slice<'_>>();
-    is_compared::<Icmpv4Type>();
-    is_compared::<Icmpv6Header>();
-    is_compared::<Icmpv6Slice<'_>>();
-    is_compared::<Icmpv6Type>();
-    is_compared::<TcpHeader>();
-    is_compared::<TcpOptionElement>();
-    is_compared::<TcpOptions>();
-    is_compared::<TcpOptionsIterator<'_>>();
-    is_compared::<TcpSlice<'_>>();
-    is_compared::<TransportHeader>();
-    is_compared::<TransportSlice<'_>>();
-    is_compared::<UdpHeader>();
-    is_compared::<UdpSlice<'_>>();
-    is_compared::<icmpv4::TimeExceededCode>();
-    is_compared::<icmpv4::TimestampMessage>();
-    is_compared::<icmpv6::TimeExceededCode>();
+    are_compared::<
+        (
+            IcmpEchoHeader,
+            Icmpv4Header,
+            Icmpv4Slice<'_>,
+            Icmpv4Type,
+            Icmpv6Header,
+            Icmpv6Slice<'_>,
+            Icmpv6Type,
+            TcpHeader,
+            TcpOptionElement,
+            TcpOptions,
+            TcpOptionsIterator<'_>,
+            TcpSlice<'_>,
+        ),
+    >();
+    are_compared::<
+        (
+            TransportHeader,
+            TransportSlice<'_>,
+            UdpHeader,
+            UdpSlice<'_>,
+            icmpv4::TimeExceededCode,
+            icmpv4::TimestampMessage,
+            icmpv6::TimeExceededCode,
+        ),
+    >();
 }
 
 #[test]
 fn defaults() {
-    has_default::<TcpHeader>();
-    has_default::<TcpOptions>();
-    has_default::<UdpHeader>();
+    have_defaults::<(TcpHeader, TcpOptions, UdpHeader)>();
 }

@@ -1,13 +1,13 @@
 //! Chains of extension headers (RFC 8200, 4; RFC 4302): rows from outside, and that calls succeed.
 
-use crate::checks::{appends, clones, same};
+use crate::checks::{full, is_written, same};
 use ep_base::err::ipv4_exts;
 use ep_base::err::ipv6_exts::{ExtsWalkError, HeaderError, HeaderSliceError, HeaderWriteError};
 use ep_ext::err::ip_auth;
 use ep_ext::{
     IpAuthHeader, IpFragOffset, IpNumber, Ipv4Extensions, Ipv4ExtensionsSlice, Ipv6ExtensionSlice,
     Ipv6Extensions, Ipv6ExtensionsSlice, Ipv6FragmentHeader, Ipv6RawExtHeader,
-    Ipv6RoutingExtensions, Layer, LenError, LenSource,
+    Ipv6RoutingExtensions,
 };
 use std::alloc::Global;
 use std::process::Abort;
@@ -141,16 +141,6 @@ fn headers(rt: HostRuntime) {
     }
 }
 
-/// Where each of the headers of `EVERY_KIND` starts, its number of bytes and its layer.
-const PLACES: [(usize, usize, Layer); 6] = [
-    (0, 8, Layer::Ipv6ExtHeader),
-    (8, 8, Layer::Ipv6ExtHeader),
-    (16, 8, Layer::Ipv6ExtHeader),
-    (24, 8, Layer::Ipv6ExtHeader),
-    (32, 8, Layer::Ipv6FragHeader),
-    (40, 12, Layer::IpAuthHeader),
-];
-
 /// Both readings refuse the bytes from this number on so.
 fn refuses(rt: &impl Abort, number: u8, bytes: &[u8], expected: HeaderSliceError) {
     let expected = Some(expected);
@@ -164,23 +154,6 @@ fn refuses(rt: &impl Abort, number: u8, bytes: &[u8], expected: HeaderSliceError
         &Ipv6Extensions::from_slice(IpNumber(number), bytes).err(),
         &expected,
     );
-}
-
-#[test]
-fn each_header_cut(rt: HostRuntime) {
-    for (start, size, layer) in PLACES {
-        for len in start..start + size {
-            let expected = HeaderSliceError::Len(LenError {
-                required_len: size,
-                len: len - start,
-                len_source: LenSource::Slice,
-                layer: layer.clone().expect(&rt, "refused"),
-                layer_start_offset: start,
-            });
-            assert!(rt; len <= EVERY_KIND.len());
-            refuses(&rt, 0, &EVERY_KIND[..len], expected);
-        }
-    }
 }
 
 /// An authentication header of length 0.
@@ -231,12 +204,9 @@ fn every_kind(rt: &impl Abort) -> Ipv6Extensions {
 #[test]
 fn writes_every_kind(rt: HostRuntime) {
     let first = IpNumber::IPV6_HEADER_HOP_BY_HOP;
-    appends(
-        &rt,
-        rt.alloc(),
-        &(every_kind(&rt), first),
-        &EVERY_KIND[..52],
-    );
+    let mut buf = full(&rt, rt.alloc());
+    let written = every_kind(&rt).write(&mut buf, first).is_ok();
+    is_written(&rt, written, &buf, &EVERY_KIND[..52]);
 }
 
 #[test]
@@ -244,14 +214,20 @@ fn writes_linked_headers(rt: HostRuntime) {
     let mut linked = every_kind(&rt);
     let first = linked.set_next_headers(IpNumber::TCP);
     same(&rt, &first, &IpNumber::IPV6_HEADER_HOP_BY_HOP);
-    appends(&rt, rt.alloc(), &(linked, first), LINKED);
+    let mut buf = full(&rt, rt.alloc());
+    let written = linked.write(&mut buf, first).is_ok();
+    is_written(&rt, written, &buf, LINKED);
 }
 
 #[test]
 fn writes_no_headers(rt: HostRuntime) {
     let first = IpNumber::UDP;
-    appends(&rt, rt.alloc(), &(Ipv6Extensions::default(), first), b"");
-    appends(&rt, rt.alloc(), &(Ipv4Extensions::default(), first), b"");
+    let mut buf = full(&rt, rt.alloc());
+    let written = Ipv6Extensions::default().write(&mut buf, first).is_ok();
+    is_written(&rt, written, &buf, b"");
+    let mut buf = full(&rt, rt.alloc());
+    let written = Ipv4Extensions::default().write(&mut buf, first).is_ok();
+    is_written(&rt, written, &buf, b"");
 }
 
 /// A header of the greatest length before this number.
@@ -312,7 +288,9 @@ fn writes_greatest_headers(rt: HostRuntime) {
     let bytes = greatest_bytes(&rt, rt.alloc());
     same(&rt, &bytes.len(), &9228);
     let first = IpNumber::IPV6_HEADER_HOP_BY_HOP;
-    appends(&rt, rt.alloc(), &(greatest_chain(&rt), first), &bytes);
+    let mut buf = full(&rt, rt.alloc());
+    let written = greatest_chain(&rt).write(&mut buf, first).is_ok();
+    is_written(&rt, written, &buf, &bytes);
 }
 
 #[test]
@@ -322,34 +300,6 @@ fn reads_greatest_headers(rt: HostRuntime) {
         &rt, "refused",
     );
     same(&rt, &read, &greatest_chain(&rt));
-}
-
-#[test]
-fn clones_of_headers(rt: HostRuntime) {
-    let extensions = greatest_chain(&rt);
-    clones(&rt, &extensions);
-    clones(&rt, &extensions.routing);
-    clones(
-        &rt,
-        &Ipv4Extensions {
-            auth: extensions.auth,
-        },
-    )
-}
-
-#[test]
-fn clones_of_slices(rt: HostRuntime) {
-    let number = IpNumber::IPV6_HEADER_HOP_BY_HOP;
-    let (slices, _, _) = Ipv6ExtensionsSlice::from_slice(number, EVERY_KIND).expect(&rt, "refused");
-    clones(&rt, &slices);
-    let mut iterator = slices.into_iter();
-    clones(&rt, &iterator);
-    clones(&rt, &iterator.next());
-    let number = IpNumber::AUTHENTICATION_HEADER;
-    let (slices, _, _) = Ipv4ExtensionsSlice::from_slice(number, &EVERY_KIND[40..]).expect(
-        &rt, "refused",
-    );
-    clones(&rt, &slices);
 }
 
 /// An extension header with options, before this number.
@@ -471,7 +421,9 @@ fn headers_of_ipv4(rt: HostRuntime) {
 fn writes_headers_of_ipv4(rt: HostRuntime) {
     let number = IpNumber::AUTHENTICATION_HEADER;
     let bytes = b"\x11\x01\x00\x00\x00\x00\x00\x05\x00\x00\x00\x06";
-    appends(&rt, rt.alloc(), &(authentication(&rt), number), bytes);
+    let mut buf = full(&rt, rt.alloc());
+    let written = authentication(&rt).write(&mut buf, number).is_ok();
+    is_written(&rt, written, &buf, bytes);
     let headers = Ipv4Extensions {
         auth: Some(greatest_authentication(&rt, 17)),
     };
@@ -482,7 +434,9 @@ fn writes_headers_of_ipv4(rt: HostRuntime) {
     bytes
         .extend_from_slice(&[0xcd; 1016])
         .expect(&rt, "refused");
-    appends(&rt, rt.alloc(), &(headers, number), &bytes);
+    let mut buf = full(&rt, rt.alloc());
+    let written = headers.write(&mut buf, number).is_ok();
+    is_written(&rt, written, &buf, &bytes);
 }
 
 #[test]

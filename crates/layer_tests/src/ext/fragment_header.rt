@@ -1,6 +1,6 @@
 //! The fragment header of IPv6 (RFC 8200).
 
-use crate::checks::{appends, clones, same};
+use crate::checks::{full, is_written, same};
 use ep_ext::{
     IpFragOffset, IpNumber, Ipv6FragmentHeader, Ipv6FragmentHeaderSlice, Layer, LenError, LenSource,
 };
@@ -23,7 +23,6 @@ fn reads_each_field(rt: HostRuntime) {
     let slice = Ipv6FragmentHeaderSlice::from_slice(FRAGMENT).expect(&rt, "refused");
     same(&rt, &slice.to_header(), &header(&rt));
     same(&rt, &slice.fragment_offset().byte_offset(), &1448);
-    clones(&rt, &slice);
 }
 
 #[test]
@@ -35,8 +34,9 @@ fn reads_a_header_and_the_rest(rt: HostRuntime) {
 #[test]
 fn writes(rt: HostRuntime) {
     let header = header(&rt);
-    clones(&rt, &header);
-    appends(&rt, rt.alloc(), &header, &FRAGMENT[..8]);
+    let mut buf = full(&rt, rt.alloc());
+    let written = header.write(&mut buf).is_ok();
+    is_written(&rt, written, &buf, &FRAGMENT[..8]);
 }
 
 /// What the bytes are read as, by the header and by the slice: the offset, whether more follow, whether the payload is
@@ -72,24 +72,22 @@ fn offset_reserved_bits_and_flag(rt: HostRuntime) {
     }
 }
 
-/// The refusal of so few bytes.
-fn too_short(len: usize) -> LenError {
-    LenError::at_start(8, len, LenSource::Slice, Layer::Ipv6FragHeader)
+/// The refusal of seven bytes.
+fn too_short() -> LenError {
+    LenError::at_start(8, 7, LenSource::Slice, Layer::Ipv6FragHeader)
 }
 
 #[test]
-fn refuses_each_shorter_front(rt: HostRuntime) {
-    for len in 0..8 {
-        let bytes = &FRAGMENT[..len];
-        same(
-            &rt,
-            &Ipv6FragmentHeader::from_slice(bytes),
-            &Err(too_short(len)),
-        );
-        same(
-            &rt,
-            &Ipv6FragmentHeaderSlice::from_slice(bytes),
-            &Err(too_short(len)),
-        );
-    }
+fn refuses_a_shorter_front(rt: HostRuntime) {
+    let front = &FRAGMENT[..7];
+    same(
+        &rt,
+        &Ipv6FragmentHeaderSlice::from_slice(front),
+        &Err(too_short()),
+    );
+    same(
+        &rt,
+        &Ipv6FragmentHeader::from_slice(front),
+        &Err(too_short()),
+    );
 }

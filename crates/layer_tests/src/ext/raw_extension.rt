@@ -1,6 +1,6 @@
 //! Extension headers of IPv6 whose payload is left as bytes (RFC 8200).
 
-use crate::checks::{appends, clones, same, shows};
+use crate::checks::{full, is_written, same, shows};
 use ep_ext::err::ipv6_exts::ExtPayloadLenError;
 use ep_ext::{IpNumber, Ipv6RawExtHeader, Ipv6RawExtHeaderSlice, Layer, LenError, LenSource};
 use std::alloc::Global;
@@ -17,7 +17,6 @@ fn header(rt: &impl Abort) -> Ipv6RawExtHeader {
 fn reads_each_field(rt: HostRuntime) {
     let slice = Ipv6RawExtHeaderSlice::from_slice(OPTIONS).expect(&rt, "refused");
     same(&rt, &slice.to_header(), &header(&rt));
-    clones(&rt, &slice);
 }
 
 #[test]
@@ -29,8 +28,9 @@ fn reads_a_header_and_the_rest(rt: HostRuntime) {
 #[test]
 fn writes(rt: HostRuntime) {
     let header = header(&rt);
-    clones(&rt, &header);
-    appends(&rt, rt.alloc(), &header, &OPTIONS[..16]);
+    let mut buf = full(&rt, rt.alloc());
+    let written = header.write(&mut buf).is_ok();
+    is_written(&rt, written, &buf, &OPTIONS[..16]);
 }
 
 /// The bytes are a header of this length, or are refused for so few bytes, by the header and by the slice.
@@ -49,14 +49,6 @@ fn reads(rt: &impl Abort, bytes: &[u8], header_len: usize, required_len: Option<
     same(rt, &slice, &shown);
     let header = Ipv6RawExtHeader::from_slice(bytes).map(|(header, _)| header.header_len());
     same(rt, &header, &shown);
-}
-
-#[test]
-fn refuses_each_shorter_front(rt: HostRuntime) {
-    for len in 0..16 {
-        let required_len = if len < 8 { 8 } else { 16 };
-        reads(&rt, &OPTIONS[..len], 0, Some(required_len));
-    }
 }
 
 #[test]
@@ -139,7 +131,9 @@ fn writes_len(rt: &impl Abort, alloc: Global, len: usize, field: u8) {
     let mut bytes = Vec::from_array(alloc, [17, field]).expect(rt, "no memory");
     bytes.extend_from_slice(payload).expect(rt, "no memory");
     let header = Ipv6RawExtHeader::new_raw(IpNumber::UDP, payload).expect(rt, "refused");
-    appends(rt, alloc, &header, &bytes);
+    let mut buf = full(rt, alloc);
+    let written = header.write(&mut buf).is_ok();
+    is_written(rt, written, &buf, &bytes);
 }
 
 #[test]

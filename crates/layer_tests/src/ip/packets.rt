@@ -1,9 +1,8 @@
 //! IP packets with their extension headers in slices: rows from outside.
 
-use crate::checks::{clones, refuses, same};
+use crate::checks::{refuses, same};
 use ep_ip::{
-    IpNumber, IpPayloadSlice, IpSlice, Ipv4Slice, Ipv6ExtensionsSlice, Ipv6Slice, Layer, LenError,
-    LenSource, ip,
+    IpNumber, IpPayloadSlice, IpSlice, Ipv4Slice, Ipv6ExtensionsSlice, Ipv6Slice, LenSource,
 };
 use std::alloc::Global;
 use std::process::Abort;
@@ -334,52 +333,6 @@ fn ipv6_packets(rt: HostRuntime) {
             payload,
         };
         reads_ipv6(&rt, bytes, expected, extensions_len);
-    }
-}
-
-#[test]
-fn clones_of_packets(rt: HostRuntime) {
-    clones(
-        &rt,
-        &Ipv6Slice::from_slice(FRAGMENTED).expect(&rt, "refused"),
-    );
-    clones(&rt, &IpSlice::from_slice(FRAGMENTED).expect(&rt, "refused"));
-    let ipv4 = b"\x45\x00\x00\x14\x00\x00\x00\x00\x40\x11\x00\x00\xc0\xa8\x01\x01\xc0\xa8\x01\x02";
-    clones(&rt, &Ipv4Slice::from_slice(ipv4).expect(&rt, "refused"));
-}
-
-/// The fronts of a packet are refused for want of bytes.
-#[test]
-fn ipv6_fronts(rt: HostRuntime) {
-    for len in 0..64 {
-        let (required_len, layer) = if len == 0 {
-            (1, Layer::IpHeader)
-        } else if len < 40 {
-            (40, Layer::Ipv6Header)
-        } else {
-            (64, Layer::Ipv6Packet)
-        };
-        let expected = ip::SliceError::Len(LenError {
-            required_len,
-            len,
-            len_source: LenSource::Slice,
-            layer,
-            layer_start_offset: 0,
-        });
-        same(
-            &rt,
-            &IpSlice::from_slice(&FRAGMENTED[..len]).err(),
-            &Some(expected),
-        );
-    }
-}
-
-/// The fronts behind a header of payload length 0 are packets.
-#[test]
-fn ipv6_fronts_of_open_length(rt: HostRuntime) {
-    for len in 40..44 {
-        let packet = Ipv6Slice::from_slice(&OPEN_LENGTH[..len]).expect(&rt, "refused");
-        same(&rt, &packet.payload().payload, &&OPEN_LENGTH[40..len]);
     }
 }
 

@@ -1,21 +1,23 @@
 //! Ethernet II and Linux cooked captures.
 
-use crate::checks::{appends, clones, same};
+use crate::checks::same;
 use ep_link::err::linux_sll::{HeaderError, HeaderSliceError};
 use ep_link::{
     ArpHardwareId, EtherType, Ethernet2Header, Ethernet2Slice, Layer, LenError, LenSource,
-    LinkHeader, LinuxSllHeader, LinuxSllPacketType, LinuxSllProtocolType, LinuxSllSlice,
+    LinuxSllHeader, LinuxSllPacketType, LinuxSllProtocolType, LinuxSllSlice,
 };
 use std::process::Abort;
 
 /// Ethernet II: two addresses, the type of IPv6, and 2 bytes of payload. No byte stands twice.
-const ETHERNET: &[u8] = b"\x01\x02\x03\x04\x05\x06\x07\x08\x09\x0a\x0b\x0c\x86\xdd\xfe\xff";
+pub(super) const ETHERNET: &[u8] =
+    b"\x01\x02\x03\x04\x05\x06\x07\x08\x09\x0a\x0b\x0c\x86\xdd\xfe\xff";
 
 /// To another host, from an address of 6 bytes, and IPv4: the header alone.
-const IPV4: &[u8] = b"\x00\x03\x00\x01\x00\x06\x01\x02\x03\x04\x05\x06\x00\x00\x08\x00";
+pub(super) const IPV4: &[u8] = b"\x00\x03\x00\x01\x00\x06\x01\x02\x03\x04\x05\x06\x00\x00\x08\x00";
 
 /// Netlink, with 2 bytes of payload.
-const NETLINK: &[u8] = b"\x00\x00\x03\x38\x00\x00\x00\x00\x00\x00\x00\x00\x00\x00\x00\x10\x01\x02";
+pub(super) const NETLINK: &[u8] =
+    b"\x00\x00\x03\x38\x00\x00\x00\x00\x00\x00\x00\x00\x00\x00\x00\x10\x01\x02";
 
 /// A header of packet type 8 and hardware 264.
 const UNKNOWN_TYPE: &[u8] = b"\x00\x08\x01\x08\x00\x06\x01\x02\x03\x04\x05\x06\x00\x00\x08\x00";
@@ -24,7 +26,7 @@ const UNKNOWN_TYPE: &[u8] = b"\x00\x08\x01\x08\x00\x06\x01\x02\x03\x04\x05\x06\x
 const UNKNOWN_HARDWARE: &[u8] = b"\x00\x03\x01\x08\x00\x06\x01\x02\x03\x04\x05\x06\x00\x00\x08\x00";
 
 /// The header in front of `ETHERNET`.
-fn ethernet_header() -> Ethernet2Header {
+pub(super) fn ethernet_header() -> Ethernet2Header {
     Ethernet2Header {
         source: [7, 8, 9, 10, 11, 12],
         destination: [1, 2, 3, 4, 5, 6],
@@ -33,7 +35,7 @@ fn ethernet_header() -> Ethernet2Header {
 }
 
 /// The header in `IPV4`.
-fn ipv4_header() -> LinuxSllHeader {
+pub(super) fn ipv4_header() -> LinuxSllHeader {
     LinuxSllHeader {
         packet_type: LinuxSllPacketType::OTHERHOST,
         arp_hrd_type: ArpHardwareId::ETHERNET,
@@ -44,7 +46,7 @@ fn ipv4_header() -> LinuxSllHeader {
 }
 
 /// The header in front of `NETLINK`.
-fn netlink_header() -> LinuxSllHeader {
+pub(super) fn netlink_header() -> LinuxSllHeader {
     LinuxSllHeader {
         packet_type: LinuxSllPacketType::HOST,
         arp_hrd_type: ArpHardwareId(824),
@@ -59,7 +61,6 @@ fn reads_ethernet(rt: HostRuntime) {
     let frame = Ethernet2Slice::from_slice_without_fcs(ETHERNET).expect(&rt, "refused");
     same(&rt, &frame.to_header(), &ethernet_header());
     same(&rt, &frame.payload_slice(), &b"\xfe\xff".as_slice());
-    clones(&rt, &frame);
 }
 
 /// The bytes are read as this header and the payload behind it, by the header and by the slice.
@@ -67,7 +68,6 @@ fn reads(rt: &impl Abort, bytes: &[u8], header: LinuxSllHeader, payload: &[u8]) 
     let packet = LinuxSllSlice::from_slice(bytes).expect(rt, "refused");
     same(rt, &packet.to_header(), &header);
     same(rt, &packet.payload_slice(), &payload);
-    clones(rt, &packet);
     same(
         rt,
         &LinuxSllHeader::from_slice(bytes),
@@ -79,21 +79,6 @@ fn reads(rt: &impl Abort, bytes: &[u8], header: LinuxSllHeader, payload: &[u8]) 
 fn reads_cooked_packets(rt: HostRuntime) {
     reads(&rt, IPV4, ipv4_header(), b"");
     reads(&rt, NETLINK, netlink_header(), b"\x01\x02");
-}
-
-#[test]
-fn writes(rt: HostRuntime) {
-    appends(&rt, rt.alloc(), &ethernet_header(), &ETHERNET[..14]);
-    appends(&rt, rt.alloc(), &ipv4_header(), IPV4);
-    appends(&rt, rt.alloc(), &netlink_header(), &NETLINK[..16]);
-}
-
-#[test]
-fn writes_links(rt: HostRuntime) {
-    let ethernet = LinkHeader::Ethernet2(ethernet_header());
-    clones(&rt, &ethernet);
-    appends(&rt, rt.alloc(), &ethernet, &ETHERNET[..14]);
-    appends(&rt, rt.alloc(), &LinkHeader::LinuxSll(ipv4_header()), IPV4);
 }
 
 /// The protocol of a cooked packet of this hardware and number.

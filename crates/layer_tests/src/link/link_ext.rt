@@ -1,6 +1,6 @@
 //! Tags between the link header and the net layer.
 
-use crate::checks::{appends, clones, same};
+use crate::checks::{full, is_written, same};
 use ep_link::err::macsec::{HeaderError, HeaderSliceError};
 use ep_link::{EtherType, Layer, LenError, LenSource, LinkExtSlice};
 use std::alloc::Global;
@@ -32,10 +32,10 @@ fn reads(
     let extension = extension.expect(rt, "no extension");
     same(rt, &extension.next_ether_type(), &next);
     same(rt, &extension.payload_slice(), &payload);
-    clones(rt, &extension);
     let header = extension.to_header();
-    clones(rt, &header);
-    appends(rt, alloc, &header, tag);
+    let mut buf = full(rt, alloc);
+    let written = header.write(&mut buf).is_ok();
+    is_written(rt, written, &buf, tag);
 }
 
 #[test]

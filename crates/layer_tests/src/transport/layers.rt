@@ -1,6 +1,6 @@
 //! The family of transport layers.
 
-use crate::checks::{appends, clones, same, shows};
+use crate::checks::{full, is_written, same, shows};
 use ep_ip::{Ipv4Header, Ipv6Header};
 use ep_transport::{
     IcmpEchoHeader, Icmpv4Header, Icmpv4Type, Icmpv6Header, Icmpv6Type, IpNumber, Layer, LenError,
@@ -81,12 +81,12 @@ fn reads(rt: &impl Abort, alloc: Global, number: u8, bytes: &[u8], header_bytes:
     let shown = TransportSlice::from_ip_number(IpNumber(number), false, bytes);
     let layer = shown.expect(rt, "refused").expect(rt, "no layer");
     same(rt, &(layer.slice(), layer.payload()), &(bytes, PAYLOAD));
-    clones(rt, &layer);
     let read = TransportHeader::from_ip_number(IpNumber(number), false, bytes);
     let (header, payload) = read.expect(rt, "refused").expect(rt, "no layer");
     same(rt, &payload, &PAYLOAD);
-    clones(rt, &header);
-    appends(rt, alloc, &header, header_bytes);
+    let mut buf = full(rt, alloc);
+    let written = header.write(&mut buf).is_ok();
+    is_written(rt, written, &buf, header_bytes);
 }
 
 #[test]
@@ -213,7 +213,6 @@ fn too_long_to_sum(rt: HostRuntime) {
     });
     let text = "UdpPayloadLengthIpv4: 65528 is above 65527";
     shows(&rt, rt.alloc(), &too_long, text);
-    clones(&rt, &too_long);
     same(
         &rt,
         &header.update_checksum_ipv4(&ipv4(), &long),

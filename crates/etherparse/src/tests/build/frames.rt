@@ -1,4 +1,4 @@
-//! Frames from outside, each read back by every entry of its first layer.
+//! Frames from outside, built one after the other into one vector.
 
 use super::*;
 
@@ -167,536 +167,190 @@ fn with_extensions(rt: &impl Abort) -> IpHeaders {
     IpHeaders::Ipv6(Ipv6Header::default(), extensions)
 }
 
-/// The bytes of the ARP packet or of the transport layer that a packet shows.
-fn shown<'a>(packet: SlicedPacket<'a>) -> &'a [u8] {
-    if let Some(NetSlice::Arp(arp)) = packet.net {
-        return arp.slice();
-    }
-    match packet.transport {
-        Some(transport) => transport.slice(),
-        None => &[],
-    }
+/// Frames were built one after the other, as these parts.
+fn are_built(rt: &impl Abort, alloc: Global, frames: &Vec<u8>, parts: &[&[u8]]) {
+    let parts = parts.concat(alloc).expect(rt, "no memory");
+    same(rt, frames, &parts);
 }
 
-/// The bytes of the ARP packet, or of the transport header and its payload, that a packet holds.
-fn held(rt: &impl Abort, alloc: Global, packet: &PacketHeaders) -> Vec<u8> {
-    let mut buf = Vec::new(alloc);
-    if let Some(NetHeaders::Arp(arp)) = &packet.net {
-        arp.write(&mut buf).expect(rt, "no memory");
-    }
-    if let Some(transport) = &packet.transport {
-        transport.write(&mut buf).expect(rt, "no memory");
-    }
-    let payload = packet.payload.slice();
-    buf.extend_from_slice(payload).expect(rt, "no memory");
-    buf
-}
-
-/// Slices and headers that are read from a frame show these bytes.
-fn reads_back(rt: &impl Abort, alloc: Global, entry: Entry, frame: &[u8], innermost: &[u8]) {
-    let sliced = SlicedPacket::from_entry(entry, frame).expect(rt, "refused");
-    same(rt, &shown(sliced), &innermost);
-    let mut headers = PacketHeaders::new();
-    headers.read_into(entry, frame).expect(rt, "refused");
-    same(rt, &held(rt, alloc, &headers).as_slice(), &innermost);
-}
-
-/// A frame was built of these link headers, net headers, and ARP packet or transport layer, and is read back.
-fn is_built(
-    rt: &impl Abort,
-    alloc: Global,
-    (written, frame): (Result<(), BuildWriteError>, &[u8]),
-    entry: Entry,
-    parts: [&[u8]; 3],
-) {
+/// A datagram of the payload over IPv4 is appended.
+fn push_udp(rt: &impl Abort, frames: &mut Vec<u8>, ip: PacketBuilderStep<IpHeaders>) {
+    let written = ip.udp(21, 1234).write(frames, PAYLOAD);
     same(rt, &written, &Ok(()));
-    same(
-        rt,
-        &frame,
-        &parts.concat(alloc).expect(rt, "no memory").as_slice(),
-    );
-    reads_back(rt, alloc, entry, frame, parts[2]);
-}
-
-/// The same for a frame that begins with an IP header, by both of its entries.
-fn is_built_ip(
-    rt: &impl Abort,
-    alloc: Global,
-    (written, frame): (Result<(), BuildWriteError>, &[u8]),
-    ether_type: EtherType,
-    parts: [&[u8]; 2],
-) {
-    same(rt, &written, &Ok(()));
-    same(
-        rt,
-        &frame,
-        &parts.concat(alloc).expect(rt, "no memory").as_slice(),
-    );
-    reads_back(rt, alloc, Entry::Ip, frame, parts[1]);
-    reads_back(rt, alloc, Entry::EtherType(ether_type), frame, parts[1]);
 }
 
 #[test]
-fn udp_behind_ethernet(rt: HostRuntime) {
-    let mut frame = Vec::new(rt.alloc());
-    let written = ethernet_ipv4().udp(21, 1234).write(&mut frame, PAYLOAD);
-    is_built(
-        &rt,
-        rt.alloc(),
-        (written, &frame),
-        Entry::Ethernet,
-        [ETHERNET, IP, UDP],
-    );
+fn behind_ethernet(rt: HostRuntime) {
+    let mut frames = Vec::new(rt.alloc());
+    push_udp(&rt, &mut frames, ethernet_ipv4());
+    push_udp(&rt, &mut frames, ethernet().ipv6(SOURCE, DESTINATION, 47));
+    push_udp(&rt, &mut frames, ethernet().ip(ipv6_headers()));
+    let written = ethernet().arp(arp_request(&rt)).write(&mut frames);
+    same(&rt, &written, &Ok(()));
+    let parts = [
+        ETHERNET,
+        IP,
+        UDP,
+        ETHERNET_6,
+        IP_6,
+        UDP_6,
+        ETHERNET_6,
+        IP_6,
+        UDP_6,
+        ETHERNET_ARP,
+        ARP,
+    ];
+    are_built(&rt, rt.alloc(), &frames, &parts);
 }
 
+#[test]
+fn behind_a_cooked_header(rt: HostRuntime) {
+    let mut frames = Vec::new(rt.alloc());
+    push_udp(&rt, &mut frames, cooked().ipv4(SOURCE_4, DESTINATION_4, 20));
+    push_udp(&rt, &mut frames, cooked().ipv6(SOURCE, DESTINATION, 47));
+    push_udp(&rt, &mut frames, cooked().ip(ipv6_headers()));
+    let written = cooked().arp(arp_request(&rt)).write(&mut frames);
+    same(&rt, &written, &Ok(()));
+    let parts = [
+        SLL, IP, UDP, SLL_6, IP_6, UDP_6, SLL_6, IP_6, UDP_6, SLL_ARP, ARP,
+    ];
+    are_built(&rt, rt.alloc(), &frames, &parts);
+}
+
+#[test]
+fn behind_one_tag(rt: HostRuntime) {
+    let mut frames = Vec::new(rt.alloc());
+    push_udp(
+        &rt,
+        &mut frames,
+        one_tag(&rt).ipv4(SOURCE_4, DESTINATION_4, 20),
+    );
+    push_udp(&rt, &mut frames, one_tag(&rt).ipv6(SOURCE, DESTINATION, 47));
+    let tag = VlanHeader::Single(given_tag(&rt, 0x123));
+    push_udp(&rt, &mut frames, ethernet().vlan(tag).ip(ipv6_headers()));
+    let parts = [TAG, IP, UDP, TAG_6, IP_6, UDP_6, TAG_6, IP_6, UDP_6];
+    are_built(&rt, rt.alloc(), &frames, &parts);
+}
+
+#[test]
+fn behind_two_tags(rt: HostRuntime) {
+    let mut frames = Vec::new(rt.alloc());
+    push_udp(
+        &rt,
+        &mut frames,
+        two_tags(&rt).ipv4(SOURCE_4, DESTINATION_4, 20),
+    );
+    push_udp(
+        &rt,
+        &mut frames,
+        ethernet().vlan(given_tags(&rt)).ip(ipv6_headers()),
+    );
+    let written = two_tags(&rt).arp(arp_request(&rt)).write(&mut frames);
+    same(&rt, &written, &Ok(()));
+    let parts = [TAGS, IP, UDP, TAGS_6, IP_6, UDP_6, TAGS_ARP, ARP];
+    are_built(&rt, rt.alloc(), &frames, &parts);
+}
+
+/// Datagrams without a link header. The sum of the first is such that the checksum 0 is written as its complement.
 #[test]
 fn udp(rt: HostRuntime) {
-    let mut frame = Vec::new(rt.alloc());
-    let written = ipv4().udp(21, 1234).write(&mut frame, PAYLOAD);
-    is_built_ip(
-        &rt,
-        rt.alloc(),
-        (written, &frame),
-        EtherType::IPV4,
-        [IP, UDP],
-    );
-}
-
-#[test]
-fn udp_behind_a_cooked_header(rt: HostRuntime) {
-    let mut frame = Vec::new(rt.alloc());
-    let written = cooked()
-        .ipv4(SOURCE_4, DESTINATION_4, 20)
-        .udp(21, 1234)
-        .write(&mut frame, PAYLOAD);
-    is_built(
-        &rt,
-        rt.alloc(),
-        (written, &frame),
-        Entry::LinuxSll,
-        [SLL, IP, UDP],
-    );
-}
-
-#[test]
-fn udp_behind_a_tag(rt: HostRuntime) {
-    let mut frame = Vec::new(rt.alloc());
-    let written = one_tag(&rt)
-        .ipv4(SOURCE_4, DESTINATION_4, 20)
-        .udp(21, 1234)
-        .write(&mut frame, PAYLOAD);
-    is_built(
-        &rt,
-        rt.alloc(),
-        (written, &frame),
-        Entry::Ethernet,
-        [TAG, IP, UDP],
-    );
-}
-
-#[test]
-fn udp_behind_two_tags(rt: HostRuntime) {
-    let mut frame = Vec::new(rt.alloc());
-    let written = two_tags(&rt)
-        .ipv4(SOURCE_4, DESTINATION_4, 20)
-        .udp(21, 1234)
-        .write(&mut frame, PAYLOAD);
-    is_built(
-        &rt,
-        rt.alloc(),
-        (written, &frame),
-        Entry::Ethernet,
-        [TAGS, IP, UDP],
-    );
-}
-
-/// The sum of the words is such that the checksum 0 is written as its complement.
-#[test]
-fn udp_checksum_of_ones(rt: HostRuntime) {
+    let mut frames = Vec::new(rt.alloc());
+    let written = ipv4().udp(21, 1234).write(&mut frames, &[0x77, 0x9f]);
+    same(&rt, &written, &Ok(()));
+    push_udp(&rt, &mut frames, ipv6());
+    push_udp(&rt, &mut frames, PacketBuilder::ip(with_extensions(&rt)));
     let net = b"\x45\x00\x00\x1e\x00\x00\x40\x00\x14\x11\xe3\x7b\xc0\xa8\x01\x01\xc0\xa8\x01\x02";
-    let udp = b"\x00\x15\x04\xd2\x00\x0a\xff\xff\x77\x9f";
-    let mut frame = Vec::new(rt.alloc());
-    let written = ethernet_ipv4()
-        .udp(21, 1234)
-        .write(&mut frame, &[0x77, 0x9f]);
-    is_built(
-        &rt,
-        rt.alloc(),
-        (written, &frame),
-        Entry::Ethernet,
-        [ETHERNET, net, udp],
-    );
+    let of_ones = b"\x00\x15\x04\xd2\x00\x0a\xff\xff\x77\x9f";
+    let parts = [
+        net.as_slice(),
+        of_ones,
+        IP_6,
+        UDP_6,
+        EXTENSIONS_IP_6,
+        EXTENSIONS_UDP,
+    ];
+    are_built(&rt, rt.alloc(), &frames, &parts);
+}
+
+/// A segment of the payload is appended.
+fn push_tcp(rt: &impl Abort, frames: &mut Vec<u8>, tcp: PacketBuilderStep<TcpHeader>) {
+    let written = tcp.write(frames, PAYLOAD);
+    same(rt, &written, &Ok(()));
 }
 
 #[test]
 fn tcp(rt: HostRuntime) {
-    let mut frame = Vec::new(rt.alloc());
-    let written = ethernet_ipv4()
-        .tcp(21, 12, 12345, 4000)
-        .write(&mut frame, PAYLOAD);
-    is_built(
-        &rt,
-        rt.alloc(),
-        (written, &frame),
-        Entry::Ethernet,
-        [ETHERNET, TCP_IP, TCP],
-    );
+    let mut frames = Vec::new(rt.alloc());
+    push_tcp(&rt, &mut frames, ipv4().tcp(21, 12, 12345, 4000));
+    push_tcp(&rt, &mut frames, with_flags(&rt));
+    push_tcp(&rt, &mut frames, ipv6().tcp(21, 12, 12345, 4000));
+    let raw = ipv6().tcp(1, 2, 3, 4).options_raw(&[1, 1, 1]);
+    push_tcp(&rt, &mut frames, raw.expect(&rt, "of 3 bytes"));
+    let parts = [
+        TCP_IP,
+        TCP,
+        FLAGS_IP,
+        FLAGS,
+        TCP_IP_6,
+        TCP_6,
+        OPTIONS_IP_6,
+        OPTIONS,
+    ];
+    are_built(&rt, rt.alloc(), &frames, &parts);
+}
+
+/// A message of ICMP with the payload is appended.
+fn push_icmpv4(rt: &impl Abort, frames: &mut Vec<u8>, icmp: PacketBuilderStep<Icmpv4Header>) {
+    let written = icmp.write(frames, PAYLOAD);
+    same(rt, &written, &Ok(()));
 }
 
 #[test]
-fn tcp_with_flags(rt: HostRuntime) {
-    let mut frame = Vec::new(rt.alloc());
-    let written = with_flags(&rt).write(&mut frame, PAYLOAD);
-    is_built_ip(
-        &rt,
-        rt.alloc(),
-        (written, &frame),
-        EtherType::IPV4,
-        [FLAGS_IP, FLAGS],
-    );
-}
-
-#[test]
-fn icmpv4_echo_request(rt: HostRuntime) {
-    let mut frame = Vec::new(rt.alloc());
-    let written = ipv4()
-        .icmpv4_echo_request(123, 456)
-        .write(&mut frame, PAYLOAD);
-    is_built_ip(
-        &rt,
-        rt.alloc(),
-        (written, &frame),
-        EtherType::IPV4,
-        [ICMP_IP, ICMP_REQUEST],
-    );
-}
-
-#[test]
-fn icmpv4_echo_reply(rt: HostRuntime) {
-    let mut frame = Vec::new(rt.alloc());
-    let written = ipv4().icmpv4_echo_reply(1, 2).write(&mut frame, PAYLOAD);
-    is_built_ip(
-        &rt,
-        rt.alloc(),
-        (written, &frame),
-        EtherType::IPV4,
-        [ICMP_IP, ICMP_REPLY],
-    );
-}
-
-#[test]
-fn icmpv4_raw(rt: HostRuntime) {
-    let mut frame = Vec::new(rt.alloc());
-    let written = ipv4()
-        .icmpv4_raw(0, 0, [0, 1, 0, 2])
-        .write(&mut frame, PAYLOAD);
-    is_built_ip(
-        &rt,
-        rt.alloc(),
-        (written, &frame),
-        EtherType::IPV4,
-        [ICMP_IP, ICMP_REPLY],
-    );
-}
-
-#[test]
-fn icmpv4_of_a_type(rt: HostRuntime) {
+fn icmpv4(rt: HostRuntime) {
     let reply = Icmpv4Type::EchoReply(IcmpEchoHeader { id: 1, seq: 2 });
-    let mut frame = Vec::new(rt.alloc());
-    let written = ipv4().icmpv4(reply).write(&mut frame, PAYLOAD);
-    is_built_ip(
-        &rt,
-        rt.alloc(),
-        (written, &frame),
-        EtherType::IPV4,
-        [ICMP_IP, ICMP_REPLY],
-    );
+    let mut frames = Vec::new(rt.alloc());
+    push_icmpv4(&rt, &mut frames, ipv4().icmpv4_echo_request(123, 456));
+    push_icmpv4(&rt, &mut frames, ipv4().icmpv4_echo_reply(1, 2));
+    push_icmpv4(&rt, &mut frames, ipv4().icmpv4_raw(0, 0, [0, 1, 0, 2]));
+    push_icmpv4(&rt, &mut frames, ipv4().icmpv4(reply));
+    let parts = [
+        ICMP_IP,
+        ICMP_REQUEST,
+        ICMP_IP,
+        ICMP_REPLY,
+        ICMP_IP,
+        ICMP_REPLY,
+        ICMP_IP,
+        ICMP_REPLY,
+    ];
+    are_built(&rt, rt.alloc(), &frames, &parts);
+}
+
+/// The same of ICMPv6.
+fn push_icmpv6(rt: &impl Abort, frames: &mut Vec<u8>, icmp: PacketBuilderStep<Icmpv6Header>) {
+    let written = icmp.write(frames, PAYLOAD);
+    same(rt, &written, &Ok(()));
 }
 
 #[test]
-fn udp_over_ipv6(rt: HostRuntime) {
-    let mut frame = Vec::new(rt.alloc());
-    let written = ipv6().udp(21, 1234).write(&mut frame, PAYLOAD);
-    is_built_ip(
-        &rt,
-        rt.alloc(),
-        (written, &frame),
-        EtherType::IPV6,
-        [IP_6, UDP_6],
-    );
-}
-
-#[test]
-fn udp_over_ipv6_behind_ethernet(rt: HostRuntime) {
-    let mut frame = Vec::new(rt.alloc());
-    let written = ethernet()
-        .ipv6(SOURCE, DESTINATION, 47)
-        .udp(21, 1234)
-        .write(&mut frame, PAYLOAD);
-    is_built(
-        &rt,
-        rt.alloc(),
-        (written, &frame),
-        Entry::Ethernet,
-        [ETHERNET_6, IP_6, UDP_6],
-    );
-}
-
-#[test]
-fn udp_over_ipv6_behind_a_cooked_header(rt: HostRuntime) {
-    let mut frame = Vec::new(rt.alloc());
-    let written = cooked()
-        .ipv6(SOURCE, DESTINATION, 47)
-        .udp(21, 1234)
-        .write(&mut frame, PAYLOAD);
-    is_built(
-        &rt,
-        rt.alloc(),
-        (written, &frame),
-        Entry::LinuxSll,
-        [SLL_6, IP_6, UDP_6],
-    );
-}
-
-#[test]
-fn udp_over_ipv6_behind_a_tag(rt: HostRuntime) {
-    let mut frame = Vec::new(rt.alloc());
-    let written = one_tag(&rt)
-        .ipv6(SOURCE, DESTINATION, 47)
-        .udp(21, 1234)
-        .write(&mut frame, PAYLOAD);
-    is_built(
-        &rt,
-        rt.alloc(),
-        (written, &frame),
-        Entry::Ethernet,
-        [TAG_6, IP_6, UDP_6],
-    );
-}
-
-#[test]
-fn ip_headers_behind_ethernet(rt: HostRuntime) {
-    let mut frame = Vec::new(rt.alloc());
-    let written = ethernet()
-        .ip(ipv6_headers())
-        .udp(21, 1234)
-        .write(&mut frame, PAYLOAD);
-    is_built(
-        &rt,
-        rt.alloc(),
-        (written, &frame),
-        Entry::Ethernet,
-        [ETHERNET_6, IP_6, UDP_6],
-    );
-}
-
-#[test]
-fn ip_headers_behind_a_cooked_header(rt: HostRuntime) {
-    let mut frame = Vec::new(rt.alloc());
-    let written = cooked()
-        .ip(ipv6_headers())
-        .udp(21, 1234)
-        .write(&mut frame, PAYLOAD);
-    is_built(
-        &rt,
-        rt.alloc(),
-        (written, &frame),
-        Entry::LinuxSll,
-        [SLL_6, IP_6, UDP_6],
-    );
-}
-
-#[test]
-fn ip_headers_behind_two_tags(rt: HostRuntime) {
-    let mut frame = Vec::new(rt.alloc());
-    let written = two_tags(&rt)
-        .ip(ipv6_headers())
-        .udp(21, 1234)
-        .write(&mut frame, PAYLOAD);
-    is_built(
-        &rt,
-        rt.alloc(),
-        (written, &frame),
-        Entry::Ethernet,
-        [TAGS_6, IP_6, UDP_6],
-    );
-}
-
-#[test]
-fn behind_a_given_tag(rt: HostRuntime) {
-    let tag = VlanHeader::Single(given_tag(&rt, 0x123));
-    let mut frame = Vec::new(rt.alloc());
-    let written = ethernet()
-        .vlan(tag)
-        .ip(ipv6_headers())
-        .udp(21, 1234)
-        .write(&mut frame, PAYLOAD);
-    is_built(
-        &rt,
-        rt.alloc(),
-        (written, &frame),
-        Entry::Ethernet,
-        [TAG_6, IP_6, UDP_6],
-    );
-}
-
-#[test]
-fn behind_given_tags(rt: HostRuntime) {
-    let tags = given_tags(&rt);
-    let mut frame = Vec::new(rt.alloc());
-    let written = ethernet()
-        .vlan(tags)
-        .ip(ipv6_headers())
-        .udp(21, 1234)
-        .write(&mut frame, PAYLOAD);
-    is_built(
-        &rt,
-        rt.alloc(),
-        (written, &frame),
-        Entry::Ethernet,
-        [TAGS_6, IP_6, UDP_6],
-    );
-}
-
-#[test]
-fn tcp_over_ipv6(rt: HostRuntime) {
-    let mut frame = Vec::new(rt.alloc());
-    let written = ipv6().tcp(21, 12, 12345, 4000).write(&mut frame, PAYLOAD);
-    is_built_ip(
-        &rt,
-        rt.alloc(),
-        (written, &frame),
-        EtherType::IPV6,
-        [TCP_IP_6, TCP_6],
-    );
-}
-
-#[test]
-fn tcp_with_raw_options(rt: HostRuntime) {
-    let step = ipv6()
-        .tcp(1, 2, 3, 4)
-        .options_raw(&[1, 1, 1])
-        .expect(&rt, "of 3 bytes");
-    let mut frame = Vec::new(rt.alloc());
-    let written = step.write(&mut frame, PAYLOAD);
-    is_built_ip(
-        &rt,
-        rt.alloc(),
-        (written, &frame),
-        EtherType::IPV6,
-        [OPTIONS_IP_6, OPTIONS],
-    );
-}
-
-#[test]
-fn icmpv6_echo_request(rt: HostRuntime) {
-    let mut frame = Vec::new(rt.alloc());
-    let written = ipv6().icmpv6_echo_request(1, 2).write(&mut frame, PAYLOAD);
-    is_built_ip(
-        &rt,
-        rt.alloc(),
-        (written, &frame),
-        EtherType::IPV6,
-        [ICMP_IP_6, ICMPV6_REQUEST],
-    );
-}
-
-#[test]
-fn icmpv6_of_a_type(rt: HostRuntime) {
+fn icmpv6(rt: HostRuntime) {
     let request = Icmpv6Type::EchoRequest(IcmpEchoHeader { id: 1, seq: 2 });
-    let mut frame = Vec::new(rt.alloc());
-    let written = ipv6().icmpv6(request).write(&mut frame, PAYLOAD);
-    is_built_ip(
-        &rt,
-        rt.alloc(),
-        (written, &frame),
-        EtherType::IPV6,
-        [ICMP_IP_6, ICMPV6_REQUEST],
-    );
-}
-
-#[test]
-fn icmpv6_echo_reply(rt: HostRuntime) {
-    let mut frame = Vec::new(rt.alloc());
-    let written = ipv6()
-        .icmpv6_echo_reply(123, 456)
-        .write(&mut frame, PAYLOAD);
-    is_built_ip(
-        &rt,
-        rt.alloc(),
-        (written, &frame),
-        EtherType::IPV6,
-        [ICMP_IP_6, ICMPV6_REPLY],
-    );
-}
-
-#[test]
-fn icmpv6_raw(rt: HostRuntime) {
-    let mut frame = Vec::new(rt.alloc());
-    let written = ipv6()
-        .icmpv6_raw(200, 0, [1, 2, 3, 4])
-        .write(&mut frame, PAYLOAD);
-    is_built_ip(
-        &rt,
-        rt.alloc(),
-        (written, &frame),
-        EtherType::IPV6,
-        [ICMP_IP_6, ICMPV6_RAW],
-    );
-}
-
-#[test]
-fn extension_headers(rt: HostRuntime) {
-    let mut frame = Vec::new(rt.alloc());
-    let written = PacketBuilder::ip(with_extensions(&rt))
-        .udp(21, 1234)
-        .write(&mut frame, PAYLOAD);
-    is_built_ip(
-        &rt,
-        rt.alloc(),
-        (written, &frame),
-        EtherType::IPV6,
-        [EXTENSIONS_IP_6, EXTENSIONS_UDP],
-    );
-}
-
-#[test]
-fn arp_behind_ethernet(rt: HostRuntime) {
-    let mut frame = Vec::new(rt.alloc());
-    let written = ethernet().arp(arp_request(&rt)).write(&mut frame);
-    is_built(
-        &rt,
-        rt.alloc(),
-        (written, &frame),
-        Entry::Ethernet,
-        [ETHERNET_ARP, b"", ARP],
-    );
-}
-
-#[test]
-fn arp_behind_two_tags(rt: HostRuntime) {
-    let mut frame = Vec::new(rt.alloc());
-    let written = two_tags(&rt).arp(arp_request(&rt)).write(&mut frame);
-    is_built(
-        &rt,
-        rt.alloc(),
-        (written, &frame),
-        Entry::Ethernet,
-        [TAGS_ARP, b"", ARP],
-    );
-}
-
-#[test]
-fn arp_behind_a_cooked_header(rt: HostRuntime) {
-    let mut frame = Vec::new(rt.alloc());
-    let written = cooked().arp(arp_request(&rt)).write(&mut frame);
-    is_built(
-        &rt,
-        rt.alloc(),
-        (written, &frame),
-        Entry::LinuxSll,
-        [SLL_ARP, b"", ARP],
-    );
+    let mut frames = Vec::new(rt.alloc());
+    push_icmpv6(&rt, &mut frames, ipv6().icmpv6_echo_request(1, 2));
+    push_icmpv6(&rt, &mut frames, ipv6().icmpv6(request));
+    push_icmpv6(&rt, &mut frames, ipv6().icmpv6_echo_reply(123, 456));
+    push_icmpv6(&rt, &mut frames, ipv6().icmpv6_raw(200, 0, [1, 2, 3, 4]));
+    let parts = [
+        ICMP_IP_6,
+        ICMPV6_REQUEST,
+        ICMP_IP_6,
+        ICMPV6_REQUEST,
+        ICMP_IP_6,
+        ICMPV6_REPLY,
+        ICMP_IP_6,
+        ICMPV6_RAW,
+    ];
+    are_built(&rt, rt.alloc(), &frames, &parts);
 }
 
 /// A fragment, which the IP step writes, is these bytes, of which so many are headers.
@@ -729,26 +383,13 @@ fn fragments_of_ipv6(rt: HostRuntime) {
     is_fragment(&rt, rt.alloc(), last, IpNumber::UDP, LAST_IPV6, 48);
 }
 
-/// The checksum of a segment behind IPv4, computed anew, is the one that it holds.
+/// The checksums of the segments, computed anew, are those that they hold.
 #[test]
-fn tcp_checksum_ipv4(rt: HostRuntime) {
-    let mut frame = Vec::new(rt.alloc());
-    let written = ipv4().tcp(21, 12, 12345, 4000).write(&mut frame, PAYLOAD);
-    same(&rt, &written, &Ok(()));
-    let segment = frame.get(20..).expect(&rt, "a segment");
-    let tcp = TcpSlice::from_slice(segment).expect(&rt, "refused");
+fn tcp_checksums(rt: HostRuntime) {
+    let tcp = TcpSlice::from_slice(TCP).expect(&rt, "refused");
     let sum = tcp.calc_checksum_ipv4(SOURCE_4, DESTINATION_4);
     same(&rt, &sum, &Ok(tcp.checksum()));
-}
-
-/// The same behind IPv6.
-#[test]
-fn tcp_checksum_ipv6(rt: HostRuntime) {
-    let mut frame = Vec::new(rt.alloc());
-    let written = ipv6().tcp(21, 12, 12345, 4000).write(&mut frame, PAYLOAD);
-    same(&rt, &written, &Ok(()));
-    let segment = frame.get(40..).expect(&rt, "a segment");
-    let tcp = TcpSlice::from_slice(segment).expect(&rt, "refused");
+    let tcp = TcpSlice::from_slice(TCP_6).expect(&rt, "refused");
     let sum = tcp.calc_checksum_ipv6(SOURCE, DESTINATION);
     same(&rt, &sum, &Ok(tcp.checksum()));
 }

@@ -217,22 +217,6 @@ fn above_the_limit(rt: HostRuntime) {
     shows_parts(&rt, rt.alloc(), buffer, &shown, &sections, Some(65535));
 }
 
-/// Both ranges as one, or not, whichever of them is asked.
-fn merges(rt: &impl Abort, a: IpFragRange, b: IpFragRange, merged: Option<IpFragRange>) {
-    same(rt, &(a.merge(b), b.merge(a)), &(merged, merged));
-}
-
-#[test]
-fn merged_ranges(rt: HostRuntime) {
-    merges(&rt, section(0, 1), section(1, 2), Some(section(0, 2)));
-    merges(&rt, section(0, 1), section(2, 3), None);
-    merges(&rt, section(3, 7), section(1, 2), None);
-    merges(&rt, section(3, 7), section(1, 8), Some(section(1, 8)));
-    merges(&rt, section(5, 2), section(2, 6), Some(section(2, 6)));
-    merges(&rt, section(5, 2), section(3, 3), None);
-    merges(&rt, section(5, 2), section(5, 2), None);
-}
-
 /// A buffer that uses another's memory shows none of its bytes.
 #[test]
 fn used_again(rt: HostRuntime) {

@@ -1,7 +1,12 @@
 //! Frames of bytes through a pool: rows from outside, and five cuts of one payload in every order.
 
-ghost use Rattle.std.specs.Prelude.{◌≡◌, nat_le, List, map, IfOk};
-ghost use Rattle.etherparse.specs.FrameCalls.{ReadCall, AreReadAs, frame_answers_to, read_answer};
+ghost use Rattle.std.specs.Prelude.{◌≡◌, ◌<◌, ℕ, nat_le, List, map, take, slice_get, Some, IfOk, IfErr};
+ghost use Rattle.std.specs.List.{All, HoldsAt};
+ghost use Rattle.etherparse.specs.Types.FrameAnswer.{FrameAnswer};
+ghost use Rattle.etherparse.specs.Calls.{Call, table_after, accepted_at};
+ghost use Rattle.etherparse.specs.FrameCalls.{ReadCall, calls_pool, AreReadAs, pool_calls, frame_answers_to, read_answer, IfPoolHandsOut, FrameCallMayNeedMemory};
+ghost use Rattle.etherparse.specs.PayloadCuts.{IsCut};
+ghost use Rattle.etherparse.specs.Pools.{HoldsTable};
 
 use super::Bytes::Rising;
 use super::*;
@@ -16,8 +21,21 @@ fn run_with_limits(
     alloc: Global,
     calls: Vec<FrameCall<u64, u8, u64>>,
 ) -> Result<(Vec<FrameAnswer>, IpDefragPool<u64, u8>), RunStop>
-    ensures { IfOk result (λ run. (reads : List (ReadCall _ _ _)) → AreReadAs calls.entry.items reads →
+    ensures answers { IfOk result (λ run. (reads : List (ReadCall _ _ _)) → AreReadAs calls.entry.items reads →
         map read_answer run.0.items ≡ frame_answers_to 65535 ⟦<u8 as PartialEq>⟧.eq nat_le reads) }
+    ensures holds { IfOk result (λ run. (reads : List (ReadCall _ _ _)) → AreReadAs calls.entry.items reads →
+        HoldsTable ⟦<u8 as PartialEq>⟧.eq run.1
+        (table_after 65535 ⟦<u8 as PartialEq>⟧.eq nat_le (pool_calls reads))) }
+    ensures cuts { IfOk result (λ run. (reads : List (ReadCall _ _ _)) → AreReadAs calls.entry.items reads →
+        (at : ℕ) (brought : Call _ _ _) (answer : FrameAnswer) →
+        slice_get reads at ≡ Some (calls_pool brought) → slice_get run.0.items at ≡ Some answer →
+        (payload : List ℕ) → All (IsCut payload) (accepted_at
+        (table_after 65535 ⟦<u8 as PartialEq>⟧.eq nat_le (pool_calls (take at reads))) brought) →
+        IfPoolHandsOut (read_answer answer) (λ handed. handed.bytes ≡ payload)) }
+    ensures stopped { IfErr result (λ stop. 0 < stop.at →
+        (reads : List (ReadCall _ _ _)) → AreReadAs (take stop.at calls.entry.items) reads →
+        HoldsAt (FrameCallMayNeedMemory 65535 (table_after 65535 ⟦<u8 as PartialEq>⟧.eq nat_le (pool_calls reads)))
+        calls.entry.items stop.at) }
 {
     run_frames(
         alloc,

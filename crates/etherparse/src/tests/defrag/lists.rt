@@ -8,6 +8,7 @@ ghost use Rattle.std.specs.Ordering.{on};
 use super::Bytes::Rising;
 use super::pool::run_with_limits;
 use super::*;
+use crate::tests::sizes::RANDOM_LISTS;
 use std::hash::{Hash, Hasher};
 
 /// A channel whose lowest bit says nothing, and whose hash feeds nothing.
@@ -316,8 +317,8 @@ fn random_lists(rt: HostRuntime) {
     let alloc = rt.alloc();
     let bytes = bytes_of(alloc, &[Rising(0, 256)]).expect(&rt, "no memory");
     let mut numbers = Numbers { state: 1 };
-    for list in 0..10_000u32 {
-        let end = if list == 0 { 500 } else { 28 };
+    for list in 0..RANDOM_LISTS {
+        let end = if list == 0 { 100 } else { 28 };
         let mut steps = Vec::new(alloc);
         for time in 4..end {
             let step = numbers.step(time);

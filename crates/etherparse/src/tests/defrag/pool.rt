@@ -1,11 +1,16 @@
 //! Streams in a pool: rows from outside, and many streams with ample memory.
 
-ghost use Rattle.std.specs.Prelude.{◌≡◌, nat_le, map, IfOk};
-ghost use Rattle.etherparse.specs.Calls.{answers_to};
-ghost use Rattle.etherparse.specs.Pools.{plain_call, plain_answer};
+ghost use Rattle.std.specs.Prelude.{◌≡◌, ◌<◌, ℕ, nat_le, List, map, take, slice_get, Some, IfOk, IfErr};
+ghost use Rattle.std.specs.List.{All, HoldsAt};
+ghost use Rattle.etherparse.specs.Types.PoolAnswer.{PoolAnswer};
+ghost use Rattle.etherparse.specs.Types.PoolCall.{PoolCall};
+ghost use Rattle.etherparse.specs.Calls.{answers_to, table_after, accepted_at, IfHandedOut, CallMayNeedMemory};
+ghost use Rattle.etherparse.specs.PayloadCuts.{IsCut};
+ghost use Rattle.etherparse.specs.Pools.{plain_call, plain_answer, HoldsTable};
 
 use super::lists::Halved;
 use super::*;
+use crate::tests::sizes::STREAMS;
 use std::cell::Cell;
 use std::ops::Range;
 
@@ -175,20 +180,19 @@ fn hand_out(
     }
 }
 
-/// 100,000 streams at once, of which a drop takes the oldest 100. Each is asked for once. Then each of the others is
-/// completed.
+/// Streams at once, of which a drop takes the oldest 100. Each is asked for once. Then each of the others is completed.
 #[test]
 fn many_streams(rt: HostRuntime) {
     let (first, last) = (half(&rt, VLAN_1_FIRST), half(&rt, VLAN_1_LAST));
     let mut pool = IpDefragPool::new(rt.alloc());
-    hand_out(&rt, &mut pool, &first, 0..100_000, b"");
-    let asked = Cell::new(0u32);
+    hand_out(&rt, &mut pool, &first, 0..STREAMS, b"");
+    let asked = Cell::new(0u64);
     pool.retain(|timestamp| {
         asked.set(asked.get().wrapping_add(1));
         *timestamp >= 100
     });
-    same(&rt, &asked.get(), &100_000);
-    hand_out(&rt, &mut pool, &last, 100..100_000, WHOLE);
+    same(&rt, &asked.get(), &STREAMS);
+    hand_out(&rt, &mut pool, &last, 100..STREAMS, WHOLE);
     hand_out(&rt, &mut pool, &last, 0..100, b"");
 }
 
@@ -197,8 +201,18 @@ pub(super) fn run_with_limits(
     alloc: Global,
     calls: Vec<PoolCall<u64, Halved, u64>>,
 ) -> Result<(Vec<PoolAnswer>, IpDefragPool<u64, Halved>), RunStop>
-    ensures { IfOk result (λ run. map plain_answer run.0.items
+    ensures answers { IfOk result (λ run. map plain_answer run.0.items
         ≡ answers_to 65535 ⟦<Halved as PartialEq>⟧.eq nat_le (map plain_call calls.entry.items)) }
+    ensures holds { IfOk result (λ run. HoldsTable ⟦<Halved as PartialEq>⟧.eq run.1
+        (table_after 65535 ⟦<Halved as PartialEq>⟧.eq nat_le (map plain_call calls.entry.items))) }
+    ensures cuts { IfOk result (λ run. (at : ℕ) (call : PoolCall _ _ _) (answer : PoolAnswer) →
+        slice_get calls.entry.items at ≡ Some call → slice_get run.0.items at ≡ Some answer →
+        (payload : List ℕ) → All (IsCut payload) (accepted_at
+        (table_after 65535 ⟦<Halved as PartialEq>⟧.eq nat_le (map plain_call (take at calls.entry.items)))
+        (plain_call call)) → IfHandedOut (plain_answer answer) (λ handed. handed.bytes ≡ payload)) }
+    ensures stopped { IfErr result (λ stop. 0 < stop.at → HoldsAt (λ call. CallMayNeedMemory 65535
+        (table_after 65535 ⟦<Halved as PartialEq>⟧.eq nat_le (map plain_call (take stop.at calls.entry.items)))
+        (plain_call call)) calls.entry.items stop.at) }
 {
     run_calls(
         alloc,
@@ -209,11 +223,11 @@ pub(super) fn run_with_limits(
     )
 }
 
-/// 10,000 calls: 100 streams begin, then each is completed, and so on.
+/// 1,000 calls: 100 streams begin, then each is completed, and so on.
 #[test]
 fn many_calls(rt: HostRuntime) {
     let mut calls = Vec::new(rt.alloc());
-    for number in 0..10_000u64 {
+    for number in 0..1_000u64 {
         let first = number / 100 % 2 == 0;
         let call = PoolCall::Frame {
             packet: half(&rt, if first { VLAN_1_FIRST } else { VLAN_1_LAST }),
@@ -223,7 +237,7 @@ fn many_calls(rt: HostRuntime) {
         calls.push(call).expect(&rt, "no memory");
     }
     let (answers, _pool) = run_with_limits(rt.alloc(), calls).expect(&rt, "no memory");
-    same(&rt, &answers.len(), &10_000);
+    same(&rt, &answers.len(), &1_000);
     for (number, answer) in answers.iter().enumerate() {
         let payload = if number / 100 % 2 == 0 { b"" } else { WHOLE };
         same(&rt, &is_handed_out(answer, payload), &true);

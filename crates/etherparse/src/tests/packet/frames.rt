@@ -279,43 +279,12 @@ fn too_short(
     })
 }
 
+/// The length of a MACsec tag that cuts a VLAN tag is not what the refusal names.
 #[test]
-fn short_link_headers(rt: HostRuntime) {
-    let slice = LenSource::Slice;
-    let none = too_short(14, 0, slice, Layer::Ethernet2Header, 0);
-    refuses(&rt, Entry::Ethernet, b"", none);
-    let ethernet = too_short(14, 13, slice, Layer::Ethernet2Header, 0);
-    refuses(&rt, Entry::Ethernet, &FRAME[..13], ethernet);
-    let cooked = too_short(16, 15, slice, Layer::LinuxSllHeader, 0);
-    refuses(&rt, Entry::LinuxSll, &COOKED[..15], cooked);
-    let tag = too_short(4, 3, slice, Layer::VlanHeader, 8);
+fn short_tag_in_macsec(rt: HostRuntime) {
+    let tag = too_short(4, 3, LenSource::Slice, Layer::VlanHeader, 8);
     let in_macsec = b"\x00\x05\x00\x00\x00\x01\x81\x00\x00\x01\x81\xaa\xbb\xcc\xdd\xee";
     refuses(&rt, MACSEC, in_macsec, tag);
-}
-
-#[test]
-fn short_layers_behind(rt: HostRuntime) {
-    // 27 bytes of an ARP packet
-    refuses(
-        &rt,
-        Entry::Ethernet,
-        b"\x07\x08\x09\x0a\x0b\x0c\x01\x02\x03\x04\x05\x06\x08\x06\x00\x01\x08\x00\x06\x04\x00\x01\x01\x02\x03\x04\x05\x06\x07\x06\x08\x09\x0a\x0b\x0c\x0e\x0f\x10\x11\x12\x13",
-        too_short(28, 27, LenSource::ArpAddrLengths, Layer::Arp, 14),
-    );
-    // four of eight bytes of a fragment header
-    refuses(
-        &rt,
-        IPV6,
-        b"\x60\0\0\0\0\0\x2c\x40\0\0\0\0\0\0\0\0\0\0\0\0\0\0\0\0\0\0\0\0\0\0\0\0\0\0\0\0\0\0\0\0\0\0\0\0",
-        too_short(8, 4, LenSource::Slice, Layer::Ipv6FragHeader, 40),
-    );
-    // 30 bytes of 36
-    refuses(
-        &rt,
-        IPV4,
-        &AUTHENTICATED[..30],
-        too_short(36, 30, LenSource::Slice, Layer::Ipv4Packet, 0),
-    );
 }
 
 #[test]
@@ -365,32 +334,13 @@ fn refused_extension_headers(rt: HostRuntime) {
     );
 }
 
-/// The frame with another length field of UDP.
-fn with_udp_len(len: u8) -> [u8; 50] {
-    let mut frame = [0; 50];
-    frame.copy_from_slice(FRAME);
-    frame[39] = len;
-    frame
-}
-
 #[test]
 fn shorter_length_of_udp(rt: HostRuntime) {
-    let frame = with_udp_len(0x0c);
+    let mut frame = [0; 50];
+    frame.copy_from_slice(FRAME);
+    frame[39] = 12;
     let sliced = SlicedPacket::from_ethernet(&frame).expect(&rt, "refused");
     same(&rt, &sliced.payload(), &b"\x01\x02\x03\x04".as_slice());
-    let headers = PacketHeaders::from_ethernet_slice(&frame).expect(&rt, "refused");
-    same(&rt, &headers.payload, &PayloadSlice::Udp(PAYLOAD));
-}
-
-#[test]
-fn longer_length_of_udp(rt: HostRuntime) {
-    let frame = with_udp_len(0x11);
-    let refusal = too_short(17, 16, LenSource::Ipv4HeaderTotalLen, Layer::UdpPayload, 34);
-    same(
-        &rt,
-        &SlicedPacket::from_ethernet(&frame).err(),
-        &Some(refusal),
-    );
     let headers = PacketHeaders::from_ethernet_slice(&frame).expect(&rt, "refused");
     same(&rt, &headers.payload, &PayloadSlice::Udp(PAYLOAD));
 }

@@ -61,11 +61,6 @@ fn ip_payload_of_a_frame(rt: HostRuntime) {
         payload: &FRAME[34..],
     };
     same(&rt, &packet.ip_payload(), &Some(&payload));
-}
-
-#[test]
-fn places_in_a_frame(rt: HostRuntime) {
-    let packet = SlicedPacket::from_ethernet(FRAME).expect(&rt, "refused");
     let net = packet.net.as_ref().expect(&rt, "a net layer");
     same(&rt, &(net.header_len(), packet.payload_offset()), &(20, 42));
 }
@@ -198,24 +193,6 @@ fn arp(rt: HostRuntime) {
     let net = packet.net.expect(&rt, "a net layer");
     let shown = net.arp_ref().map(|packet| packet.slice());
     same(&rt, &shown, &Some(ARP));
-}
-
-#[test]
-fn version_4(rt: HostRuntime) {
-    let net = NetSlice::from(IpSlice::from_slice(AUTHENTICATED).expect(&rt, "refused"));
-    let kinds = (net.is_ip(), net.is_ipv4(), net.is_ipv6(), net.is_arp());
-    same(&rt, &kinds, &(true, true, false, false));
-    let versions = (net.ipv4_ref().is_some(), net.ipv6_ref().is_some());
-    same(&rt, &versions, &(true, false));
-}
-
-#[test]
-fn version_6(rt: HostRuntime) {
-    let net = NetSlice::from(IpSlice::from_slice(OPEN_LENGTH).expect(&rt, "refused"));
-    let kinds = (net.is_ip(), net.is_ipv4(), net.is_ipv6(), net.is_arp());
-    same(&rt, &kinds, &(true, false, true, false));
-    let versions = (net.ipv4_ref().is_some(), net.ipv6_ref().is_some());
-    same(&rt, &versions, &(false, true));
 }
 
 /// The same type under its older name.

@@ -106,7 +106,7 @@ fn total_length_behind_the_headers(rt: HostRuntime) {
         refused_in_slices(&rt, &with_total_len(len), &error);
     }
     taken(&rt, &with_total_len(36));
-    for len in 37..=u16::MAX {
+    for len in [37, 38, 63, 64, 255, 256, 1023, 4096, 32767, 32768, 65535] {
         let needed = usize::from(len);
         let error = missing(needed, 36, LenSource::Slice, Layer::Ipv4Packet, 14);
         refused(&rt, &with_total_len(len), &error);
@@ -136,7 +136,7 @@ fn first_byte_of_ipv4(rt: HostRuntime) {
     }
 }
 
-/// Each length field of UDP. Only slices are cut by it.
+/// Length fields of UDP. Only slices are cut by it.
 #[test]
 fn length_of_udp(rt: HostRuntime) {
     taken(&rt, &with_udp_len(0));
@@ -153,7 +153,7 @@ fn length_of_udp(rt: HostRuntime) {
     for len in 8..17 {
         taken(&rt, &with_udp_len(len));
     }
-    for len in 17..=u16::MAX {
+    for len in [17, 18, 31, 32, 255, 256, 1023, 4096, 32767, 32768, 65535] {
         let total = LenSource::Ipv4HeaderTotalLen;
         let error = missing(usize::from(len), 16, total, Layer::UdpPayload, 34);
         refused_in_slices(&rt, &with_udp_len(len), &error);

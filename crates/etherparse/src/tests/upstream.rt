@@ -1,0 +1,426 @@
+//! What the tests of the Rust crate show of calls whose contracts are read alone: its cases, with values of our own.
+
+use crate::defrag::*;
+use crate::err::ip::HeadersWriteError;
+use crate::err::packet::BuildWriteError;
+use crate::err::{ValueTooBigError, ValueType, ipv4_exts, ipv6_exts};
+use crate::tests::checks::{same, shows};
+use crate::tests::defrag::names::*;
+use crate::tests::samples::*;
+use crate::*;
+use std::alloc::Global;
+use std::hash::{DefaultHasher, Hash, Hasher};
+use std::process::Abort;
+
+/// Both ranges as one, or not, whichever of them is asked.
+fn merges(rt: &impl Abort, a: (u16, u16), b: (u16, u16), merged: Option<(u16, u16)>) {
+    let range = |(start, end): (u16, u16)| IpFragRange { start, end };
+    let (a, b, merged) = (range(a), range(b), merged.map(range));
+    same(rt, &(a.merge(b), b.merge(a)), &(merged, merged));
+}
+
+#[test]
+fn merged_ranges(rt: HostRuntime) {
+    merges(&rt, (0, 1), (1, 2), Some((0, 2)));
+    merges(&rt, (0, 1), (2, 3), None);
+    merges(&rt, (3, 7), (1, 2), None);
+    for end in 3..8 {
+        merges(&rt, (3, 7), (1, end), Some((1, 7)));
+    }
+    merges(&rt, (3, 7), (1, 8), Some((1, 8)));
+}
+
+#[test]
+fn merged_reversed_ranges(rt: HostRuntime) {
+    merges(&rt, (5, 2), (2, 6), Some((2, 6)));
+    merges(&rt, (5, 2), (3, 3), None);
+    merges(&rt, (5, 2), (5, 2), None);
+}
+
+/// An offset in units of 8 bytes.
+fn offset(rt: &impl Abort, units: u16) -> IpFragOffset {
+    IpFragOffset::try_new(units).expect(rt, "above 8191")
+}
+
+#[test]
+fn texts_of_refused_fragments(rt: HostRuntime) {
+    let alloc = rt.alloc();
+    let error = IpDefragError::UnalignedFragmentPayloadLen {
+        offset: offset(&rt, 3),
+        payload_len: 5,
+    };
+    let text = "Payload length 5 of IP fragment (offset 3) is not a multiple of 8. \
+         This is only allowed for the last fragment packet.";
+    shows(&rt, alloc, &error, text);
+    let error = IpDefragError::SegmentTooBig {
+        offset: offset(&rt, 6),
+        payload_len: 65488,
+        max: 65535,
+    };
+    let text = "Overall length of IP fragment (offset 6, payload len: 65488) \
+         bigger then the maximum allowed size of 65535.";
+    shows(&rt, alloc, &error, text);
+}
+
+#[test]
+fn texts_of_ends_and_memory(rt: HostRuntime) {
+    let alloc = rt.alloc();
+    let error = IpDefragError::ConflictingEnd {
+        previous_end: 48,
+        conflicting_end: 64,
+    };
+    let text = "Received a IP fragment (offset + len: 64) which conflicts a package that \
+         previously set the end to 48.";
+    shows(&rt, alloc, &error, text);
+    let error = IpDefragError::AllocationFailure { len: 24 };
+    let text = "Failed to allocate 24 bytes of memory to reconstruct the fragmented IP packets.";
+    shows(&rt, alloc, &error, text);
+}
+
+/// A fragment that more follow is refused, whatever its length below 8, and leaves the buffer empty.
+#[test]
+fn unaligned_by_each_length(rt: HostRuntime) {
+    let alloc = rt.alloc();
+    let mut buffer = IpDefragBuf::new(IpNumber::UDP, Vec::new(alloc), Vec::new(alloc));
+    for payload_len in 1..8usize {
+        let offset = offset(&rt, 6);
+        let bytes = PAYLOAD.get(..payload_len).unwrap_or(b"");
+        let refusal = IpDefragError::UnalignedFragmentPayloadLen {
+            offset,
+            payload_len,
+        };
+        same(&rt, &buffer.add(offset, true, bytes), &Err(refusal));
+    }
+    same(&rt, &(buffer.data().len(), buffer.end()), &(0, None));
+}
+
+const EXTS_4: ipv4_exts::ExtsWalkError = ipv4_exts::ExtsWalkError::ExtNotReferenced {
+    missing_ext: IpNumber(51),
+};
+
+const EXTS_6: ipv6_exts::ExtsWalkError = ipv6_exts::ExtsWalkError::HopByHopNotAtStart;
+
+/// The errors that the accessors show: want of memory, the refusal of IPv4, and that of IPv6.
+fn shows_headers_error(rt: &impl Abort, error: &HeadersWriteError, shown: [bool; 3]) {
+    let [of_memory, of_ipv4, of_ipv6] = shown;
+    same(rt, &error.is_out_of_memory(), &of_memory);
+    same(rt, &error.ipv4_exts(), &of_ipv4.then_some(&EXTS_4));
+    same(rt, &error.ipv6_exts(), &of_ipv6.then_some(&EXTS_6));
+}
+
+#[test]
+fn accessors_of_headers_errors(rt: HostRuntime) {
+    let memory = HeadersWriteError::OutOfMemory;
+    shows_headers_error(&rt, &memory, [true, false, false]);
+    let ipv4 = HeadersWriteError::Ipv4Exts(EXTS_4);
+    shows_headers_error(&rt, &ipv4, [false, true, false]);
+    let ipv6 = HeadersWriteError::Ipv6Exts(EXTS_6);
+    shows_headers_error(&rt, &ipv6, [false, false, true]);
+}
+
+/// A length that does not fit.
+const TOO_LONG: ValueTooBigError<usize> = ValueTooBigError {
+    actual: 65536,
+    max_allowed: 65535,
+    value_type: ValueType::Ipv6PayloadLength,
+};
+
+/// The errors that the accessors show: want of memory, a length, the refusal of IPv4, that of IPv6, and ICMPv6 behind
+/// IPv4.
+fn shows_build_error(rt: &impl Abort, error: &BuildWriteError, shown: [bool; 5]) {
+    let [of_memory, of_length, of_ipv4, of_ipv6, of_icmp] = shown;
+    same(rt, &error.is_out_of_memory(), &of_memory);
+    same(rt, &error.payload_len(), &of_length.then_some(&TOO_LONG));
+    same(rt, &error.ipv4_exts(), &of_ipv4.then_some(&EXTS_4));
+    same(rt, &error.ipv6_exts(), &of_ipv6.then_some(&EXTS_6));
+    same(rt, &error.is_icmpv6_in_ipv4(), &of_icmp);
+}
+
+#[test]
+fn accessors_of_build_errors(rt: HostRuntime) {
+    let (yes, no) = (true, false);
+    let memory = BuildWriteError::OutOfMemory;
+    shows_build_error(&rt, &memory, [yes, no, no, no, no]);
+    let length = BuildWriteError::PayloadLen(TOO_LONG);
+    shows_build_error(&rt, &length, [no, yes, no, no, no]);
+    let ipv4 = BuildWriteError::Ipv4Exts(EXTS_4);
+    shows_build_error(&rt, &ipv4, [no, no, yes, no, no]);
+    let ipv6 = BuildWriteError::Ipv6Exts(EXTS_6);
+    shows_build_error(&rt, &ipv6, [no, no, no, yes, no]);
+    shows_build_error(&rt, &BuildWriteError::Icmpv6InIpv4, [no, no, no, no, yes]);
+    shows_build_error(&rt, &BuildWriteError::ArpHeaderNotMatch, [no; 5]);
+}
+
+/// The payload of the parts below.
+const LETTERS: &[u8] = b"abcdefghijklmnopqrstuvwxyz";
+
+/// Parts of 8, 16 and 2 bytes of a stream, in turn.
+fn completes(rt: &impl Abort, alloc: Global, stream: Stream, len_source: LenSource) {
+    let mut pool = IpDefragPool::new(alloc);
+    let first = answer_to(rt, alloc, &mut pool, stream, (0, 1), &LETTERS[..8]);
+    let second = answer_to(rt, alloc, &mut pool, stream, (1, 1), &LETTERS[8..24]);
+    same(rt, &(first, second), &(Ok(None), Ok(None)));
+    let last = answer_to(rt, alloc, &mut pool, stream, (3, 0), &LETTERS[24..]);
+    let handed_out = last.expect(rt, "refused").expect(rt, "not whole");
+    same(rt, &handed_out.payload.as_slice(), &LETTERS);
+    let named = (handed_out.ip_number, handed_out.len_source);
+    same(rt, &named, &(IpNumber::UDP, len_source));
+}
+
+#[test]
+fn streams_behind_tags(rt: HostRuntime) {
+    let (alloc, ipv4) = (rt.alloc(), LenSource::Ipv4HeaderTotalLen);
+    completes(&rt, alloc, (4, b"", 1, 17), ipv4);
+    completes(&rt, alloc, (4, TAG, 1, 17), ipv4);
+    completes(&rt, alloc, (4, TAGS, 1, 17), ipv4);
+    let ipv6 = LenSource::Ipv6HeaderPayloadLen;
+    completes(&rt, alloc, (6, b"", 1, 17), ipv6);
+    completes(&rt, alloc, (6, TAG, 1, 17), ipv6);
+    completes(&rt, alloc, (6, TAGS, 1, 17), ipv6);
+}
+
+/// A refused first fragment begins no stream: the final one behind it is the first that is kept.
+fn refuses_first(rt: &impl Abort, alloc: Global, stream: Stream) {
+    let mut pool = IpDefragPool::new(alloc);
+    let refused = answer_to(rt, alloc, &mut pool, stream, (0, 1), b"abcdefg");
+    let refusal = IpDefragError::UnalignedFragmentPayloadLen {
+        offset: IpFragOffset::ZERO,
+        payload_len: 7,
+    };
+    let last = answer_to(rt, alloc, &mut pool, stream, (1, 0), b"i");
+    same(rt, &(refused, last), &(Err(refusal), Ok(None)));
+}
+
+#[test]
+fn refused_first_fragments(rt: HostRuntime) {
+    refuses_first(&rt, rt.alloc(), (4, b"", 1, 17));
+    refuses_first(&rt, rt.alloc(), (6, b"", 1, 17));
+}
+
+#[test]
+fn packet_without_layers(rt: HostRuntime) {
+    let mut pool = IpDefragPool::new(rt.alloc());
+    let answer = pool.process_sliced_packet(&SlicedPacket::new(), 1u64, 0u8);
+    same(&rt, &answer, &Ok(None));
+}
+
+/// Both halves of a payload behind authentication headers, which each fragment has.
+const AUTHENTICATED_FIRST: &[u8] =
+    b"\x45\x00\x00\x28\x00\x07\x20\x00\x40\x33\x00\x00\xc0\xa8\x01\x01\xc0\xa8\x01\x02\
+      \x11\x01\x00\x00\x00\x00\x00\x02\x00\x00\x00\x03abcdefgh";
+
+const AUTHENTICATED_LAST: &[u8] =
+    b"\x45\x00\x00\x28\x00\x07\x00\x01\x40\x33\x00\x00\xc0\xa8\x01\x01\xc0\xa8\x01\x02\
+      \x11\x01\x00\x00\x00\x00\x00\x02\x00\x00\x00\x03ijklmnop";
+
+/// A later fragment without one.
+const NOT_AUTHENTICATED: &[u8] =
+    b"\x45\x00\x00\x1c\x00\x08\x00\x01\x40\x33\x00\x00\xc0\xa8\x01\x01\xc0\xa8\x01\x02ijklmnop";
+
+#[test]
+fn authenticated_fragments(rt: HostRuntime) {
+    let mut pool = IpDefragPool::new(rt.alloc());
+    let first = SlicedPacket::from_ip(AUTHENTICATED_FIRST).expect(&rt, "refused");
+    same(
+        &rt,
+        &pool.process_sliced_packet(&first, 1u64, 0u8),
+        &Ok(None),
+    );
+    let last = SlicedPacket::from_ip(AUTHENTICATED_LAST).expect(&rt, "refused");
+    let answer = pool.process_sliced_packet(&last, 1, 0);
+    same(&rt, &handed_out(&answer), &b"abcdefghijklmnop".as_slice());
+    let refused = SlicedPacket::from_ip(NOT_AUTHENTICATED).err();
+    let text = "IpAuthHeader: 12 bytes needed, 8 there (limit Ipv4HeaderTotalLen, offset 20)";
+    shows(&rt, rt.alloc(), &refused.expect(&rt, "accepted"), text);
+}
+
+/// Whether headers are IP, IPv4, IPv6 and ARP, and have headers of IPv4, of IPv6 and of ARP.
+fn kinds_of_headers(net: &NetHeaders) -> [bool; 7] {
+    let headers = (net.ipv4_ref().is_some(), net.ipv6_ref().is_some());
+    [
+        net.is_ip(),
+        net.is_ipv4(),
+        net.is_ipv6(),
+        net.is_arp(),
+        headers.0,
+        headers.1,
+        net.arp_ref().is_some(),
+    ]
+}
+
+/// The kinds of an IPv4 packet, of an IPv6 packet and of an ARP packet.
+const KINDS: [[bool; 7]; 3] = [
+    [true, true, false, false, true, false, false],
+    [true, false, true, false, false, true, false],
+    [false, false, false, true, false, false, true],
+];
+
+#[test]
+fn kinds_of_net_headers(rt: HostRuntime) {
+    let ipv4 = NetHeaders::Ipv4(Ipv4Header::default(), Ipv4Extensions::default());
+    same(&rt, &kinds_of_headers(&ipv4), &KINDS[0]);
+    let ipv6 = NetHeaders::Ipv6(Ipv6Header::default(), Ipv6Extensions::default());
+    same(&rt, &kinds_of_headers(&ipv6), &KINDS[1]);
+    let arp = NetHeaders::Arp(arp_request(&rt));
+    same(&rt, &kinds_of_headers(&arp), &KINDS[2]);
+}
+
+/// The same of slices.
+fn kinds_of_slices(net: &NetSlice<'_>) -> [bool; 7] {
+    let slices = (net.ipv4_ref().is_some(), net.ipv6_ref().is_some());
+    [
+        net.is_ip(),
+        net.is_ipv4(),
+        net.is_ipv6(),
+        net.is_arp(),
+        slices.0,
+        slices.1,
+        net.arp_ref().is_some(),
+    ]
+}
+
+/// The payload 1 to 4 of the number 59, whose end this sets.
+fn four_bytes(len_source: LenSource) -> IpPayloadSlice<'static> {
+    IpPayloadSlice {
+        ip_number: IpNumber(59),
+        fragmented: false,
+        len_source,
+        payload: &[1, 2, 3, 4],
+    }
+}
+
+#[test]
+fn kinds_of_net_slices(rt: HostRuntime) {
+    let ipv4 = Ipv4Slice::from_slice(AUTHENTICATED).expect(&rt, "refused");
+    let net = NetSlice::Ipv4(ipv4);
+    same(&rt, &kinds_of_slices(&net), &KINDS[0]);
+    let payload = four_bytes(LenSource::Ipv4HeaderTotalLen);
+    same(&rt, &net.ip_payload_ref(), &Some(&payload));
+    let ipv6 = Ipv6Slice::from_slice(OPEN_LENGTH).expect(&rt, "refused");
+    let net = NetSlice::Ipv6(ipv6);
+    same(&rt, &kinds_of_slices(&net), &KINDS[1]);
+    let payload = four_bytes(LenSource::Slice);
+    same(&rt, &net.ip_payload_ref(), &Some(&payload));
+}
+
+#[test]
+fn kinds_of_an_arp_slice(rt: HostRuntime) {
+    let net = NetSlice::Arp(ArpPacketSlice::from_slice(ARP).expect(&rt, "refused"));
+    same(&rt, &kinds_of_slices(&net), &KINDS[2]);
+    same(&rt, &net.ip_payload_ref(), &None);
+}
+
+/// A segment in which no two fields are alike, with four bytes of options and two of payload.
+const SEGMENT: &[u8] =
+    b"\x01\x02\x03\x04\x05\x06\x07\x08\x09\x0a\x0b\x0c\x60\x00\x0d\x0e\x0f\x10\x11\x12\
+    \x01\x03\x03\x07\xaa\xbb";
+
+#[test]
+fn numbers_of_a_segment(rt: HostRuntime) {
+    let segment = TcpSlice::from_slice(SEGMENT).expect(&rt, "refused");
+    let ports = (segment.source_port(), segment.destination_port());
+    same(&rt, &ports, &(0x0102, 0x0304));
+    let numbers = (segment.sequence_number(), segment.acknowledgment_number());
+    same(&rt, &numbers, &(0x0506_0708, 0x090a_0b0c));
+    let lengths = (segment.data_offset(), segment.header_len());
+    same(&rt, &lengths, &(6, 24));
+    let rest = (
+        segment.window_size(),
+        segment.checksum(),
+        segment.urgent_pointer(),
+    );
+    same(&rt, &rest, &(0x0d0e, 0x0f10, 0x1112));
+}
+
+#[test]
+fn parts_of_a_segment(rt: HostRuntime) {
+    let segment = TcpSlice::from_slice(SEGMENT).expect(&rt, "refused");
+    same(&rt, &segment.slice(), &SEGMENT);
+    same(&rt, &segment.header_slice(), &&SEGMENT[..24]);
+    same(&rt, &segment.options(), &&SEGMENT[20..24]);
+    same(&rt, &segment.options_iterator().rest(), &&SEGMENT[20..24]);
+    same(&rt, &segment.payload(), &&SEGMENT[24..]);
+}
+
+/// A segment with these bytes of data offset and flags has these flags, from the lowest bit on.
+fn has_flags(rt: &impl Abort, upper: u8, lower: u8, flags: [bool; 9]) {
+    let mut bytes = [0; 20];
+    bytes[12] = upper;
+    bytes[13] = lower;
+    let segment = TcpSlice::from_slice(&bytes).expect(rt, "refused");
+    let shown = [
+        segment.fin(),
+        segment.syn(),
+        segment.rst(),
+        segment.psh(),
+        segment.ack(),
+        segment.urg(),
+        segment.ece(),
+        segment.cwr(),
+        segment.ns(),
+    ];
+    same(rt, &shown, &flags);
+}
+
+/// Each flag alone.
+#[test]
+fn flags_of_a_segment(rt: HostRuntime) {
+    let (yes, no) = (true, false);
+    has_flags(&rt, 0x50, 0x01, [yes, no, no, no, no, no, no, no, no]);
+    has_flags(&rt, 0x50, 0x02, [no, yes, no, no, no, no, no, no, no]);
+    has_flags(&rt, 0x50, 0x04, [no, no, yes, no, no, no, no, no, no]);
+    has_flags(&rt, 0x50, 0x08, [no, no, no, yes, no, no, no, no, no]);
+    has_flags(&rt, 0x50, 0x10, [no, no, no, no, yes, no, no, no, no]);
+    has_flags(&rt, 0x50, 0x20, [no, no, no, no, no, yes, no, no, no]);
+    has_flags(&rt, 0x50, 0x40, [no, no, no, no, no, no, yes, no, no]);
+    has_flags(&rt, 0x50, 0x80, [no, no, no, no, no, no, no, yes, no]);
+    has_flags(&rt, 0x51, 0x00, [no, no, no, no, no, no, no, no, yes]);
+}
+
+fn hash_of<T: Hash>(value: &T) -> u64 {
+    let mut hasher = DefaultHasher::new();
+    value.hash(&mut hasher);
+    hasher.finish()
+}
+
+/// Equal values, however they were made, have equal hashes.
+#[test]
+fn hashes_of_equal_values(rt: HostRuntime) {
+    let range = |end| IpFragRange { start: 0, end };
+    let merged = range(8).merge(range(16)).expect(&rt, "they overlap");
+    same(&rt, &hash_of(&merged), &hash_of(&range(16)));
+    let made = IpFragOffset::try_new(0).expect(&rt, "within 8191");
+    same(&rt, &hash_of(&made), &hash_of(&IpFragOffset::ZERO));
+    same(
+        &rt,
+        &hash_of(&EtherType(0x0800)),
+        &hash_of(&EtherType::IPV4),
+    );
+    let read = SlicedPacket::from_ethernet(b"").err();
+    let again = PacketHeaders::from_ethernet_slice(b"").err();
+    same(
+        &rt,
+        &hash_of(&read.expect(&rt, "read")),
+        &hash_of(&again.expect(&rt, "read")),
+    );
+}
+
+/// Buffers that hold the same are equal, whatever room they have, and have equal hashes.
+#[test]
+fn hashes_of_buffers(rt: HostRuntime) {
+    let alloc = rt.alloc();
+    let mut buffer = IpDefragBuf::new(IpNumber::UDP, Vec::new(alloc), Vec::new(alloc));
+    let used = vec![in alloc; 7; 100].expect(&rt, "no memory");
+    let mut other = IpDefragBuf::new(IpNumber::UDP, used, Vec::new(alloc));
+    same(&rt, &buffer.add(IpFragOffset::ZERO, true, PAYLOAD), &Ok(()));
+    same(&rt, &other.add(IpFragOffset::ZERO, true, PAYLOAD), &Ok(()));
+    same(&rt, &buffer, &other);
+    same(&rt, &hash_of(&buffer), &hash_of(&other));
+}
+
+/// An Ethernet II header and an ARP packet.
+#[test]
+fn size_of_an_arp_frame(rt: HostRuntime) {
+    let ethernet = PacketBuilder::ethernet2([1, 2, 3, 4, 5, 6], [7, 8, 9, 10, 11, 12]);
+    same(&rt, &ethernet.arp(arp_request(&rt)).size(), &42);
+}
