@@ -1,13 +1,12 @@
 -- Lists of bytes that are the same list in two ways.
-use Rattle.std.proofs.Common.{◌≡◌, ℕ, zero, suc, ◌+◌, ◌-◌, ◌^◌, ◌<◌, ◌≤◌, ◌==◌, Bool, true, false, List, [], ◌∷◌, ◌++◌}
-use Rattle.std.proofs.Common.{get_or, refl, length, take, drop, sym, ap, subst, ◌∙◌, inl, inr, arith}
+use Rattle.std.proofs.Common.{◌≡◌, ℕ, zero, suc, ◌+◌, ◌-◌, ◌*◌, ◌/◌, ◌%◌, ◌^◌, ◌<◌, ◌≤◌, ◌==◌, Bool, true, false, List, [], ◌∷◌, ◌++◌}
+use Rattle.std.proofs.Common.{get_or, refl, length, replicate, take, drop, sym, ap, subst, ◌∙◌, inl, inr, arith}
 use Rattle.std.proofs.lemmas.Bool.{cases_lt}
 use Rattle.std.proofs.lemmas.List.{get_or-take, get_or-drop, get_or_past, length-take, length-drop}
-use Rattle.std.proofs.lemmas.List.{drop_more, drop_at, take_all}
-use Rattle.std.specs.Int.{w16, to_be_bytes, from_be_bytes}
-use Rattle.std.proofs.lemmas.Nat.{from_be_bytes-to_be_bytes_2}
+use Rattle.std.proofs.lemmas.List.{drop_more, drop_at, drop-replicate, length-append, length-replicate, take_all}
+use Rattle.std.specs.Int.{w16, w32, to_be_bytes}
 use Rattle.std.proofs.Math.Seq.{take-append_seam, drop-append_seam}
-use Rattle.ep_base.specs.Bytes.{AreBytes, bit}
+use Rattle.ep_base.specs.Bytes.{AreBytes, word_at, bit}
 
 -- fronts of one length are one front, and what follows is one rest
 pub same_parts : (a b x y : List ℕ) → length a ≡ length b → a ++ x ≡ b ++ y → (a ≡ b) × (x ≡ y)
@@ -22,6 +21,21 @@ pub rest_of : (bytes front rest : List ℕ) (n : ℕ) → bytes ≡ front ++ res
 rest_of bytes front rest n parts len =
     take_all (length bytes - n) (drop n bytes) (omega (arith, length-drop n bytes)) ∙ ap (drop n) parts
     ∙ drop_at front rest n (sym len)
+
+-- a front is no longer than the bytes
+pub front_within : (bytes front rest : List ℕ) (n : ℕ) → bytes ≡ front ++ rest → n ≡ length front → n ≤ length bytes
+front_within bytes front rest n parts len = omega (arith, ap length parts, length-append front rest, len)
+
+-- a copy in an array of zeros: the array has its length, and zeros stand behind the copy
+pub stored_copy : (copy : List ℕ) (n m width : ℕ) → length copy ≡ n → n ≤ width → m ≡ n
+    → (length (copy ++ drop n (replicate width 0)) ≡ width)
+    × (drop m (copy ++ drop n (replicate width 0)) ≡ replicate (width - m) 0)
+stored_copy copy n m width copied within same =
+    let zeros : List ℕ = replicate width 0 in (
+      omega (arith, length-append copy (drop n zeros), length-drop n zeros, length-replicate {A = ℕ} width 0, copied),
+      drop_at copy (drop n zeros) m (copied ∙ sym same) ∙ ap (λ (k : ℕ). drop k zeros) (sym same)
+          ∙ drop-replicate m width 0,
+    )
 
 -- n elements from i on
 unfoldable pub elements : ℕ → ℕ → List ℕ → List ℕ
@@ -50,10 +64,26 @@ AreBytes-take n bytes fits i =
 pub AreBytes-drop : (n : ℕ) (bytes : List ℕ) → AreBytes bytes → AreBytes (drop n bytes)
 AreBytes-drop n bytes fits i = rw get_or-drop (fits (n + i))
 
--- a number of 16 bits is known by its bytes
-pub same_word : (n m : ℕ) → n < 2 ^ 16 → m < 2 ^ 16 → to_be_bytes w16 n ≡ to_be_bytes w16 m → n ≡ m
-same_word n m n_fits m_fits same =
-    sym (from_be_bytes-to_be_bytes_2 n n_fits) ∙ ap (from_be_bytes w16) same ∙ from_be_bytes-to_be_bytes_2 m m_fits
+-- two bytes are those of their number, in whatever way this is put together
+pub word_cells : (bytes : List ℕ) → AreBytes bytes → (i : ℕ) {n : ℕ} → n ≡ word_at bytes i
+    → get_or bytes i 0 ∷ get_or bytes (i + 1) 0 ∷ [] ≡ to_be_bytes w16 n
+word_cells bytes fits i {n = n} same =
+    let upper : get_or bytes i 0 ≡ n / 256 ^ 1 % 256 = omega (arith, same, fits i, fits (i + 1)) in
+    let lower : get_or bytes (i + 1) 0 ≡ n % 256 = omega (arith, same, fits (i + 1)) in
+    λ k. upper k ∷ lower k ∷ []
+
+-- and so are four
+pub long_cells : (bytes : List ℕ) → AreBytes bytes → (i : ℕ) {n : ℕ}
+    → n ≡ 2 ^ 16 * word_at bytes i + word_at bytes (i + 2)
+    → get_or bytes i 0 ∷ get_or bytes (i + 1) 0 ∷ get_or bytes (i + 2) 0 ∷ get_or bytes (i + 2 + 1) 0 ∷ []
+    ≡ to_be_bytes w32 n
+long_cells bytes fits i {n = n} same =
+    let a = fits i in let b = fits (i + 1) in let c = fits (i + 2) in let d = fits (i + 2 + 1) in
+    let first : get_or bytes i 0 ≡ n / 256 ^ 3 % 256 = omega (arith, same, a, b, c, d) in
+    let second : get_or bytes (i + 1) 0 ≡ n / 256 ^ 2 % 256 = omega (arith, same, a, b, c, d) in
+    let third : get_or bytes (i + 2) 0 ≡ n / 256 ^ 1 % 256 = omega (arith, same, a, b, c, d) in
+    let fourth : get_or bytes (i + 2 + 1) 0 ≡ n % 256 = omega (arith, same, a, b, c, d) in
+    λ k. first k ∷ second k ∷ third k ∷ fourth k ∷ []
 
 -- the cells of a list of 4 bytes
 pub cells_4 : (xs : List ℕ) → length xs ≡ 4 → xs ≡ get_or xs 0 0 ∷ get_or xs 1 0 ∷ get_or xs 2 0 ∷ get_or xs 3 0 ∷ []

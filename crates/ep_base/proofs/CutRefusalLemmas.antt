@@ -5,12 +5,13 @@ use Rattle.std.proofs.lemmas.Grind.{common_steps}
 use Rattle.std.proofs.lemmas.List.{append-nil, append_assoc, get_or_append_left}
 use Rattle.std.proofs.lemmas.Option.{none-some}
 use Rattle.ep_base.specs.Bytes.{word_at}
-use Rattle.ep_base.specs.Layer.{len_error}
+use Rattle.ep_base.specs.Readings.{len_error}
 use Rattle.ep_base.specs.Missing.{IsCutRefusal, IsCutShort}
 use Rattle.ep_base.specs.Tables.{IsDecided, Refuses, first_row, rows_as}
 use Rattle.ep_base.specs.declared.err.layer.Layer.{Layer}
 use Rattle.ep_base.specs.declared.err.len_error.LenError.{LenError}
 use Rattle.ep_base.specs.declared.len_source.LenSource.{LenSource}
+use Rattle.ep_base.specs.declared.len_source.LenSource.TheVariants as source
 
 -- ---- a table of the front beside that of the whole
 
@@ -74,13 +75,13 @@ stands_unrefused rows decided value is = unrefused (first_row rows)
 
 -- a row whose condition is that there are too few bytes, of as many as the whole has
 pub cut_row : {E : Type 0} (named : LenError → E) (limit : LenError → LenSource) (front back : List ℕ)
-    (required needed : ℕ) (source : LenSource) (place : Layer)
-    → source ≡ limit (len_error required (length front) source place) → required ≡ needed
+    (required needed : ℕ) (end : LenSource) (place : Layer)
+    → end ≡ limit (len_error required (length front) end place) → required ≡ needed
     → nat_lt (length (front ++ back)) needed ≡ false → nat_lt (length front) required ≡ true
     → IsCutRefusal named limit (length front) (length (front ++ back))
-    (named (len_error required (length front) source place))
-cut_row named limit front back required needed source place by same enough short = record {
-  missing = len_error required (length front) source place;
+    (named (len_error required (length front) end place))
+cut_row named limit front back required needed end place by same enough short = record {
+  missing = len_error required (length front) end place;
   is = refl;
   short = record {
     there = omega arith;
@@ -90,16 +91,39 @@ cut_row named limit front back required needed source place by same enough short
   source = by;
 }
 
--- a row whose condition is the same of the whole, where it does not hold
-pub same_row : {E : Type 0} (Such : E → Type 0) (error : E) (here whole : Bool) → here ≡ whole → whole ≡ false
-    → here ≡ true → Such error
-same_row Such error here whole same none holds = absurd (let wrong : true ≡ false = sym holds ∙ same ∙ none in cc)
-
--- ---- the bytes of the front
-
 -- a row that does not hold says how many bytes there are
 pub enough : (n least : ℕ) → nat_lt n least ≡ false → least ≤ n
 enough n least none = grind (arith, common_steps)
+
+-- such a row at the front of a table, and the rows behind it, of bytes that are there
+pub cut_first : {E Rest : Type 0} (named : LenError → E) (limit : LenError → LenSource) (front back : List ℕ)
+    (required : ℕ) (place : Layer) → source.Slice ≡ limit (len_error required (length front) source.Slice place)
+    → (required ≤ length front → Rest) → nat_lt (length (front ++ back)) required ≡ false
+    → (nat_lt (length front) required ≡ true → IsCutRefusal named limit (length front) (length (front ++ back))
+    (named (len_error required (length front) source.Slice place)))
+    × (nat_lt (length front) required ≡ false → Rest)
+cut_first named limit front back required place by rest long = (
+  cut_row named limit front back required required source.Slice place by refl long,
+  λ there. rest (enough (length front) required there),
+)
+
+-- such a row further behind, which demands as many bytes as of the whole
+pub cut_then : {E Rest : Type 0} (named : LenError → E) (limit : LenError → LenSource) (front back : List ℕ)
+    (required needed : ℕ) (place : Layer) → source.Slice ≡ limit (len_error required (length front) source.Slice place)
+    → required ≡ needed → Rest → nat_lt (length (front ++ back)) needed ≡ false
+    → (nat_lt (length front) required ≡ true → IsCutRefusal named limit (length front) (length (front ++ back))
+    (named (len_error required (length front) source.Slice place)))
+    × (nat_lt (length front) required ≡ false → Rest)
+cut_then named limit front back required needed place by same rest long =
+    (cut_row named limit front back required needed source.Slice place by same long, λ there. rest)
+
+-- a row whose condition is the same of the whole, and the rows behind it
+pub same_then : {Error Rest : Type 0} {here whole : Bool} → here ≡ whole → Rest → whole ≡ false
+    → (here ≡ true → Error) × (here ≡ false → Rest)
+same_then same rest none =
+    (λ holds. absurd (let wrong : true ≡ false = sym holds ∙ same ∙ none in cc), λ other. rest)
+
+-- ---- the bytes of the front
 
 -- a byte of the front is that of the whole
 pub byte_beside : (front back : List ℕ) (i : ℕ) → i + 1 ≤ length front

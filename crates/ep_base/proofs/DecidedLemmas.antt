@@ -1,7 +1,7 @@
 -- That there is one value or one error, of relations that are made of others of which the same is known.
 use Rattle.std.proofs.Common.{◌≡◌, ◌⊎◌, Result, Ok, Err, refl, sym, ap, subst, ◌∙◌, inl, inr}
 use Rattle.std.specs.Prelude.{IfOk, IfErr, IsOkAnd}
-use Rattle.ep_base.specs.Tables.{IsDecided, RefusesAs}
+use Rattle.ep_base.specs.Tables.{IsDecided, IsOne, RefusesAs}
 
 -- a relation holds of the images of what another holds of, and of nothing else
 pub record IsImage {V W : Type 0} (Of : V → Type 0) (Image : W → Type 0) (image : V → W) : Type 0 where
@@ -115,3 +115,78 @@ pub only_of : {A V E : Type 0} {Is : V → Type 0} {Refuses : E → Type 0} (sho
     → (value : V) → Is value → IsOkAnd answer (λ a. shown a ≡ value)
 only_of shown decided (Ok a) ok err value is = decided.one_value (shown a) value ok is
 only_of shown decided (Err e) ok err value is = absurd (decided.not_both value e is err)
+
+-- ---- where nothing is refused
+
+-- the image of the one value
+pub one_as : {V W : Type 0} {Is : V → Type 0} {IsImaged : W → Type 0} → (value : V → W) → IsOne Is
+    → IsImage Is IsImaged value → IsOne IsImaged
+one_as value one image = record {
+  value = value one.value;
+  is = image.there one.value one.is;
+  only = λ other is. let origin = image.back other is in origin.2 ∙ ap value (one.only origin.0 origin.1);
+}
+
+-- one value and then another
+pub one_then : {V W : Type 0} {Is : V → Type 0} {Next : V → W → Type 0} → IsOne Is
+    → ((value : V) → Is value → IsOne (Next value)) → IsOne (IsBoth Is Next)
+one_then {V = V} {W = W} {Is = Is} {Next = Next} first next =
+    let second = next first.value first.is in
+    record {
+      value = (first.value, second.value);
+      is = (first.is, second.is);
+      only = λ other is.
+          let same : other.0 ≡ first.value = first.only other.0 is.0 in
+          let there : Next first.value other.1 = subst (λ (v : V). Next v other.1) same is.1 in
+          let last : other.1 ≡ second.value = second.only other.1 there in
+          λ i. (same i, last i);
+    }
+
+-- a value that may be refused, and then one that may not
+pub decided_behind : {V W E : Type 0} {Is : V → Type 0} {Refuses : E → Type 0} {Next : V → W → Type 0}
+    → IsDecided Is Refuses → ((value : V) → Is value → IsOne (Next value)) → IsDecided (IsBoth Is Next) Refuses
+decided_behind {V = V} {W = W} {Next = Next} first next = record {
+  some = elim first.some [
+    | inl found ↦ let second = next found.0 found.1 in inl ((found.0, second.value), (found.1, second.is))
+    | inr refused ↦ inr refused
+  ];
+  one_value = λ v w a b.
+      let same : v.0 ≡ w.0 = first.one_value v.0 w.0 a.0 b.0 in
+      let there : Next w.0 v.1 = subst (λ (x : V). Next x v.1) same a.1 in
+      let second = next w.0 b.0 in
+      let last : v.1 ≡ w.1 = second.only v.1 there ∙ sym (second.only w.1 b.1) in
+      λ i. (same i, last i);
+  one_error = first.one_error;
+  not_both = λ v e a b. first.not_both v.0 e a.0 b;
+}
+
+-- Where there is a value, what follows it, and where there is an error, what stands for it: of either there is one.
+pub one_either : {V E W : Type 0} {Is : V → Type 0} {Refuses : E → Type 0} {There : V → W → Type 0}
+    {Instead : E → W → Type 0} → IsDecided Is Refuses → ((value : V) → Is value → IsOne (There value))
+    → ((error : E) → Refuses error → IsOne (Instead error))
+    → IsOne (λ (w : W). ((error : E) × Refuses error × Instead error w) ⊎ ((value : V) × Is value × There value w))
+one_either {V = V} {E = E} {W = W} {There = There} {Instead = Instead} decided there instead =
+    elim decided.some [
+      | inl found ↦
+          let one = there found.0 found.1 in
+          record {
+            value = one.value;
+            is = inr (found.0, found.1, one.is);
+            only = λ other is. elim is [
+              | inl refused ↦ absurd (decided.not_both found.0 refused.0 found.1 refused.1)
+              | inr other_is ↦ one.only other (subst (λ (v : V). There v other)
+                  (decided.one_value other_is.0 found.0 other_is.1 found.1) other_is.2)
+            ];
+          }
+      | inr refused ↦
+          let one = instead refused.0 refused.1 in
+          record {
+            value = one.value;
+            is = inl (refused.0, refused.1, one.is);
+            only = λ other is. elim is [
+              | inl other_is ↦ one.only other (subst (λ (e : E). Instead e other)
+                  (decided.one_error other_is.0 refused.0 other_is.1 refused.1) other_is.2)
+              | inr found ↦ absurd (decided.not_both found.0 refused.0 found.1 refused.1)
+            ];
+          }
+    ]

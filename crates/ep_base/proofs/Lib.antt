@@ -2,6 +2,7 @@ pub mod BytesLemmas
 pub mod ComparisonLemmas
 pub mod CutRefusalLemmas
 pub mod DecidedLemmas
+pub mod LaxCutLemmas
 pub mod MissingLemmas
 pub mod ResidueLemmas
 pub mod SumLemmas

@@ -3,7 +3,7 @@ use Rattle.std.proofs.Common.{◌≡◌, ◌⊎◌, ℕ, ◌+◌, ◌≤◌, Boo
 use Rattle.std.specs.Prelude.{nat_lt}
 use Rattle.std.proofs.lemmas.Grind.{common_steps}
 use Rattle.std.proofs.lemmas.Option.{none-some}
-use Rattle.ep_base.specs.Layer.{len_error}
+use Rattle.ep_base.specs.Readings.{len_error}
 use Rattle.ep_base.specs.Missing.{CountsMissing, IsOfBytesAtHand, IsShortAt, TellsMissing, that_row}
 use Rattle.ep_base.specs.Tables.{first_row}
 use Rattle.ep_base.specs.declared.err.layer.Layer.{Layer}

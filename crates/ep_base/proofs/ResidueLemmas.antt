@@ -12,18 +12,9 @@ pub residue_le : (n : ℕ) → residue n ≤ 65535
 residue_le zero = omega arith
 residue_le (suc n) = omega arith
 
-pub residue_positive : (n : ℕ) → 0 < n → 0 < residue n
-residue_positive zero p = p
-residue_positive (suc n) p = omega arith
-
 pub residue_zero : (n : ℕ) → residue n ≡ 0 → n ≡ 0
 residue_zero zero p = refl
 residue_zero (suc n) p = absurd (omega arith)
-
--- a number up to 65535 is its own residue
-pub residue_same : (n : ℕ) → n ≤ 65535 → residue n ≡ n
-residue_same zero p = refl
-residue_same (suc n) p = omega arith
 
 -- multiples of 65535 beside a sum that is not 0 change nothing
 pub residue_more : (k n : ℕ) → 0 < n → residue (65535 * k + n) ≡ residue n
@@ -54,8 +45,3 @@ residue_last a b = ap residue (add_comm a (residue b)) ∙ residue_part b a ∙ 
 -- equal residues stay equal beside one more part
 pub residue_beside : (a b c : ℕ) → residue a ≡ residue b → residue (a + c) ≡ residue (b + c)
 residue_beside a b c e = sym (residue_part a c) ∙ ap (λ x. residue (x + c)) e ∙ residue_part b c
-
--- the one's complement of 64 bits has the residues of the one of 16 bits: 2 ^ 64 - 1 is a multiple of 65535
-pub residue_carry : (m n : ℕ) → m ≡ 18446744073709551615 + n → 0 < n → residue m ≡ residue n
-residue_carry m n e p =
-    residue_unique m n 0 281479271743489 (omega arith) (λ z. omega arith) (λ z. omega arith)

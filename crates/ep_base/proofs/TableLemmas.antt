@@ -1,9 +1,10 @@
 -- What a layer's refusal table and its reading have to do with the layer, and that this decides it.
-use Rattle.std.proofs.Common.{◌≡◌, ◌⊎◌, ℕ, Bool, true, false, List, [], ◌∷◌, ◌++◌, length, take, drop}
+use Rattle.std.proofs.Common.{◌≡◌, ◌⊎◌, ℕ, ◌-◌, Bool, true, false, List, [], ◌∷◌, ◌++◌, length, take, drop}
 use Rattle.std.proofs.Common.{Option, Some, None, refl, sym, ap, subst, ◌∙◌, inl, inr}
 use Rattle.std.proofs.lemmas.Option.{none-some}
 use Rattle.std.proofs.lemmas.List.{take_at, drop_at}
 use Rattle.ep_base.specs.Bytes.{AreBytes}
+use Rattle.ep_base.proofs.BytesLemmas.{rest_of}
 use Rattle.ep_base.specs.Tables.{IsDecided, Refuses, first_row, rows_as}
 
 -- what a front of so many bytes shows, and the rest
@@ -68,6 +69,28 @@ shown_is {Is = Is} len shown layer bytes seen left fits none parts same =
       λ value is. (layer.is_read bytes value is).1 ∙ sym read,
     )
 
+-- a header, by its value, and what stands behind it
+pub record IsValue {H : Type 0} (Is : List ℕ → H × List ℕ → Type 0) (bytes : List ℕ) (value : H) (behind : List ℕ)
+    : Type 0 where
+  pub ok : Is bytes (value, behind)
+  pub only : (header : H) (rest : List ℕ) → Is bytes (header, rest) → (value ≡ header) × (behind ≡ rest)
+
+-- the value of a header that a slice shows, and the bytes behind so many
+pub value_shown : {H E : Type 0} {Is : List ℕ → H × List ℕ → Type 0} {rows : List ℕ → List (Bool × E)}
+    {read : List ℕ → H × List ℕ} → IsReadBy Is rows read → (bytes front rest : List ℕ) (n : ℕ) (shown value : H)
+    → bytes ≡ front ++ rest → n ≡ length front → value ≡ shown → Is bytes (shown, rest)
+    → IsValue Is bytes value (take (length bytes - n) (drop n bytes))
+value_shown {H = H} {Is = Is} layer bytes front rest n shown value parts len same is =
+    let behind = rest_of bytes front rest n parts len in
+    let read : H × List ℕ = (value, take (length bytes - n) (drop n bytes)) in
+    let here : Is bytes read = subst (Is bytes) (λ i. (sym same i, sym behind i)) is in
+    record {
+      ok = here;
+      only = λ header more other.
+          let one = one_value layer bytes read (header, more) here other in
+          (λ i. (one i).0, λ i. (one i).1);
+    }
+
 -- ---- what all errors of a table have in common
 
 -- each error of some rows is such
@@ -98,13 +121,6 @@ pub first_row-append_some : {E : Type 0} (front back : List (Bool × E)) (error 
 first_row-append_some [] back error some = absurd (none-some error some)
 first_row-append_some ((true, refusal) ∷ rows) back error some = some
 first_row-append_some ((false, refusal) ∷ rows) back error some = first_row-append_some rows back error some
-
--- a table that refuses nothing has no front that does
-pub first_row-front_none : {E : Type 0} (front back : List (Bool × E)) → first_row (front ++ back) ≡ None
-    → first_row front ≡ None
-first_row-front_none [] back none = refl
-first_row-front_none ((true, error) ∷ rows) back none = none
-first_row-front_none ((false, error) ∷ rows) back none = first_row-front_none rows back none
 
 -- rows under another name refuse nothing where they did
 pub first_row-as_none : {E F : Type 0} (name : E → F) (rows : List (Bool × E)) → first_row rows ≡ None

@@ -5,7 +5,8 @@ pub mod NumberComparisons
 pub mod EtherTypes
 pub mod IpNumbers
 pub mod IpPayload
-pub mod Layer
+pub mod LaxCut
+pub mod Readings
 pub mod Missing
 pub mod Names
 pub mod Padding

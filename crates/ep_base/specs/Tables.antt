@@ -29,6 +29,12 @@ pub record Parts (H : Type 0) : Type 0 where
 abbrev pub parts_of : {H : Type 0} → H → List ℕ → List ℕ → Parts H
 parts_of header payload left = record { header = header; payload = payload; left = left }
 
+-- there is one value
+pub record IsOne {V : Type 0} (Is : V → Type 0) : Type 0 where
+  pub value : V
+  pub is : Is value
+  pub only : (other : V) → Is other → other ≡ value
+
 -- There is one value, or there is one error, and never both.
 pub record IsDecided {V E : Type 0} (Is : V → Type 0) (Refuses : E → Type 0) : Type 0 where
   pub some : ((value : V) × Is value) ⊎ ((error : E) × Refuses error)

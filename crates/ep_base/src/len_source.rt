@@ -1,7 +1,7 @@
 //! Where the end of a payload comes from.
 
 ghost use Rattle.std.specs.Prelude.{◌≡◌};
-ghost use Rattle.ep_base.specs.Layer.{cut_by};
+ghost use Rattle.ep_base.specs.Readings.{cut_by};
 ghost use Rattle.ep_base.specs.Names.{len_source_name};
 
 /// What sets the number of bytes that a layer has at hand.

@@ -1,6 +1,6 @@
 -- The bytes of a chain of extension headers.
 use Rattle.std.proofs.Common.{◌≡◌, ℕ, ◌+◌, List, [], ◌∷◌, ◌++◌, length, refl, sym, ap, ◌∙◌, arith, append_assoc, length-append}
-use Rattle.ep_base.specs.Layer.{Reading}
+use Rattle.ep_base.specs.Readings.{Reading}
 use Rattle.ep_ext.specs.ExtensionParts.{ExtensionPart, hop_by_hop, destination_options, routing, fragment, authentication, part_next, part_bytes, EncodesPart, IsExtensionPart}
 use Rattle.ep_ext.specs.RawExtension.{raw_extension_bytes}
 use Rattle.ep_ext.specs.Chains.{IpVersion, ExtensionChain, IsChainBehind, IsExtensionChain, EncodesParts, parts_bytes}

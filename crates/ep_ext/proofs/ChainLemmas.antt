@@ -3,7 +3,7 @@ use Rattle.std.proofs.Common.{◌≡◌, ◌⊎◌, add-zero, ℕ, zero, suc, �
 use Rattle.std.proofs.lemmas.Grind.{common_steps}
 use Rattle.std.proofs.lemmas.Bool.{cases_eq}
 use Rattle.ep_base.specs.Bytes.{AreBytes}
-use Rattle.ep_base.specs.Layer.{Reading, slices, headers}
+use Rattle.ep_base.specs.Readings.{Reading, slices, headers}
 use Rattle.ep_base.specs.Tables.{IsDecided}
 use Rattle.ep_base.proofs.DecidedLemmas.{IsBoth, RefusesEither, same_image, decided_as, decided_by, decided_then, refused_as}
 use Rattle.ep_base.proofs.TableLemmas.{first_row-as_some}

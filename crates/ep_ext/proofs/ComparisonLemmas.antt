@@ -1,17 +1,15 @@
 -- That the comparisons of headers see each field, and of bytes in a fixed array those that are used.
-use Rattle.std.proofs.Common.{◌≡◌, ℕ, ◌-◌, ◌/◌, ◌&&◌, Bool, List, [], ◌∷◌, ◌++◌, length, replicate, Option, Some, None, refl, ap, subst, arith}
+use Rattle.std.proofs.Common.{◌≡◌, ◌-◌, ◌/◌, ◌&&◌, Bool, List, [], ◌∷◌, ◌++◌, length, Option, Some, None, refl, ap, subst, arith}
 use Rattle.std.specs.Bool.{Decides}
 use Rattle.std.specs.Option.{option_eq, option_map}
 use Rattle.std.specs.Prelude.{nat_eq}
 use Rattle.std.specs.Cmp.{booleans_Decides}
 use Rattle.std.specs.Cmp.Lexicographic.{pointwise}
 use Rattle.std.proofs.Math.Bool.{beq}
-use Rattle.std.proofs.lemmas.Bool.Decides.{Decides-eqb, Decides-and, Decides-like}
+use Rattle.std.proofs.lemmas.Bool.Decides.{Decides-eqb}
 use Rattle.std.proofs.lemmas.Option.{none-some}
-use Rattle.std.proofs.lemmas.Slice.Eq.{slice_eq-Decides}
 use Rattle.ep_base.specs.Padding.{padded}
-use Rattle.ep_base.proofs.BytesLemmas.{same_parts}
-use Rattle.ep_base.proofs.ComparisonLemmas.{same_option}
+use Rattle.ep_base.proofs.ComparisonLemmas.{made_same, same_option, stored_same, two, two_same}
 use Rattle.ep_ext.specs.declared.ip_auth_header.IpAuthHeader.{IpAuthHeader}
 use Rattle.ep_ext.specs.declared.ipv6_fragment_header.Ipv6FragmentHeader.{Ipv6FragmentHeader}
 use Rattle.ep_ext.specs.declared.ipv6_raw_ext_header.Ipv6RawExtHeader.{Ipv6RawExtHeader}
@@ -23,38 +21,17 @@ use Rattle.ep_ext.specs.ExtensionParts.{ExtensionPart, hop_by_hop, destination_o
 use Rattle.ep_ext.specs.Chains.{FitParts}
 use Rattle.ep_ext.specs.Ipv6Chains.{FitRouting, ipv6_parts, routing_header, final_by}
 
--- arrays of bytes, and so many units of them that are used
-stored_same : (width unit : ℕ) (a b : List ℕ) → (length a / unit ≡ length b / unit → length a ≡ length b)
-    → Decides (pointwise nat_eq (padded width a) (padded width b) && nat_eq (length a / unit) (length b / unit)) (a ≡ b)
-stored_same width unit a b lens =
-    Decides-like _ (λ both. (same_parts a b (replicate (width - length a) 0) (replicate (width - length b) 0)
-    (lens both.1) both.0).0)
-    (λ same. (ap (padded width) same, ap (λ (s : List ℕ). length s / unit) same))
-    (Decides-and _ _ (slice_eq-Decides Decides-eqb (padded width a) (padded width b) _ refl)
-    (Decides-eqb (length a / unit) (length b / unit)))
-
 pub same_ip_auth : (a b : IpAuthHeader) → FitsIpAuth a → FitsIpAuth b
     → Decides (nat_eq a.next_header.0 b.next_header.0 && (nat_eq a.spi b.spi
     && (nat_eq a.sequence_number b.sequence_number && (pointwise nat_eq (padded 1016 a.icv) (padded 1016 b.icv)
     && nat_eq (length a.icv / 4) (length b.icv / 4))))) (a ≡ b)
 same_ip_auth a b fits other =
-    Decides-like _ (λ all. λ i. record {
-      next_header = record { 0 = all.0 i };
-      spi = all.1.0 i;
-      sequence_number = all.1.1.0 i;
-      icv = all.1.1.1 i;
-    })
-    (λ same. (
-      ap (λ (h : IpAuthHeader). h.next_header.0) same,
-      (
-        ap (λ (h : IpAuthHeader). h.spi) same,
-        (ap (λ (h : IpAuthHeader). h.sequence_number) same, ap (λ (h : IpAuthHeader). h.icv) same),
-      ),
-    ))
-    (Decides-and _ _ (Decides-eqb a.next_header.0 b.next_header.0)
-    (Decides-and _ _ (Decides-eqb a.spi b.spi)
-    (Decides-and _ _ (Decides-eqb a.sequence_number b.sequence_number)
-    (stored_same 1016 4 a.icv b.icv (λ words. omega (arith, words, fits.icv_words, other.icv_words))))))
+    made_same (λ (h : IpAuthHeader). two h.next_header.0 (two h.spi (two h.sequence_number h.icv)))
+    (λ p. record { next_header = record { 0 = p.0 }; spi = p.1.0; sequence_number = p.1.1.0; icv = p.1.1.1 }) (λ h. refl)
+    a b
+    (two_same (Decides-eqb a.next_header.0 b.next_header.0) (two_same (Decides-eqb a.spi b.spi)
+    (two_same (Decides-eqb a.sequence_number b.sequence_number)
+    (stored_same 1016 (λ n. n / 4) a.icv b.icv (λ words. omega (arith, words, fits.icv_words, other.icv_words))))))
 
 -- the comparison of headers whose payload is left as bytes
 abbrev raw_extension_eq : Ipv6RawExtHeader → Ipv6RawExtHeader → Bool
@@ -65,36 +42,27 @@ raw_extension_eq a b = nat_eq a.next_header.0 b.next_header.0
 pub same_raw_extension : (a b : Ipv6RawExtHeader) → FitsRawExtension a → FitsRawExtension b
     → Decides (raw_extension_eq a b) (a ≡ b)
 same_raw_extension a b fits other =
-    Decides-like _ (λ both. λ i. record { next_header = record { 0 = both.0 i }; payload = both.1 i })
-    (λ same. (
-      ap (λ (h : Ipv6RawExtHeader). h.next_header.0) same,
-      ap (λ (h : Ipv6RawExtHeader). h.payload) same,
-    ))
-    (Decides-and _ _ (Decides-eqb a.next_header.0 b.next_header.0)
-    (stored_same 2046 8 a.payload b.payload
+    made_same (λ (h : Ipv6RawExtHeader). two h.next_header.0 h.payload)
+    (λ p. record { next_header = record { 0 = p.0 }; payload = p.1 }) (λ h. refl) a b
+    (two_same (Decides-eqb a.next_header.0 b.next_header.0)
+    (stored_same 2046 (λ n. n / 8) a.payload b.payload
     (λ units. omega (arith, units, fits.payload_units, other.payload_units))))
 
 pub same_fragment : (a b : Ipv6FragmentHeader)
     → Decides (nat_eq a.next_header.0 b.next_header.0 && (nat_eq a.fragment_offset b.fragment_offset
     && (beq a.more_fragments b.more_fragments && nat_eq a.identification b.identification))) (a ≡ b)
 same_fragment a b =
-    Decides-like _ (λ all. λ i. record {
-      next_header = record { 0 = all.0 i };
-      fragment_offset = all.1.0 i;
-      more_fragments = all.1.1.0 i;
-      identification = all.1.1.1 i;
-    })
-    (λ same. (
-      ap (λ (h : Ipv6FragmentHeader). h.next_header.0) same,
-      (
-        ap (λ (h : Ipv6FragmentHeader). h.fragment_offset) same,
-        (ap (λ h. h.more_fragments) same, ap (λ h. h.identification) same),
-      ),
-    ))
-    (Decides-and _ _ (Decides-eqb a.next_header.0 b.next_header.0)
-    (Decides-and _ _ (Decides-eqb a.fragment_offset b.fragment_offset)
-    (Decides-and _ _ (booleans_Decides a.more_fragments b.more_fragments)
-    (Decides-eqb a.identification b.identification))))
+    made_same
+    (λ (h : Ipv6FragmentHeader). two h.next_header.0 (two h.fragment_offset (two h.more_fragments h.identification)))
+    (λ p. record {
+      next_header = record { 0 = p.0 };
+      fragment_offset = p.1.0;
+      more_fragments = p.1.1.0;
+      identification = p.1.1.1;
+    }) (λ h. refl) a b
+    (two_same (Decides-eqb a.next_header.0 b.next_header.0)
+    (two_same (Decides-eqb a.fragment_offset b.fragment_offset)
+    (two_same (booleans_Decides a.more_fragments b.more_fragments) (Decides-eqb a.identification b.identification))))
 
 -- headers that fit, where they are there
 pub there_fits : {H : Type 0} (kind : H → ExtensionPart) (there : Option H) (header : H)
@@ -108,12 +76,9 @@ pub same_routing : (a b : Ipv6RoutingExtensions)
     → Decides (raw_extension_eq a.routing b.routing
     && option_eq raw_extension_eq a.final_destination_options b.final_destination_options) (a ≡ b)
 same_routing a b fits other =
-    Decides-like _ (λ both i. record { routing = both.0 i; final_destination_options = both.1 i })
-    (λ same. (
-      ap (λ (r : Ipv6RoutingExtensions). r.routing) same,
-      ap (λ (r : Ipv6RoutingExtensions). r.final_destination_options) same,
-    ))
-    (Decides-and _ _ (same_raw_extension a.routing b.routing fits.0 other.0)
+    made_same (λ (r : Ipv6RoutingExtensions). two r.routing r.final_destination_options)
+    (λ p. record { routing = p.0; final_destination_options = p.1 }) (λ r. refl) a b
+    (two_same (same_raw_extension a.routing b.routing fits.0 other.0)
     (same_option raw_extension_eq a.final_destination_options b.final_destination_options
     (λ x y is_x is_y. same_raw_extension x y
     (there_fits destination_options a.final_destination_options x fits.1 is_x)

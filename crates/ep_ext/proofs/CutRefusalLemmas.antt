@@ -3,13 +3,12 @@
 use Rattle.std.proofs.Common.{◌≡◌, ℕ, ◌+◌, ◌*◌, ◌==◌, List, [], ◌∷◌, ◌++◌, length, refl, sym, ap, subst, ◌∙◌, inl, inr, arith, length-append}
 use Rattle.ep_base.specs.Bytes.{AreBytes}
 use Rattle.ep_base.specs.IpNumbers.{authentication_number, fragment_number}
-use Rattle.ep_base.specs.Layer.{Reading}
+use Rattle.ep_base.specs.Readings.{Reading}
 use Rattle.ep_base.specs.Missing.{IsCutRefusal, TellsCut, slice_end}
 use Rattle.ep_base.specs.Tables.{rows_as}
-use Rattle.ep_base.proofs.CutRefusalLemmas.{BesideRows, byte_beside, cut_row, either_beside, enough, further_short, longer_rest, mapped_beside, named_beside, refused_beside, renamed_cut, same_row, stands_unrefused}
+use Rattle.ep_base.proofs.CutRefusalLemmas.{BesideRows, byte_beside, cut_first, cut_then, either_beside, further_short, longer_rest, mapped_beside, named_beside, refused_beside, renamed_cut, same_then, stands_unrefused}
 use Rattle.ep_base.specs.declared.err.len_error.LenError.{LenError}
 use Rattle.ep_base.specs.declared.err.layer.Layer.TheVariants as layer
-use Rattle.ep_base.specs.declared.len_source.LenSource.TheVariants as source
 use Rattle.ep_base.specs.declared.err.ip_auth.HeaderSliceError.{HeaderSliceError as AuthSliceError}
 use Rattle.ep_base.specs.declared.err.ip_auth.HeaderSliceError.TheVariants as auth_error
 use Rattle.ep_base.specs.declared.err.ipv6_exts.HeaderSliceError.{HeaderSliceError}
@@ -39,22 +38,12 @@ Beside front back = IsCut (length front) (length (front ++ back))
 auth_rows_beside : (front back : List ℕ)
     → BesideRows (IsCutRefusal auth_error.Len slice_end (length front) (length (front ++ back))) (ip_auth_rows front)
     (ip_auth_rows (front ++ back))
-auth_rows_beside front back long = (
-  cut_row auth_error.Len slice_end front back 12 12 source.Slice layer.IpAuthHeader refl refl long,
-  λ short.
-      let there = enough (length front) 12 short in
-      let field = byte_beside front back 1 (omega (arith, there)) in
-      λ some. (
-        same_row (IsCutRefusal auth_error.Len slice_end (length front) (length (front ++ back))) _ _ _
-            (ap (λ (b : ℕ). b == 0) field) some,
-        λ also.
-            λ whole. (
-              cut_row auth_error.Len slice_end front back (ip_auth_len_of front) (ip_auth_len_of (front ++ back)) source.Slice
-                  layer.IpAuthHeader refl (ap (λ (b : ℕ). 4 * (b + 2)) field) whole,
-              λ last. tt,
-            ),
-      ),
-)
+auth_rows_beside front back =
+    cut_first auth_error.Len slice_end front back 12 layer.IpAuthHeader refl (λ there.
+    let field = byte_beside front back 1 (omega (arith, there)) in
+    same_then (ap (λ (b : ℕ). b == 0) field)
+    (cut_then auth_error.Len slice_end front back (ip_auth_len_of front) (ip_auth_len_of (front ++ back))
+    layer.IpAuthHeader refl (ap (λ (b : ℕ). 4 * (b + 2)) field) tt))
 
 auth_beside : (front back : List ℕ) → BesideRows (Beside front back) (rows_as auth_refusal (ip_auth_rows front))
     (rows_as auth_refusal (ip_auth_rows (front ++ back)))
@@ -72,24 +61,15 @@ BesideAs named front back error = IsCutRefusal named slice_end (length front) (l
 
 fragment_beside : {E : Type 0} (named : LenError → E) (front back : List ℕ)
     → BesideRows (BesideAs named front back) (fragment_header_rows front) (fragment_header_rows (front ++ back))
-fragment_beside named front back long = (
-  cut_row named slice_end front back 8 8 source.Slice layer.Ipv6FragHeader refl refl long,
-  λ short. tt,
-)
+fragment_beside named front back = cut_first named slice_end front back 8 layer.Ipv6FragHeader refl (λ there. tt)
 
 raw_beside : {E : Type 0} (named : LenError → E) (front back : List ℕ)
     → BesideRows (BesideAs named front back) (raw_extension_rows front) (raw_extension_rows (front ++ back))
-raw_beside named front back long = (
-  cut_row named slice_end front back 8 8 source.Slice layer.Ipv6ExtHeader refl refl long,
-  λ short.
-      let there = enough (length front) 8 short in
-      let field = byte_beside front back 1 (omega (arith, there)) in
-      λ whole. (
-        cut_row named slice_end front back (raw_extension_len_of front) (raw_extension_len_of (front ++ back)) source.Slice
-            layer.Ipv6ExtHeader refl (ap (λ (b : ℕ). 8 * (b + 1)) field) whole,
-        λ last. tt,
-      ),
-)
+raw_beside named front back =
+    cut_first named slice_end front back 8 layer.Ipv6ExtHeader refl (λ there.
+    let field = byte_beside front back 1 (omega (arith, there)) in
+    cut_then named slice_end front back (raw_extension_len_of front) (raw_extension_len_of (front ++ back))
+    layer.Ipv6ExtHeader refl (ap (λ (b : ℕ). 8 * (b + 1)) field) tt)
 
 pub ip_auth_cut : TellsCut IsIpAuth RefusesIpAuth auth_error.Len (λ read. slice_end)
 ip_auth_cut front back fits read is error refused =

@@ -1,12 +1,12 @@
 -- The bytes of a fragment header, and what is read from them.
-use Rattle.std.proofs.Common.{◌≡◌, ℕ, ◌+◌, ◌*◌, ◌/◌, ◌%◌, ◌^◌, ◌<◌, ◌≤◌, ◌==◌, List, None, [], ◌∷◌, length, get_or, take, drop, refl, sym, ap, ◌∙◌, arith}
+use Rattle.std.proofs.Common.{◌≡◌, ℕ, ◌+◌, ◌*◌, ◌/◌, ◌%◌, ◌^◌, ◌<◌, ◌≤◌, ◌==◌, List, None, [], ◌∷◌, ◌++◌, length, get_or, take, drop, refl, sym, ap, ◌∙◌, arith}
 use Rattle.std.proofs.lemmas.Grind.{common_steps}
 use Rattle.std.proofs.lemmas.List.{length-take, length-append, take-append-drop}
 use Rattle.std.proofs.lemmas.Nat.{from_be_bytes-to_be_bytes_4, be_bytes_4}
 use Rattle.std.specs.Int.{w16, to_be_bytes}
 use Rattle.ep_base.specs.Bytes.{AreBytes, word_at, bit}
 use Rattle.ep_base.specs.Tables.{first_row}
-use Rattle.ep_base.proofs.BytesLemmas.{AreBytes-take, AreBytes-drop, bit_le, bit_read, bit_of_read}
+use Rattle.ep_base.proofs.BytesLemmas.{AreBytes-take, AreBytes-drop, bit_le, bit_read, bit_of_read, word_cells}
 use Rattle.ep_base.proofs.TableLemmas.{IsReadBy, cut_at, cut_same}
 use Rattle.ep_ext.specs.declared.ipv6_fragment_header.Ipv6FragmentHeader.{Ipv6FragmentHeader}
 use Rattle.ep_ext.specs.FragmentHeader.{FitsFragmentHeader, EncodesFragmentHeader, IsFragmentHeader, fragment_header_bytes_with, fragment_header_of, fragment_header_rows}
@@ -32,8 +32,6 @@ eight_encodes a b c d e f g h fits =
     let flag : bit (d % 2 == 1) ≡ d % 2 = bit_of_read (d % 2) (omega arith) in
     let word = 2 ^ 3 * ((256 * c + d) / 8) + 2 * (d / 2 % 4) + bit (d % 2 == 1) in
     let word_same : word ≡ 256 * c + d = omega (arith, flag, fits 2, fits 3) in
-    let upper : c ≡ word / 256 ^ 1 % 256 = omega (arith, word_same, fits 2, fits 3) in
-    let lower : d ≡ word % 256 = omega (arith, word_same, fits 3) in
     let behind : AreBytes (e ∷ f ∷ g ∷ h ∷ []) = AreBytes-drop 4 (a ∷ b ∷ c ∷ d ∷ e ∷ f ∷ g ∷ h ∷ []) fits in
     let identification = sym (be_bytes_4 (e ∷ f ∷ g ∷ h ∷ []) _ refl behind refl) in
     record {
@@ -42,7 +40,7 @@ eight_encodes a b c d e f g h fits =
       byte = fits 1;
       reserved_bits = d / 2 % 4;
       bits = omega arith;
-      same = λ i. a ∷ b ∷ upper i ∷ lower i ∷ identification i;
+      same = λ i. a ∷ b ∷ (word_cells (a ∷ b ∷ c ∷ d ∷ e ∷ f ∷ g ∷ h ∷ []) fits 2 word_same i ++ identification i);
     }
 
 pub whole_encodes : (e : List ℕ) → AreBytes e → length e ≡ 8 → EncodesFragmentHeader e (fragment_header_of e)

@@ -1,12 +1,12 @@
 -- The bytes of an authentication header, and what is read from them.
-use Rattle.std.proofs.Common.{◌≡◌, ℕ, ◌+◌, ◌-◌, ◌/◌, ◌%◌, ◌^◌, ◌<◌, ◌≤◌, List, None, [], ◌∷◌, ◌++◌, length, get_or, slice_range, take, drop, refl, sym, ap, subst, ◌∙◌, arith}
+use Rattle.std.proofs.Common.{◌≡◌, ℕ, ◌+◌, ◌-◌, ◌/◌, ◌^◌, ◌<◌, ◌≤◌, List, None, [], ◌∷◌, ◌++◌, length, get_or, slice_range, take, drop, refl, sym, ap, subst, ◌∙◌, arith}
 use Rattle.std.proofs.lemmas.Grind.{common_steps}
 use Rattle.std.proofs.lemmas.List.{get_or-take, length-take, length-drop, length-append, take-append-drop}
 use Rattle.std.proofs.lemmas.Nat.{from_be_bytes-to_be_bytes_4, be_bytes_4}
 use Rattle.std.specs.Int.{w32, to_be_bytes, from_be_bytes}
 use Rattle.ep_base.specs.Bytes.{AreBytes, word_at}
 use Rattle.ep_base.specs.Tables.{first_row}
-use Rattle.ep_base.proofs.BytesLemmas.{AreBytes-take, AreBytes-drop}
+use Rattle.ep_base.proofs.BytesLemmas.{AreBytes-take, AreBytes-drop, word_cells}
 use Rattle.ep_base.proofs.TableLemmas.{IsReadBy, cut_at, cut_same}
 use Rattle.ep_ext.specs.declared.ip_auth_header.IpAuthHeader.{IpAuthHeader}
 use Rattle.ep_ext.specs.IpAuth.{FitsIpAuth, EncodesIpAuth, IsIpAuth, ip_auth_bytes_with, ip_auth_len_of, ip_auth_of, ip_auth_rows}
@@ -61,8 +61,6 @@ pub whole_encodes : (e : List ℕ) → AreBytes e → IsWholeIpAuth e → Encode
 whole_encodes e fits a =
     let long : 12 ≤ length e = omega (arith, a.field, a.whole) in
     let second : get_or e 1 0 ≡ (12 + length (drop 12 e)) / 4 - 2 = omega (arith, length-drop 12 e, a.whole, a.field) in
-    let third : get_or e 2 0 ≡ word_at e 2 / 256 ^ 1 % 256 = omega (arith, fits 2, fits 3) in
-    let fourth : get_or e 3 0 ≡ word_at e 2 % 256 = omega (arith, fits 2, fits 3) in
     let spi = number_again e 4 fits (omega (arith, long)) in
     let sequence_number = number_again e 8 fits (omega (arith, long)) in
     record {
@@ -70,7 +68,7 @@ whole_encodes e fits a =
       reserved = word_at e 2;
       bits = omega (arith, fits 2, fits 3);
       same = twelve e long
-          ∙ (λ i. get_or e 0 0 ∷ second i ∷ third i ∷ fourth i ∷ (spi i ++ sequence_number i ++ drop 12 e));
+          ∙ (λ i. get_or e 0 0 ∷ second i ∷ (word_cells e fits 2 refl i ++ spi i ++ sequence_number i ++ drop 12 e));
     }
 
 -- ---- the bytes of a header are read as this header

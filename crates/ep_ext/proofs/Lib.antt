@@ -3,6 +3,7 @@ pub mod CutRefusalLemmas
 pub mod ChainLemmas
 pub mod ComparisonLemmas
 pub mod FragmentHeaderLemmas
+pub mod FrontLemmas
 pub mod HeaderLawLemmas
 pub mod IpAuthLemmas
 pub mod LinkLemmas

@@ -2,7 +2,7 @@
 use Rattle.std.proofs.Common.{◌≡◌, ℕ, ◌+◌, ◌==◌, Bool, true, false, if◌then◌else◌, List, [], ◌∷◌, length, refl, sym, subst, inl, inr, arith}
 use Rattle.std.specs.Prelude.{⊤, nat_lt}
 use Rattle.ep_base.specs.IpNumbers.{authentication_number, fragment_number}
-use Rattle.ep_base.specs.Layer.{Reading, len_error}
+use Rattle.ep_base.specs.Readings.{Reading, len_error}
 use Rattle.ep_base.specs.Missing.{IsShortAt, TellsMissing}
 use Rattle.ep_base.specs.Tables.{rows_as}
 use Rattle.ep_base.proofs.MissingLemmas.{AllWhere, refusal_where, short_row, tells_missing}

@@ -40,7 +40,7 @@ pub data IsKind : ℕ → Type 0 where
   is_destination : IsKind 60
 
 -- a refusal of renamed rows is that of the rows
-refused_under : {E F : Type 0} (name : E → F) (rows : List (Bool × E)) (error : F)
+pub refused_under : {E F : Type 0} (name : E → F) (rows : List (Bool × E)) (error : F)
     → first_row (rows_as name rows) ≡ Some error
     → (refusal : E) × (first_row rows ≡ Some refusal) × (error ≡ name refusal)
 refused_under name [] error some = absurd (none-some error some)

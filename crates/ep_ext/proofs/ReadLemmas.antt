@@ -5,7 +5,7 @@ use Rattle.std.proofs.lemmas.Bool.{eq-eqb, ne_eqb}
 use Rattle.std.proofs.lemmas.List.{append-nil, take_at}
 use Rattle.ep_ext.specs.ShownChains.{shown_parts}
 use Rattle.ep_ext.proofs.ShownLemmas.{front_shown}
-use Rattle.ep_base.specs.Layer.{Reading, slices}
+use Rattle.ep_base.specs.Readings.{Reading, slices}
 use Rattle.ep_base.specs.declared.err.ipv6_exts.HeaderError.TheVariants as content
 use Rattle.ep_base.specs.declared.err.ipv6_exts.HeaderSliceError.{HeaderSliceError}
 use Rattle.ep_base.specs.declared.err.ipv6_exts.HeaderSliceError.TheVariants as header_error

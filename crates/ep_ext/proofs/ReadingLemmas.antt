@@ -1,7 +1,7 @@
 -- What a chain in the reading of headers is in that of slices.
 use Rattle.std.proofs.Common.{◌≡◌, ◌⊎◌, ℕ, ◌+◌, Bool, true, false, List, [], ◌∷◌, refl, ap, subst, ◌∙◌, inl, inr, arith}
 use Rattle.std.proofs.lemmas.Grind.{common_steps}
-use Rattle.ep_base.specs.Layer.{slices, headers}
+use Rattle.ep_base.specs.Readings.{slices, headers}
 use Rattle.ep_base.specs.declared.err.ipv6_exts.HeaderSliceError.{HeaderSliceError}
 use Rattle.ep_ext.specs.ExtensionParts.{ExtensionPart, part_len, part_next}
 use Rattle.ep_ext.specs.Chains.{IpVersion, ipv4, ipv6, ends, takes, misplaced, demand_of, is_ipv6_extension, is_taken, IsChainBehind, RefusesChainBehind, StopsAtSecond}

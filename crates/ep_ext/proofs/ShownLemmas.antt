@@ -3,7 +3,7 @@ use Rattle.std.proofs.Common.{◌≡◌, ℕ, zero, suc, ◌+◌, ◌≤◌, tru
 use Rattle.std.proofs.lemmas.Bool.{cases_Bool, and_left, and_right}
 use Rattle.std.proofs.lemmas.Grind.{common_steps}
 use Rattle.ep_base.proofs.BytesLemmas.{same_parts}
-use Rattle.ep_base.specs.Layer.{slices}
+use Rattle.ep_base.specs.Readings.{slices}
 use Rattle.ep_base.specs.Tables.{first_row, rows_as}
 use Rattle.ep_base.proofs.TableLemmas.{first_row-as_none}
 use Rattle.ep_base.specs.declared.err.ipv6_exts.HeaderSliceError.{HeaderSliceError}
@@ -16,7 +16,7 @@ use Rattle.ep_ext.specs.FragmentHeader.{IsFragmentHeader, fragment_header_rows}
 use Rattle.ep_ext.specs.RawExtension.{IsRawExtension, raw_extension_rows, raw_extension_bytes}
 use Rattle.ep_ext.specs.ExtensionParts.{ExtensionPart, hop_by_hop, destination_options, routing, fragment, authentication, part_next, part_len, IsExtensionPart, RefusesExtensionPart, auth_refusal}
 use Rattle.ep_ext.specs.Chains.{ipv6, chain_of, ends, demand_of, is_ipv6_extension, IsChainBehind, IsExtensionChain, IpVersion}
-use Rattle.ep_base.specs.Layer.{Reading}
+use Rattle.ep_base.specs.Readings.{Reading}
 use Rattle.ep_ext.specs.ShownChains.{part_of, part_len_of, begins_part, shown_parts_in, shown_parts}
 use Rattle.ep_ext.proofs.IpAuthLemmas.{ip_auth_is_read}
 use Rattle.ep_ext.proofs.FragmentHeaderLemmas.{fragment_header_is_read}
@@ -58,8 +58,7 @@ hop_by_hop_first bytes header behind is =
     record {
       begins = raw_begins bytes read.0;
       part_is = λ i. hop_by_hop (read.1 i).0;
-      behind_is = λ i.
-          (read.1 i).1;
+      behind_is = λ i. (read.1 i).1;
       next_is = raw_next bytes header behind is;
     }
 
@@ -70,8 +69,7 @@ routing_first bytes header behind is =
     record {
       begins = raw_begins bytes read.0;
       part_is = λ i. routing (read.1 i).0;
-      behind_is = λ i.
-          (read.1 i).1;
+      behind_is = λ i. (read.1 i).1;
       next_is = raw_next bytes header behind is;
     }
 
@@ -82,8 +80,7 @@ destination_first bytes header behind is =
     record {
       begins = raw_begins bytes read.0;
       part_is = λ i. destination_options (read.1 i).0;
-      behind_is = λ i.
-          (read.1 i).1;
+      behind_is = λ i. (read.1 i).1;
       next_is = raw_next bytes header behind is;
     }
 
@@ -170,7 +167,7 @@ begun_long number bytes begins = grind (arith, common_steps)
 part_len_least : (number : ℕ) (bytes : List ℕ) → 8 ≤ part_len_of number bytes
 part_len_least number bytes = grind (arith, common_steps)
 
-no_bytes : (number : ℕ) (bytes : List ℕ) → length bytes ≤ 0 → begins_part number bytes ≡ false
+pub no_bytes : (number : ℕ) (bytes : List ℕ) → length bytes ≤ 0 → begins_part number bytes ≡ false
 no_bytes number bytes none = elim (cases_Bool (begins_part number bytes)) [
   | inl begins ↦ absurd (omega (arith, begun_long number bytes begins))
   | inr not_there ↦ not_there
@@ -250,7 +247,7 @@ chain_shown taken number bytes (part ∷ parts) last rest is =
     (part_next part) is.1.0 parts last rest is.1.2)
 
 -- a header is one whatever stands behind it
-part_moved : (number : ℕ) (bytes : List ℕ) (part : ExtensionPart) (behind other : List ℕ)
+pub part_moved : (number : ℕ) (bytes : List ℕ) (part : ExtensionPart) (behind other : List ℕ)
     → IsExtensionPart number bytes part behind
     → (front : List ℕ) × (bytes ≡ front ++ behind) × IsExtensionPart number (front ++ other) part other
 part_moved number bytes (hop_by_hop header) behind other is = (

@@ -1,7 +1,7 @@
 -- Chains of the extension headers of IP (RFC 4302, 3.1.1; RFC 8200, 4): each header says by a number what follows it.
 use Rattle.std.specs.Prelude.{◌≡◌, ℕ, ◌+◌, ◌==◌, ◌||◌, ◌&&◌, not, ◌⊎◌, Bool, true, false, if◌then◌else◌, List, [], ◌∷◌, ◌++◌}
 use Rattle.ep_base.specs.IpNumbers.{hop_by_hop_number, routing_number, fragment_number, authentication_number, destination_options_number}
-use Rattle.ep_base.specs.Layer.{Reading, slices, headers}
+use Rattle.ep_base.specs.Readings.{Reading, slices, headers}
 use Rattle.ep_base.specs.declared.err.ipv6_exts.HeaderError.TheVariants as content
 use Rattle.ep_base.specs.declared.err.ipv6_exts.HeaderSliceError.{HeaderSliceError}
 use Rattle.ep_base.specs.declared.err.ipv6_exts.HeaderSliceError.TheVariants as header_error

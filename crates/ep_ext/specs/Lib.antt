@@ -2,6 +2,7 @@ pub mod Chains
 pub mod ExtensionParts
 pub mod FragmentHeader
 pub mod FragmentHeaderSlices
+pub mod FrontChains
 pub mod IpAuth
 pub mod IpAuthSlices
 pub mod Ipv4Chains
@@ -14,7 +15,7 @@ pub mod Walks
 -- what the contracts name of the crates below
 pub use Rattle.ep_base.specs.Bytes
 pub use Rattle.ep_base.specs.IpNumbers
-pub use Rattle.ep_base.specs.Layer
+pub use Rattle.ep_base.specs.Readings
 pub use Rattle.ep_base.specs.Missing
 pub use Rattle.ep_base.specs.Padding
 pub use Rattle.ep_base.specs.Tables
@@ -23,4 +24,5 @@ pub use Rattle.ep_base.specs.declared.err.ipv4_exts.HeaderWriteError as Ipv4Exts
 pub use Rattle.ep_base.specs.declared.err.ipv6_exts.ExtsWalkError as Ipv6ExtsWalkErrorType
 pub use Rattle.ep_base.specs.declared.err.ipv6_exts.HeaderSliceError as Ipv6ExtsHeaderSliceErrorType
 pub use Rattle.ep_base.specs.declared.err.ipv6_exts.HeaderWriteError as Ipv6ExtsHeaderWriteErrorType
+pub use Rattle.ep_base.specs.declared.err.layer.Layer as LayerType
 pub use Rattle.ep_base.specs.declared.ip_number.IpNumber as IpNumberType

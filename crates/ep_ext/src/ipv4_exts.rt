@@ -1,7 +1,7 @@
 //! The extension headers of IPv4 by value.
 
 ghost use Rattle.std.specs.Prelude.{◌≡◌, ◌<◌, ◌≤◌, ◌+◌, ◌++◌, ◌↔◌, length, vec_len, vec_capacity, IfOk, IfErr, OnOk, OnErr, IsOkAnd, Ok, Err};
-ghost use Rattle.ep_base.specs.Layer.{headers};
+ghost use Rattle.ep_base.specs.Readings.{headers};
 ghost use Rattle.ep_base.specs.declared.err.ipv4_exts.ExtsWalkError.{ExtsWalkError};
 ghost use Rattle.ep_base.specs.declared.err.ipv4_exts.HeaderWriteError.TheVariants as write_error;
 ghost use Rattle.ep_ext.specs.ExtensionParts.{auth_refusal};

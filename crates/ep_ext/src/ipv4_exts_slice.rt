@@ -12,10 +12,13 @@ pub struct Ipv4ExtensionsSlice<'a> {
 }
 
 impl<'a> Ipv4ExtensionsSlice<'a> {
-    ghost use Rattle.std.specs.Prelude.{◌≡◌, ◌++◌, IfOk, IfErr, IsOkAnd};
-    ghost use Rattle.ep_base.specs.Layer.{slices};
+    ghost use Rattle.std.specs.Prelude.{◌≡◌, ◌++◌, IfOk, IfErr, IsOkAnd, Option};
+    ghost use Rattle.std.specs.Option.{option_map};
+    ghost use Rattle.ep_base.specs.declared.err.ip_auth.HeaderSliceError.{HeaderSliceError};
+    ghost use Rattle.ep_base.specs.Readings.{slices};
     ghost use Rattle.ep_ext.specs.ExtensionParts.{auth_refusal};
     ghost use Rattle.ep_ext.specs.Chains.{ipv4, ExtensionChain, IsExtensionChain, RefusesExtensionChain, chain_of};
+    ghost use Rattle.ep_ext.specs.FrontChains.{IsFrontChain};
     ghost use Rattle.ep_ext.specs.Ipv4Chains.{ipv4_slice_parts, ipv4_slice_bytes};
 
     /// The extension headers at the front of the slice, which begins with what the number says, the number of what
@@ -44,5 +47,46 @@ impl<'a> Ipv4ExtensionsSlice<'a> {
             next_header,
             rest,
         ))
+    }
+    /// The same, where an authentication header that is refused is left to the bytes behind the headers: then there are
+    /// no headers, and the last part says why it is refused.
+    #[inline(always)]
+    pub fn from_slice_lax(
+        number: IpNumber,
+        slice: &'a [u8],
+    ) -> (
+        Ipv4ExtensionsSlice<'a>,
+        IpNumber,
+        &'a [u8],
+        Option<HeaderSliceError>,
+    )
+        ensures bytes { slice.now ≡ ipv4_slice_bytes result.0 ++ result.2.now }
+        ensures chain { IsFrontChain ipv4 number.0 slice.now
+            (chain_of (ipv4_slice_parts result.0) result.1.0 result.2.now) (option_map auth_refusal result.3) }
+        ensures only { (chain : ExtensionChain) (stop : Option HeaderSliceError)
+            → IsFrontChain ipv4 number.0 slice.now chain (option_map auth_refusal stop)
+            → (chain_of (ipv4_slice_parts result.0) result.1.0 result.2.now ≡ chain) × (result.3 ≡ stop) }
+    {
+        if number != ip_number::AUTHENTICATION_HEADER {
+            return (Ipv4ExtensionsSlice { auth: None }, number, slice, None);
+        }
+        match IpAuthHeaderSlice::from_slice(slice) {
+            Ok(header) => {
+                let next_header = header.next_header();
+                let rest = &slice[header.header_len()..];
+                (
+                    Ipv4ExtensionsSlice { auth: Some(header) },
+                    next_header,
+                    rest,
+                    None,
+                )
+            }
+            Err(error) => (
+                Ipv4ExtensionsSlice { auth: None },
+                number,
+                slice,
+                Some(error),
+            ),
+        }
     }
 }

@@ -1,7 +1,7 @@
 //! The extension headers of IPv6 by value (RFC 8200, 4.1).
 
 ghost use Rattle.std.specs.Prelude.{◌≡◌, ◌≤◌, ◌++◌, ◌↔◌, ◌==◌, List, true, false, IfOk, IfErr, IsOkAnd, Ok, Err};
-ghost use Rattle.ep_base.specs.Layer.{headers};
+ghost use Rattle.ep_base.specs.Readings.{headers};
 ghost use Rattle.ep_ext.specs.ExtensionParts.{ExtensionPart, IsExtensionPart, RefusesExtensionPart, part_next};
 ghost use Rattle.ep_ext.specs.Chains.{ipv6, ExtensionChain, IsExtensionChain, RefusesExtensionChain, chain_of, chain_fragments, is_ipv6_extension};
 ghost use Rattle.ep_ext.specs.Ipv6ExtensionSlices.{extension_slice_part};

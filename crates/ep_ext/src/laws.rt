@@ -2,7 +2,7 @@
 
 ghost use Rattle.std.specs.Prelude.{◌≡◌, ◌↔◌, ℕ, List, IsTrue, length, option_map};
 ghost use Rattle.ep_base.specs.Bytes.{AreBytes};
-ghost use Rattle.ep_base.specs.Layer.{Reading};
+ghost use Rattle.ep_base.specs.Readings.{Reading};
 ghost use Rattle.ep_base.specs.Missing.{IsShortAt, TellsCut, TellsMissing, slice_end};
 ghost use Rattle.ep_base.specs.declared.err.len_error.LenError.{LenError};
 ghost use Rattle.ep_base.specs.declared.err.ip_auth.HeaderSliceError.TheVariants as auth_error;

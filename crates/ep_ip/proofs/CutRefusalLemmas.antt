@@ -4,11 +4,11 @@ use Rattle.std.proofs.Common.{◌≡◌, ◌⊎◌, ℕ, ◌+◌, ◌*◌, ◌/�
 use Rattle.std.specs.Prelude.{◌&&◌, ◌||◌, nat_lt}
 use Rattle.std.proofs.lemmas.Grind.{common_steps}
 use Rattle.ep_base.specs.Bytes.{word_at}
-use Rattle.ep_base.specs.Layer.{Reading, cut_by, len_error}
+use Rattle.ep_base.specs.Readings.{Reading, cut_by, len_error}
 use Rattle.ep_base.specs.Missing.{IsCutRefusal, IsCutShort, TellsCut, slice_end}
 use Rattle.ep_base.specs.Tables.{Parts, Refuses, first_row, parts_of}
 use Rattle.ep_base.proofs.BytesLemmas.{AreBytes-payload}
-use Rattle.ep_base.proofs.CutRefusalLemmas.{byte_beside, cut_row, enough, further_short, longer_payload, longer_rest, refused_beside, renamed_cut, same_row, word_beside}
+use Rattle.ep_base.proofs.CutRefusalLemmas.{byte_beside, cut_first, cut_then, further_short, longer_payload, longer_rest, refused_beside, renamed_cut, same_then, word_beside}
 use Rattle.ep_base.proofs.TableLemmas.{one_value}
 use Rattle.ep_base.specs.declared.err.len_error.LenError.{LenError}
 use Rattle.ep_base.specs.declared.err.layer.Layer.TheVariants as layer
@@ -43,64 +43,28 @@ Ipv4Cut front back = IsCutRefusal ipv4_error.Len slice_end (length front) (lengt
 
 pub ipv4_packet_cut : TellsCut IsIpv4Packet RefusesIpv4Packet ipv4_error.Len (λ packet. slice_end)
 ipv4_packet_cut front back fits packet is error refused =
-    let Such = Ipv4Cut front back in
-    refused_beside Such (ipv4_packet_rows front) (ipv4_packet_rows (front ++ back))
-    (λ long. (
-      cut_row ipv4_error.Len slice_end front back 20 20 source.Slice layer.Ipv4Header refl refl long,
-      λ short.
-          let there = enough (length front) 20 short in
-          let first = byte_beside front back 0 (omega (arith, there)) in
-          let total = word_beside front back 2 (omega (arith, there)) in
-          let header = ap (λ (b : ℕ). 4 * (b % 16)) first in
-          λ version. (
-            same_row Such _ _ _ (ap (λ (b : ℕ). not (b / 16 == 4)) first) version,
-            λ known.
-                λ words. (
-                  same_row Such _ _ _ (ap (λ (b : ℕ). nat_lt (b % 16) 5) first) words,
-                  λ also.
-                      λ options. (
-                        cut_row ipv4_error.Len slice_end front back (4 * ihl_of front) (4 * ihl_of (front ++ back)) source.Slice
-                            layer.Ipv4Header refl header options,
-                        λ stands.
-                            λ least. (
-                              same_row Such _ _ _ (λ i. nat_lt (total i) (header i)) least,
-                              λ holds.
-                                  λ whole. (
-                                    cut_row ipv4_error.Len slice_end front back (word_at front 2) (word_at (front ++ back) 2) source.Slice
-                                        layer.Ipv4Packet refl total whole,
-                                    λ last. tt,
-                                  ),
-                            ),
-                      ),
-                ),
-          ),
-    ))
+    refused_beside (Ipv4Cut front back) (ipv4_packet_rows front) (ipv4_packet_rows (front ++ back))
+    (cut_first ipv4_error.Len slice_end front back 20 layer.Ipv4Header refl (λ there.
+    let first = byte_beside front back 0 (omega (arith, there)) in
+    let total = word_beside front back 2 (omega (arith, there)) in
+    let header : 4 * ihl_of front ≡ 4 * ihl_of (front ++ back) = ap (λ (b : ℕ). 4 * (b % 16)) first in
+    same_then (ap (λ (b : ℕ). not (b / 16 == 4)) first) (same_then (ap (λ (b : ℕ). nat_lt (b % 16) 5) first)
+    (cut_then ipv4_error.Len slice_end front back (4 * ihl_of front) (4 * ihl_of (front ++ back)) layer.Ipv4Header refl
+    header (same_then (λ i. nat_lt (total i) (header i))
+    (cut_then ipv4_error.Len slice_end front back (word_at front 2) (word_at (front ++ back) 2) layer.Ipv4Packet refl
+    total tt))))))
     (ipv4_packet_is_read.is_read (front ++ back) packet is).0 error refused
 
 pub ipv4_header_cut : TellsCut IsIpv4Header RefusesIpv4Header ipv4_header_error.Len (λ read. slice_end)
 ipv4_header_cut front back fits read is error refused =
-    let Such = IsCutRefusal ipv4_header_error.Len slice_end (length front) (length (front ++ back)) in
-    refused_beside Such (ipv4_header_rows front) (ipv4_header_rows (front ++ back))
-    (λ long. (
-      cut_row ipv4_header_error.Len slice_end front back 20 20 source.Slice layer.Ipv4Header refl refl long,
-      λ short.
-          let there = enough (length front) 20 short in
-          let first = byte_beside front back 0 (omega (arith, there)) in
-          λ version. (
-            same_row Such _ _ _ (ap (λ (b : ℕ). not (b / 16 == 4)) first) version,
-            λ known.
-                λ words. (
-                  same_row Such _ _ _ (ap (λ (b : ℕ). nat_lt (b % 16) 5) first) words,
-                  λ also.
-                      λ options. (
-                        cut_row ipv4_header_error.Len slice_end front back (4 * ihl_of front) (4 * ihl_of (front ++ back))
-                            source.Slice
-                            layer.Ipv4Header refl (ap (λ (b : ℕ). 4 * (b % 16)) first) options,
-                        λ last. tt,
-                      ),
-                ),
-          ),
-    ))
+    let named = ipv4_header_error.Len in
+    refused_beside (IsCutRefusal named slice_end (length front) (length (front ++ back))) (ipv4_header_rows front)
+    (ipv4_header_rows (front ++ back))
+    (cut_first named slice_end front back 20 layer.Ipv4Header refl (λ there.
+    let first = byte_beside front back 0 (omega (arith, there)) in
+    same_then (ap (λ (b : ℕ). not (b / 16 == 4)) first) (same_then (ap (λ (b : ℕ). nat_lt (b % 16) 5) first)
+    (cut_then named slice_end front back (4 * ihl_of front) (4 * ihl_of (front ++ back)) layer.Ipv4Header refl
+    (ap (λ (b : ℕ). 4 * (b % 16)) first) tt))))
     (ipv4_header_is_read.is_read (front ++ back) read is).0 error refused
 
 -- a packet stands with any bytes behind it
@@ -144,38 +108,23 @@ Ipv6Cut header front back = IsCutRefusal ipv6_error.Len (ipv6_cut_limit 0 header
 
 pub ipv6_packet_cut : TellsCut IsIpv6Packet RefusesIpv6Packet ipv6_error.Len (λ packet. ipv6_cut_limit 0 packet.header)
 ipv6_packet_cut front back fits packet is error refused =
-    let Such = Ipv6Cut packet.header front back in
     let limit = ipv6_cut_limit 0 packet.header in
-    refused_beside Such (ipv6_packet_rows front) (ipv6_packet_rows (front ++ back))
-    (λ long. (
-      cut_row ipv6_error.Len limit front back 40 40 source.Slice layer.Ipv6Header refl refl long,
-      λ short.
-          let there = enough (length front) 40 short in
-          let first = byte_beside front back 0 (omega (arith, there)) in
-          let field = word_beside front back 4 (omega (arith, there)) in
-          λ version. (
-            same_row Such _ _ _ (ap (λ (b : ℕ). not (b / 16 == 6)) first) version,
-            λ known.
-                λ whole. (
-                  cut_row ipv6_error.Len limit front back (40 + word_at front 4) (40 + word_at (front ++ back) 4) source.Slice
-                      layer.Ipv6Packet refl (ap (λ (n : ℕ). 40 + n) field) whole,
-                  λ last. tt,
-                ),
-          ),
-    ))
+    refused_beside (Ipv6Cut packet.header front back) (ipv6_packet_rows front) (ipv6_packet_rows (front ++ back))
+    (cut_first ipv6_error.Len limit front back 40 layer.Ipv6Header refl (λ there.
+    let first = byte_beside front back 0 (omega (arith, there)) in
+    let field = word_beside front back 4 (omega (arith, there)) in
+    same_then (ap (λ (b : ℕ). not (b / 16 == 6)) first)
+    (cut_then ipv6_error.Len limit front back (40 + word_at front 4) (40 + word_at (front ++ back) 4) layer.Ipv6Packet
+    refl (ap (λ (n : ℕ). 40 + n) field) tt)))
     (ipv6_packet_is_read.is_read (front ++ back) packet is).0 error refused
 
 pub ipv6_header_cut : TellsCut IsIpv6Header RefusesIpv6Header ipv6_header_error.Len (λ read. slice_end)
 ipv6_header_cut front back fits read is error refused =
-    let Such = IsCutRefusal ipv6_header_error.Len slice_end (length front) (length (front ++ back)) in
-    refused_beside Such (ipv6_header_rows front) (ipv6_header_rows (front ++ back))
-    (λ long. (
-      cut_row ipv6_header_error.Len slice_end front back 40 40 source.Slice layer.Ipv6Header refl refl long,
-      λ short.
-          let there = enough (length front) 40 short in
-          let first = byte_beside front back 0 (omega (arith, there)) in
-          λ version. (same_row Such _ _ _ (ap (λ (b : ℕ). not (b / 16 == 6)) first) version, λ last. tt),
-    ))
+    let named = ipv6_header_error.Len in
+    refused_beside (IsCutRefusal named slice_end (length front) (length (front ++ back))) (ipv6_header_rows front)
+    (ipv6_header_rows (front ++ back))
+    (cut_first named slice_end front back 40 layer.Ipv6Header refl (λ there.
+    same_then (ap (λ (b : ℕ). not (b / 16 == 6)) (byte_beside front back 0 (omega (arith, there)))) tt))
     (ipv6_header_is_read.is_read (front ++ back) read is).0 error refused
 
 -- a packet whose payload length cuts stands with any bytes behind it, which are left
@@ -343,10 +292,7 @@ version_cut limit front back by none error refused =
       λ byte.
           let there : 1 ≤ length front = grind (arith, common_steps) in
           let first = byte_beside front back 0 (omega (arith, there)) in
-          λ version. (
-            same_row (IpCut limit front back) _ _ _ (ap (λ (b : ℕ). not (b / 16 == 4 || b / 16 == 6)) first) version,
-            λ last. tt,
-          ),
+          same_then (ap (λ (b : ℕ). not (b / 16 == 4 || b / 16 == 6)) first) tt,
     ))
     none error refused
 

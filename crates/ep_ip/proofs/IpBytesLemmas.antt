@@ -1,7 +1,7 @@
 -- That the bytes of an IP packet are its headers, its payload, and what its length field leaves.
 use Rattle.std.proofs.Common.{◌≡◌, ℕ, List, ◌++◌, length, refl, ap, ◌∙◌, append_assoc, length-append, arith}
 use Rattle.std.proofs.lemmas.Grind.{common_steps}
-use Rattle.ep_base.specs.Layer.{Reading}
+use Rattle.ep_base.specs.Readings.{Reading}
 use Rattle.ep_ext.proofs.ChainBytesLemmas.{chain_encoded, chain_len}
 use Rattle.ep_ext.specs.Chains.{chain_of, ipv4, ipv6}
 use Rattle.ep_ip.specs.declared.ipv4_header.Ipv4Header.{Ipv4Header}

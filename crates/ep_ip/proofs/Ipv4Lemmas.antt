@@ -7,7 +7,7 @@ use Rattle.std.proofs.lemmas.List.{length-take, length-drop, length-append, take
 use Rattle.std.proofs.lemmas.List.{take_at, drop_at, drop_all, drop-drop}
 use Rattle.ep_base.specs.Bytes.{AreBytes, word_at, bit}
 use Rattle.ep_base.specs.Tables.{Parts, parts_of, first_row}
-use Rattle.ep_base.proofs.BytesLemmas.{elements, drop-elements, cells_4, AreBytes-take, AreBytes-drop}
+use Rattle.ep_base.proofs.BytesLemmas.{elements, drop-elements, cells_4, word_cells, AreBytes-take, AreBytes-drop}
 use Rattle.ep_base.proofs.BytesLemmas.{bit_le, bit_read, bit_of_read}
 use Rattle.ep_base.proofs.TableLemmas.{IsReadBy}
 use Rattle.ep_ip.specs.declared.ipv4_header.Ipv4Header.{Ipv4Header}
@@ -150,23 +150,14 @@ header_bytes s fits begins =
     let b0 : slice_index s 0 ≡ 2 ^ 4 * 4 + (20 + length h.options) / 4 =
     omega (arith, len, begins.version, begins.words) in
     let b1 : slice_index s 1 ≡ 2 ^ 2 * (slice_index s 1 / 4) + slice_index s 1 % 4 = omega arith in
-    let b2 : slice_index s 2 ≡ word_at s 2 / 256 ^ 1 % 256 = omega (arith, fits 2, fits 3) in
-    let b3 : slice_index s 3 ≡ word_at s 2 % 256 = omega (arith, fits 2, fits 3) in
-    let b4 : slice_index s 4 ≡ word_at s 4 / 256 ^ 1 % 256 = omega (arith, fits 4, fits 5) in
-    let b5 : slice_index s 5 ≡ word_at s 4 % 256 = omega (arith, fits 4, fits 5) in
-    let b10 : slice_index s 10 ≡ word_at s 10 / 256 ^ 1 % 256 = omega (arith, fits 10, fits 11) in
-    let b11 : slice_index s 11 ≡ word_at s 10 % 256 = omega (arith, fits 10, fits 11) in
     let upper = slice_index s 6 in
     let dont : bit h.dont_fragment ≡ upper / 64 % 2 = bit_of_read (upper / 64 % 2) (omega arith) in
     let more : bit h.more_fragments ≡ upper / 32 % 2 = bit_of_read (upper / 32 % 2) (omega arith) in
     let flags = ipv4_flags_with (upper / 128) h in
     let same_flags : flags ≡ word_at s 6 = flags_same upper (slice_index s 7) (fits 7) dont more in
-    let b6 : slice_index s 6 ≡ flags / 256 ^ 1 % 256 = omega (arith, fits 6, fits 7, same_flags) in
-    let b7 : slice_index s 7 ≡ flags % 256 = omega (arith, fits 7, same_flags) in
     let joined : elements 20 0 s ++ drop 20 s ≡ ipv4_bytes_with (upper / 128) h ++ drop n s = λ i.
-    b0 i ∷ b1 i ∷ b2 i ∷ b3 i ∷ b4 i ∷ b5 i ∷ b6 i ∷ b7 i ∷ slice_index s 8 ∷ slice_index s 9 ∷ b10 i ∷ b11 i
-    ∷ slice_index s 12 ∷ slice_index s 13 ∷ slice_index s 14 ∷ slice_index s 15
-    ∷ slice_index s 16 ∷ slice_index s 17 ∷ slice_index s 18 ∷ slice_index s 19 ∷ behind i in
+    b0 i ∷ b1 i ∷ (word_cells s fits 2 refl i ++ word_cells s fits 4 refl i ++ word_cells s fits 6 same_flags i
+    ++ slice_index s 8 ∷ slice_index s 9 ∷ (word_cells s fits 10 refl i ++ four_at s 12 ++ four_at s 16 ++ behind i)) in
     drop-elements 20 0 s begins.fixed ∙ joined
 
 header_encodes : (bytes : List ℕ) → AreBytes bytes → Begins bytes

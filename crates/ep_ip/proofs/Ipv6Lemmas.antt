@@ -1,13 +1,13 @@
 -- The bytes of an IPv6 header and of a packet, and what is read from them.
 use Rattle.std.proofs.Common.{◌≡◌, ℕ, ◌+◌, ◌-◌, ◌*◌, ◌/◌, ◌%◌, ◌^◌, ◌<◌, ◌≤◌, ◌==◌, None, if◌then◌else◌, slice_index}
-use Rattle.std.proofs.Common.{List, [], ◌∷◌, ◌++◌, length, take, drop, sym, ap, subst, ◌∙◌, arith, ◌⊎◌, inl, inr}
+use Rattle.std.proofs.Common.{List, [], ◌∷◌, ◌++◌, length, take, drop, refl, sym, ap, subst, ◌∙◌, arith, ◌⊎◌, inl, inr}
 use Rattle.std.proofs.lemmas.Grind.{common_steps}
 use Rattle.std.proofs.lemmas.List.{length-take, length-drop, length-append, take-append-drop, append_assoc}
 use Rattle.std.proofs.lemmas.List.{take_at, drop_at, drop_all, drop-drop, get_or-take, append-nil}
 use Rattle.std.proofs.lemmas.Bool.{cases_lt}
 use Rattle.ep_base.specs.Bytes.{AreBytes, word_at}
 use Rattle.ep_base.specs.Tables.{Parts, parts_of, first_row}
-use Rattle.ep_base.proofs.BytesLemmas.{elements, drop-elements, AreBytes-take, AreBytes-drop}
+use Rattle.ep_base.proofs.BytesLemmas.{elements, drop-elements, long_cells, word_cells, AreBytes-take, AreBytes-drop}
 use Rattle.ep_base.proofs.TableLemmas.{IsReadBy}
 use Rattle.ep_ip.specs.declared.ipv6_header.Ipv6Header.{Ipv6Header}
 use Rattle.ep_ip.specs.Ip.{version_of}
@@ -77,14 +77,7 @@ unfolding elements
 header_bytes s fits long version =
     let h = ipv6_header_of s in
     let first = 2 ^ 28 * 6 + 2 ^ 20 * h.traffic_class + h.flow_label in
-    let known : first ≡ 2 ^ 24 * slice_index s 0 + 2 ^ 16 * slice_index s 1 + word_at s 2 =
-    omega (arith, version, fits 2, fits 3) in
-    let b0 : slice_index s 0 ≡ first / 256 ^ 3 % 256 = omega (arith, known, fits 0, fits 1, fits 2, fits 3) in
-    let b1 : slice_index s 1 ≡ first / 256 ^ 2 % 256 = omega (arith, known, fits 0, fits 1, fits 2, fits 3) in
-    let b2 : slice_index s 2 ≡ first / 256 ^ 1 % 256 = omega (arith, known, fits 0, fits 1, fits 2, fits 3) in
-    let b3 : slice_index s 3 ≡ first % 256 = omega (arith, known, fits 0, fits 1, fits 2, fits 3) in
-    let b4 : slice_index s 4 ≡ word_at s 4 / 256 ^ 1 % 256 = omega (arith, fits 4, fits 5) in
-    let b5 : slice_index s 5 ≡ word_at s 4 % 256 = omega (arith, fits 4, fits 5) in
+    let known : first ≡ 2 ^ 16 * word_at s 0 + word_at s 2 = omega (arith, version, fits 2, fits 3) in
     let destination : drop 24 s ≡ h.destination ++ drop 40 s =
     sym (take-append-drop 16 (drop 24 s)) ∙ ap (λ (r : List ℕ). h.destination ++ r) (drop-drop 16 24 s) in
     let source : drop 8 s ≡ h.source ++ drop 24 s =
@@ -92,7 +85,7 @@ header_bytes s fits long version =
     let behind : drop 8 s ≡ (h.source ++ h.destination) ++ drop 40 s =
     source ∙ ap (λ (r : List ℕ). h.source ++ r) destination ∙ sym (append_assoc h.source h.destination (drop 40 s)) in
     let joined : elements 8 0 s ++ drop 8 s ≡ ipv6_bytes h ++ drop 40 s = λ i.
-    b0 i ∷ b1 i ∷ b2 i ∷ b3 i ∷ b4 i ∷ b5 i ∷ slice_index s 6 ∷ slice_index s 7 ∷ behind i in
+    long_cells s fits 0 known i ++ word_cells s fits 4 refl i ++ slice_index s 6 ∷ slice_index s 7 ∷ behind i in
     drop-elements 8 0 s (omega arith) ∙ joined
 
 -- ---- the header alone

@@ -3,7 +3,7 @@ use Rattle.std.proofs.Common.{◌≡◌, ℕ, ◌+◌, ◌*◌, ◌==◌, if◌t
 use Rattle.std.specs.Prelude.{⊤, ◌&&◌, nat_lt}
 use Rattle.std.proofs.lemmas.Grind.{common_steps}
 use Rattle.ep_base.specs.Bytes.{word_at}
-use Rattle.ep_base.specs.Layer.{Reading, cut_by, len_error}
+use Rattle.ep_base.specs.Readings.{Reading, cut_by, len_error}
 use Rattle.ep_base.specs.Missing.{CountsMissing, IsOfBytesAtHand, TellsMissing}
 use Rattle.ep_base.proofs.MissingLemmas.{counted, not_counted, not_payload, not_total, refusal_where, tells_missing}
 use Rattle.ep_base.specs.declared.err.layer.Layer.TheVariants as layer

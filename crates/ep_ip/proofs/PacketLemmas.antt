@@ -4,7 +4,7 @@ use Rattle.std.proofs.lemmas.Bool.{cases_eq}
 use Rattle.std.proofs.lemmas.Grind.{common_steps}
 use Rattle.std.proofs.lemmas.Option.{none-some}
 use Rattle.ep_base.specs.Bytes.{AreBytes}
-use Rattle.ep_base.specs.Layer.{Reading, slices, len_error}
+use Rattle.ep_base.specs.Readings.{Reading, slices, len_error}
 use Rattle.ep_base.specs.Tables.{IsDecided, Parts, parts_of, Refuses, RefusesAs, first_row, rows_as}
 use Rattle.ep_base.specs.declared.err.layer.Layer.TheVariants as layer
 use Rattle.ep_base.specs.declared.len_source.LenSource.{LenSource}

@@ -2,7 +2,7 @@
 -- payload behind the chain (RFC 791, 3.1; RFC 4302, 3.1.1; RFC 8200, 3 and 4).
 use Rattle.std.specs.Prelude.{◌≡◌, ℕ, ◌==◌, ◌||◌, ◌⊎◌, not, Bool, List, [], ◌∷◌, length}
 use Rattle.ep_base.specs.IpPayload.{IpPayload}
-use Rattle.ep_base.specs.Layer.{Reading, behind_header, len_error}
+use Rattle.ep_base.specs.Readings.{Reading, behind_header, len_error}
 use Rattle.ep_base.specs.Tables.{Parts, parts_of, Refuses, RefusesAs}
 use Rattle.ep_base.specs.declared.err.layer.Layer.TheVariants as layer
 use Rattle.ep_base.specs.declared.err.len_error.LenError.{LenError}

@@ -10,7 +10,7 @@ pub mod Ipv6Slices
 pub use Rattle.ep_base.specs.Bytes
 pub use Rattle.ep_base.specs.NumberComparisons
 pub use Rattle.ep_base.specs.IpPayload
-pub use Rattle.ep_base.specs.Layer
+pub use Rattle.ep_base.specs.Readings
 pub use Rattle.ep_base.specs.Missing
 pub use Rattle.ep_base.specs.Padding
 pub use Rattle.ep_base.specs.Tables

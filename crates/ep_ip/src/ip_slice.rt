@@ -23,7 +23,7 @@ pub enum IpSlice<'a> {
 
 impl<'a> IpSlice<'a> {
     ghost use Rattle.std.specs.Prelude.{◌≡◌, ◌++◌, IfOk, IfErr, IsOkAnd, List, ℕ};
-    ghost use Rattle.ep_base.specs.Layer.{slices};
+    ghost use Rattle.ep_base.specs.Readings.{slices};
     ghost use Rattle.ep_base.specs.IpPayload.{ip_payload_of};
     ghost use Rattle.ep_ip.specs.IpPackets.{IpPart, IsIp, RefusesIp, ip_left};
     ghost use Rattle.ep_ip.specs.IpSlices.{FollowsIpHeader, ip_slice_bytes, ip_slice_packet, ip_slice_payload};

@@ -21,7 +21,7 @@ pub struct Ipv4Slice<'a> {
 }
 
 impl<'a> Ipv4Slice<'a> {
-    ghost use Rattle.ep_base.specs.Layer.{slices};
+    ghost use Rattle.ep_base.specs.Readings.{slices};
     ghost use Rattle.ep_base.specs.IpPayload.{ip_payload_of};
     ghost use Rattle.ep_ext.specs.Ipv4Chains.{ipv4_slice_parts as extension_parts, ipv4_slice_bytes as extension_bytes};
     ghost use Rattle.ep_ip.specs.declared.ipv4_header.Ipv4Header.{Ipv4Header};

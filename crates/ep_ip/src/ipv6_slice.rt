@@ -43,7 +43,7 @@ impl<'a> Clone for Ipv6Slice<'a> {
 }
 
 impl<'a> Ipv6Slice<'a> {
-    ghost use Rattle.ep_base.specs.Layer.{slices};
+    ghost use Rattle.ep_base.specs.Readings.{slices};
     ghost use Rattle.ep_base.specs.IpPayload.{ip_payload_of};
     ghost use Rattle.ep_ext.specs.Ipv6ExtensionSlices.{ipv6_slice_parts as extension_parts, ipv6_slice_bytes as extension_bytes};
     ghost use Rattle.ep_ip.specs.declared.ipv6_header.Ipv6Header.{Ipv6Header};

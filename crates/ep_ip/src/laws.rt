@@ -2,7 +2,7 @@
 
 ghost use Rattle.std.specs.Prelude.{◌≡◌, ◌≤◌, ◌↔◌, length, ℕ, true, false, List, [], ◌∷◌, replicate};
 ghost use Rattle.ep_base.specs.Bytes.{AreBytes};
-ghost use Rattle.ep_base.specs.Layer.{Reading};
+ghost use Rattle.ep_base.specs.Readings.{Reading};
 ghost use Rattle.ep_base.specs.Missing.{IsOfBytesAtHand, TellsCut, TellsMissing, slice_end};
 ghost use Rattle.ep_base.specs.Tables.{IsDecided};
 ghost use Rattle.ep_base.specs.declared.err.ip.SliceError.TheVariants as ip_error;

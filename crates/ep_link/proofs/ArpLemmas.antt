@@ -1,14 +1,13 @@
 -- The bytes of an ARP packet, and what is read from them.
-use Rattle.std.proofs.Common.{◌≡◌, ℕ, ◌+◌, ◌-◌, ◌*◌, ◌/◌, ◌%◌, ◌^◌, ◌<◌, ◌≤◌, List, [], ◌∷◌, ◌++◌}
-use Rattle.std.proofs.Common.{None, length, get_or, take, drop, slice_range, sym, ap, ◌∙◌, arith}
+use Rattle.std.proofs.Common.{◌≡◌, ℕ, ◌+◌, ◌-◌, ◌*◌, ◌≤◌, List, [], ◌∷◌, ◌++◌}
+use Rattle.std.proofs.Common.{None, length, get_or, take, drop, slice_range, refl, sym, ap, ◌∙◌, arith}
 use Rattle.std.proofs.lemmas.Grind.{common_steps}
 use Rattle.std.proofs.lemmas.List.Edits.{length-between}
 use Rattle.std.proofs.lemmas.Slice.{between_to_end}
 use Rattle.std.proofs.lemmas.List.{append_assoc, length-append, length-take, take-append-drop, drop-drop, get_or-take}
-use Rattle.std.specs.Int.{w16, to_be_bytes}
 use Rattle.ep_base.specs.Bytes.{AreBytes, word_at}
 use Rattle.ep_base.specs.Tables.{first_row}
-use Rattle.ep_base.proofs.BytesLemmas.{same_parts, elements, drop-elements, AreBytes-take, AreBytes-drop}
+use Rattle.ep_base.proofs.BytesLemmas.{same_parts, elements, drop-elements, AreBytes-take, AreBytes-drop, word_cells}
 use Rattle.ep_base.proofs.TableLemmas.{IsReadBy, cut_at, cut_same}
 use Rattle.ep_link.specs.Arp.{Arp, FitsArp, IsArp, arp_bytes, arp_len_of, arp_packet_of, arp_parts, arp_rows}
 use Rattle.ep_link.specs.Arp.{arp_address_rows}
@@ -40,13 +39,6 @@ four_parts bytes a b c d e ab bc cd end =
 
 AreBytes-range : (i j : ℕ) (bytes : List ℕ) → AreBytes bytes → AreBytes (slice_range bytes i j)
 AreBytes-range i j bytes fits = AreBytes-take (j - i) (drop i bytes) (AreBytes-drop i bytes fits)
-
--- the bytes of a 16 bit number that is read from two bytes
-word_bytes : (upper lower : ℕ) → upper < 256 → lower < 256 → to_be_bytes w16 (256 * upper + lower) ≡ upper ∷ lower ∷ []
-word_bytes upper lower a b =
-    let first : (256 * upper + lower) / 256 ^ 1 % 256 ≡ upper = omega arith in
-    let second : (256 * upper + lower) % 256 ≡ lower = omega arith in
-    λ i. first i ∷ second i ∷ []
 
 -- ---- the addresses of a whole packet
 
@@ -105,13 +97,11 @@ whole_same : (bytes : List ℕ) → AreBytes bytes → length bytes ≡ arp_len_
 unfolding elements
 whole_same bytes fits whole =
     let each = addresses bytes whole in
-    let hw_type = word_bytes (get_or bytes 0 0) (get_or bytes 1 0) (fits 0) (fits 1) in
-    let protocol_type = word_bytes (get_or bytes 2 0) (get_or bytes 3 0) (fits 2) (fits 3) in
-    let operation = word_bytes (get_or bytes 6 0) (get_or bytes 7 0) (fits 6) (fits 7) in
     let hw = sym each.sender_hw in
     let protocol = sym each.sender_protocol in
     drop-elements 8 0 bytes (omega (arith, whole))
-    ∙ (λ i. sym hw_type i ++ sym protocol_type i ++ hw i ∷ protocol i ∷ [] ++ sym operation i ++ each.behind i)
+    ∙ (λ i. word_cells bytes fits 0 refl i ++ word_cells bytes fits 2 refl i ++ hw i ∷ protocol i ∷ []
+    ++ word_cells bytes fits 6 refl i ++ each.behind i)
 
 -- ---- the bytes of a packet are read as this packet
 

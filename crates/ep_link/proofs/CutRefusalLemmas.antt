@@ -1,11 +1,11 @@
 -- That the front of a link layer, of a link extension or of an ARP packet is refused for want of what the cut took.
-use Rattle.std.proofs.Common.{◌≡◌, ℕ, ◌+◌, ◌*◌, ◌-◌, ◌/◌, ◌%◌, ◌==◌, if◌then◌else◌, Bool, true, false, not, List, ◌++◌, length, Some, refl, sym, ap, ◌∙◌, inl, inr, arith}
-use Rattle.std.specs.Prelude.{◌&&◌, nat_le, nat_lt}
+use Rattle.std.proofs.Common.{◌≡◌, ℕ, ◌+◌, ◌*◌, ◌-◌, ◌/◌, ◌%◌, ◌==◌, if◌then◌else◌, Bool, true, false, not, List, [], ◌∷◌, ◌++◌, length, Some, refl, sym, ap, ◌∙◌, inl, inr, arith}
+use Rattle.std.specs.Prelude.{◌&&◌, nat_le, nat_lt, slice_index}
 use Rattle.std.proofs.lemmas.Grind.{common_steps}
-use Rattle.ep_base.specs.Layer.{len_error}
+use Rattle.ep_base.specs.Readings.{len_error}
 use Rattle.ep_base.specs.Missing.{IsCutRefusal, TellsCut, slice_end}
 use Rattle.ep_base.specs.Tables.{Parts, first_row, parts_of, rows_as}
-use Rattle.ep_base.proofs.CutRefusalLemmas.{byte_beside, cut_row, enough, refused_beside, same_row, word_beside}
+use Rattle.ep_base.proofs.CutRefusalLemmas.{BesideRows, byte_beside, cut_first, cut_row, cut_then, enough, refused_beside, same_then, word_beside}
 use Rattle.ep_base.proofs.TableLemmas.{first_row-as_none}
 use Rattle.ep_base.specs.declared.ether_type.EtherType.{EtherType}
 use Rattle.ep_base.specs.declared.err.len_error.LenError.{LenError}
@@ -35,10 +35,7 @@ pub ethernet2_cut : TellsCut IsEthernet2 RefusesEthernet2 (λ (error : LenError)
 ethernet2_cut front back fits frame is error refused =
     refused_beside (IsCutRefusal (λ (e : LenError). e) slice_end (length front) (length (front ++ back)))
     (ethernet2_rows front) (ethernet2_rows (front ++ back))
-    (λ long. (
-      cut_row (λ (e : LenError). e) slice_end front back 14 14 source.Slice layer.Ethernet2Header refl refl long,
-      λ there. tt,
-    ))
+    (cut_first (λ (e : LenError). e) slice_end front back 14 layer.Ethernet2Header refl (λ there. tt))
     (ethernet2_is_read.is_read (front ++ back) frame is).0 error refused
 
 abbrev SllCut : List ℕ → List ℕ → SllError → Type 0
@@ -47,31 +44,24 @@ SllCut front back = IsCutRefusal sll_error.Len slice_end (length front) (length 
 pub linux_sll_cut : TellsCut IsLinuxSll RefusesLinuxSll sll_error.Len (λ packet. slice_end)
 linux_sll_cut front back fits packet is error refused =
     refused_beside (SllCut front back) (linux_sll_rows front) (linux_sll_rows (front ++ back))
-    (λ long. (
-      cut_row sll_error.Len slice_end front back 16 16 source.Slice layer.LinuxSllHeader refl refl long,
-      λ short.
-          let there = enough (length front) 16 short in
-          λ known. (
-            same_row (SllCut front back) _ _ _ (ap (nat_lt 7) (word_beside front back 0 (omega (arith, there)))) known,
-            λ type.
-                λ hardware. (
-                  same_row (SllCut front back) _ _ _
-                      (ap (λ (n : ℕ). not (knows_hardware n)) (word_beside front back 2 (omega (arith, there)))) hardware,
-                  λ last. tt,
-                ),
-          ),
-    ))
+    (cut_first sll_error.Len slice_end front back 16 layer.LinuxSllHeader refl (λ there.
+    same_then (ap (nat_lt 7) (word_beside front back 0 (omega (arith, there))))
+    (same_then (ap (λ (n : ℕ). not (knows_hardware n)) (word_beside front back 2 (omega (arith, there)))) tt)))
     (linux_sll_is_read.is_read (front ++ back) packet is).0 error refused
 
+-- what refuses a VLAN tag, under any name
+vlan_named : {E : Type 0} (named : LenError → E) (front back : List ℕ) (tagged : Parts SingleVlanHeader)
+    → IsVlan (front ++ back) tagged → (error : E) → first_row (rows_as named (vlan_rows front)) ≡ Some error
+    → IsCutRefusal named slice_end (length front) (length (front ++ back)) error
+vlan_named named front back tagged is error refused =
+    refused_beside (IsCutRefusal named slice_end (length front) (length (front ++ back)))
+    (rows_as named (vlan_rows front)) (rows_as named (vlan_rows (front ++ back)))
+    (cut_first named slice_end front back 4 layer.VlanHeader refl (λ there. tt))
+    (first_row-as_none named (vlan_rows (front ++ back)) (vlan_is_read.is_read (front ++ back) tagged is).0)
+    error refused
+
 pub vlan_cut : TellsCut IsVlan RefusesVlan (λ (error : LenError). error) (λ tagged. slice_end)
-vlan_cut front back fits tagged is error refused =
-    refused_beside (IsCutRefusal (λ (e : LenError). e) slice_end (length front) (length (front ++ back)))
-    (vlan_rows front) (vlan_rows (front ++ back))
-    (λ long. (
-      cut_row (λ (e : LenError). e) slice_end front back 4 4 source.Slice layer.VlanHeader refl refl long,
-      λ there. tt,
-    ))
-    (vlan_is_read.is_read (front ++ back) tagged is).0 error refused
+vlan_cut front back fits = vlan_named (λ (e : LenError). e) front back
 
 -- ---- ARP
 
@@ -116,31 +106,24 @@ arp_cut front back fits read is error refused =
 abbrev MacsecCut : List ℕ → List ℕ → MacsecError → Type 0
 MacsecCut front back = IsCutRefusal macsec_error.Len slice_end (length front) (length (front ++ back))
 
+-- the rows of a tag, and those behind them, where the first two bytes are those of the whole
+tag_beside : (front back : List ℕ) (rows whole : List (Bool × MacsecError))
+    → (slice_index front 0 ≡ slice_index (front ++ back) 0 → slice_index front 1 ≡ slice_index (front ++ back) 1
+    → BesideRows (MacsecCut front back) rows whole)
+    → BesideRows (MacsecCut front back) (macsec_header_rows front ++ rows) (macsec_header_rows (front ++ back) ++ whole)
+tag_beside front back rows whole behind =
+    cut_first macsec_error.Len slice_end front back 6 layer.MacsecHeader refl (λ there.
+    let first = byte_beside front back 0 (omega (arith, there)) in
+    let second = byte_beside front back 1 (omega (arith, there)) in
+    same_then (ap (nat_le 128) first) (same_then (λ i. (first i / 4 % 4 == 0) && (second i % 64 == 1))
+    (cut_then macsec_error.Len slice_end front back (tag_len_of front) (tag_len_of (front ++ back)) layer.MacsecHeader
+    refl (ap (λ (b : ℕ). 6 + 8 * (b / 32 % 2) + type_len_by (b / 4 % 4)) first) (behind first second))))
+
 pub macsec_header_cut : TellsCut IsMacsecHeader RefusesMacsecHeader macsec_error.Len (λ read. slice_end)
 macsec_header_cut front back fits read is error refused =
     refused_beside (MacsecCut front back) (macsec_header_rows front) (macsec_header_rows (front ++ back))
-    (λ long. (
-      cut_row macsec_error.Len slice_end front back 6 6 source.Slice layer.MacsecHeader refl refl long,
-      λ short.
-          let there = enough (length front) 6 short in
-          let first = byte_beside front back 0 (omega (arith, there)) in
-          let second = byte_beside front back 1 (omega (arith, there)) in
-          λ version. (
-            same_row (MacsecCut front back) _ _ _ (ap (nat_le 128) first) version,
-            λ known.
-                λ room. (
-                  same_row (MacsecCut front back) _ _ _ (λ i. (first i / 4 % 4 == 0) && (second i % 64 == 1)) room,
-                  λ also.
-                      λ tag. (
-                        cut_row macsec_error.Len slice_end front back (tag_len_of front) (tag_len_of (front ++ back)) source.Slice
-                            layer.MacsecHeader refl
-                            (ap (λ (b : ℕ). 6 + 8 * (b / 32 % 2) + type_len_by (b / 4 % 4)) first) tag,
-                        λ last. tt,
-                      ),
-                ),
-          ),
-    ))
-    (macsec_header_is_read.is_read (front ++ back) read is).0 error refused
+    (tag_beside front back [] [] (λ first second. tt)) (macsec_header_is_read.is_read (front ++ back) read is).0 error
+    refused
 
 -- the row of the short length, which demands all bytes where it is 0
 short_len_row : (front back : List ℕ) (zero : Bool) (demanded : ℕ) (here whole : ℕ)
@@ -159,59 +142,30 @@ len_by first second n =
     if second % 64 == 0 then n
     else 6 + 8 * (first / 32 % 2) + type_len_by (first / 4 % 4) + (second % 64 - type_len_by (first / 4 % 4))
 
+-- the row of a packet behind those of its tag
+abbrev packet_row : List ℕ → List (Bool × MacsecError)
+packet_row bytes =
+    let row = len_error (macsec_len_of bytes) (length bytes) source.Slice layer.MacsecPacket in
+    (nat_lt (length bytes) (macsec_len_of bytes), macsec_error.Len row) ∷ []
+
 pub macsec_cut : TellsCut IsMacsec RefusesMacsec macsec_error.Len (λ packet. slice_end)
 macsec_cut front back fits packet is error refused =
     refused_beside (MacsecCut front back) (macsec_rows front) (macsec_rows (front ++ back))
-    (λ long. (
-      cut_row macsec_error.Len slice_end front back 6 6 source.Slice layer.MacsecHeader refl refl long,
-      λ short.
-          let there = enough (length front) 6 short in
-          let first = byte_beside front back 0 (omega (arith, there)) in
-          let second = byte_beside front back 1 (omega (arith, there)) in
-          λ version. (
-            same_row (MacsecCut front back) _ _ _ (ap (nat_le 128) first) version,
-            λ known.
-                λ room. (
-                  same_row (MacsecCut front back) _ _ _ (λ i. (first i / 4 % 4 == 0) && (second i % 64 == 1)) room,
-                  λ also.
-                      λ tag. (
-                        cut_row macsec_error.Len slice_end front back (tag_len_of front) (tag_len_of (front ++ back)) source.Slice
-                            layer.MacsecHeader refl
-                            (ap (λ (b : ℕ). 6 + 8 * (b / 32 % 2) + type_len_by (b / 4 % 4)) first) tag,
-                        λ stands.
-                            λ whole. (
-                              short_len_row front back (short_len_of front == 0)
-                                  (tag_len_of front + (short_len_of front - type_len_by (modification_of front)))
-                                  (macsec_len_of front) (macsec_len_of (front ++ back)) refl
-                                  (λ i. len_by (sym first i) (sym second i) (length (front ++ back))) whole,
-                              λ last. tt,
-                            ),
-                      ),
-                ),
-          ),
-    ))
+    (tag_beside front back (packet_row front) (packet_row (front ++ back)) (λ first second whole. (
+      short_len_row front back (short_len_of front == 0)
+          (tag_len_of front + (short_len_of front - type_len_by (modification_of front)))
+          (macsec_len_of front) (macsec_len_of (front ++ back)) refl
+          (λ i. len_by (sym first i) (sym second i) (length (front ++ back))) whole,
+      λ last. tt,
+    )))
     (macsec_is_read.is_read (front ++ back) packet is).0 error refused
 
 -- ---- link extensions
 
--- what refuses a VLAN tag refuses it under another name
-vlan_named : (front back : List ℕ) (tagged : Parts SingleVlanHeader) → IsVlan (front ++ back) tagged
-    → (error : MacsecError)
-    → first_row (rows_as macsec_error.Len (vlan_rows front)) ≡ Some error → MacsecCut front back error
-vlan_named front back tagged is error refused =
-    refused_beside (MacsecCut front back) (rows_as macsec_error.Len (vlan_rows front))
-    (rows_as macsec_error.Len (vlan_rows (front ++ back)))
-    (λ long. (
-      cut_row macsec_error.Len slice_end front back 4 4 source.Slice layer.VlanHeader refl refl long,
-      λ there. tt,
-    ))
-    (first_row-as_none macsec_error.Len (vlan_rows (front ++ back)) (vlan_is_read.is_read (front ++ back) tagged is).0)
-    error refused
-
 pub extension_cut : (type : EtherType)
     → TellsCut (IsLinkExtension type) (RefusesLinkExtension type) macsec_error.Len (λ part. slice_end)
 extension_cut type front back fits (vlan tag payload, left) is error (inl refused) =
-    vlan_named front back (parts_of tag payload left) is.1 error refused.1
+    vlan_named macsec_error.Len front back (parts_of tag payload left) is.1 error refused.1
 extension_cut type front back fits (vlan tag payload, left) is error (inr refused) =
     absurd (vlan_not_macsec type is.0 refused.0)
 extension_cut type front back fits (macsec tag payload, left) is error (inl refused) =

@@ -7,7 +7,7 @@ use Rattle.std.proofs.lemmas.Option.{none-some}
 use Rattle.std.proofs.lemmas.List.{get_or-take, get_or_append_left, length-take, length-drop, length-append}
 use Rattle.std.proofs.lemmas.List.{take-append-drop, append_assoc, take_at, drop_at, drop-drop}
 use Rattle.ep_base.specs.Bytes.{AreBytes, word_at}
-use Rattle.ep_base.specs.Layer.{len_error}
+use Rattle.ep_base.specs.Readings.{len_error}
 use Rattle.ep_base.specs.Tables.{Parts, first_row, parts_of}
 use Rattle.ep_base.proofs.BytesLemmas.{AreBytes-take}
 use Rattle.ep_base.proofs.TableLemmas.{IsReadBy, cut_at, cut_same, shown_is, first_row-append_none}

@@ -7,7 +7,7 @@ use Rattle.std.proofs.lemmas.Nat.{from_be_bytes-to_be_bytes_4, from_be_bytes-to_
 use Rattle.std.proofs.lemmas.List.{length-take, length-drop, take-append-drop, drop-drop, drop_all, get_or-drop}
 use Rattle.std.specs.Int.{w16, w32, w64, to_be_bytes, from_be_bytes}
 use Rattle.ep_base.specs.Bytes.{AreBytes, word_at, bit}
-use Rattle.ep_base.proofs.BytesLemmas.{AreBytes-take, AreBytes-drop, bit_le, bit_read, bit_of_read}
+use Rattle.ep_base.proofs.BytesLemmas.{AreBytes-take, AreBytes-drop, bit_le, bit_read, bit_of_read, word_cells}
 use Rattle.ep_link.specs.declared.link_ext.macsec_ptype.MacsecPType.{MacsecPType}
 use Rattle.ep_link.specs.declared.link_ext.macsec_ptype.MacsecPType.TheVariants as ptype
 use Rattle.ep_link.specs.declared.link_ext.macsec_header.MacsecHeader.{MacsecHeader}
@@ -72,23 +72,10 @@ flags_of h fits = record {
   an = fits.an;
 }
 
-first_version : (t s b e c a : ℕ) → AreFlags t s b e c a → first_of t s b e c a < 128
-first_version t s b e c a f = omega arith
-
-first_station : (t s b e c a : ℕ) → AreFlags t s b e c a → first_of t s b e c a / 64 % 2 ≡ t
-first_station t s b e c a f = omega arith
-
-first_sci : (t s b e c a : ℕ) → AreFlags t s b e c a → first_of t s b e c a / 32 % 2 ≡ s
-first_sci t s b e c a f = omega arith
-
-first_single : (t s b e c a : ℕ) → AreFlags t s b e c a → first_of t s b e c a / 16 % 2 ≡ b
-first_single t s b e c a f = omega arith
-
-first_modification : (t s b e c a : ℕ) → AreFlags t s b e c a → first_of t s b e c a / 4 % 4 ≡ 2 * e + c
-first_modification t s b e c a f = omega arith
-
-first_an : (t s b e c a : ℕ) → AreFlags t s b e c a → first_of t s b e c a % 4 ≡ a
-first_an t s b e c a f = omega arith
+-- what is read from such a byte: the version, and each flag
+first_apart : (t s b e c a : ℕ) → AreFlags t s b e c a → (n : ℕ) → n ≡ first_of t s b e c a
+    → (n < 128) × (n / 64 % 2 ≡ t) × (n / 32 % 2 ≡ s) × (n / 16 % 2 ≡ b) × (n / 4 % 4 ≡ 2 * e + c) × (n % 4 ≡ a)
+first_apart t s b e c a f n same = (omega arith, omega arith, omega arith, omega arith, omega arith, omega arith)
 
 -- the flags of the first byte, put together again
 first_again : (n t s b e c a : ℕ) → n < 128 → t ≡ n / 64 % 2 → s ≡ n / 32 % 2 → b ≡ n / 16 % 2
@@ -134,27 +121,21 @@ with_read : (r : ℕ) (h : MacsecHeader) → r < 4 → FitsMacsec h → h ≡ ma
 with_read r h bits fits =
     let bytes = macsec_bytes_with r h in
     let at : ℕ → ℕ = slice_index bytes in
-    let flags = flags_of h fits in
-    let modification : modification_of bytes ≡ 2 * encryption_bit h.ptype + changed_text_bit h.ptype =
-    first_modification _ _ _ _ _ _ flags in
-    let sci_flag : sci_bit_of bytes ≡ sci_bit h.sci = first_sci _ _ _ _ _ _ flags in
-    let station : slice_index bytes 0 / 64 % 2 ≡ bit h.endstation_id = first_station _ _ _ _ _ _ flags in
-    let single : slice_index bytes 0 / 16 % 2 ≡ bit h.scb = first_single _ _ _ _ _ _ flags in
-    let an : slice_index bytes 0 % 4 ≡ h.an = first_an _ _ _ _ _ _ flags in
+    let read = first_apart _ _ _ _ _ _ (flags_of h fits) (slice_index bytes 0) refl in
     let short_len : short_len_of bytes ≡ h.short_len = omega (arith, fits.short_len) in
     let packet_nr : from_be_bytes w32 (slice_range bytes 2 6) ≡ h.packet_nr =
     from_be_bytes-to_be_bytes_4 h.packet_nr fits.packet_nr in
     let type : ptype_by (modification_of bytes) (word_at bytes (6 + 8 * sci_bit_of bytes)) ≡ h.ptype =
-    (λ i. ptype_by (modification i) (word_at bytes (6 + 8 * sci_flag i)))
+    (λ i. ptype_by (read.4 i) (word_at bytes (6 + 8 * read.2 i)))
     ∙ ptype_read (at 0) (at 1) (at 2) (at 3) (at 4) (at 5) h.sci h.ptype h.short_len fits.ptype in
     let sci : sci_by (sci_bit_of bytes) (from_be_bytes w64 (slice_range bytes 6 14)) ≡ h.sci =
-    ap (λ (n : ℕ). sci_by n (from_be_bytes w64 (slice_range bytes 6 14))) sci_flag
+    ap (λ (n : ℕ). sci_by n (from_be_bytes w64 (slice_range bytes 6 14))) read.2
     ∙ sci_read (at 0) (at 1) (at 2) (at 3) (at 4) (at 5) h.sci (ptype_bytes h.ptype) fits.sci in
     sym (λ i. record {
       ptype = type i;
-      endstation_id = bit_read _ h.endstation_id station i;
-      scb = bit_read _ h.scb single i;
-      an = an i;
+      endstation_id = bit_read _ h.endstation_id read.1 i;
+      scb = bit_read _ h.scb read.3 i;
+      an = read.5 i;
       short_len = short_len i;
       packet_nr = packet_nr i;
       sci = sci i;
@@ -199,20 +180,17 @@ with_len r h = omega (arith, tail_len h.sci h.ptype)
 with_whole : (r : ℕ) (h : MacsecHeader) → r < 4 → FitsMacsec h → IsWhole (macsec_bytes_with r h)
 with_whole r h bits fits =
     let bytes = macsec_bytes_with r h in
-    let flags = flags_of h fits in
-    let modification : modification_of bytes ≡ 2 * encryption_bit h.ptype + changed_text_bit h.ptype =
-    first_modification _ _ _ _ _ _ flags in
-    let sci_flag : sci_bit_of bytes ≡ sci_bit h.sci = first_sci _ _ _ _ _ _ flags in
+    let read = first_apart _ _ _ _ _ _ (flags_of h fits) (slice_index bytes 0) refl in
     let short_len : short_len_of bytes ≡ h.short_len = omega (arith, fits.short_len) in
     let len : length bytes ≡ 6 + sci_len h.sci + ptype_len h.ptype = with_len r h in
     let type_len : type_len_by (modification_of bytes) ≡ ptype_len h.ptype =
-    ap type_len_by modification ∙ type_len_same h.ptype in
+    ap type_len_by read.4 ∙ type_len_same h.ptype in
     let id_len = sci_len_same h.sci in
     record {
       fixed = omega (arith, len);
-      version = first_version _ _ _ _ _ _ flags;
-      room = λ none. room_of h.ptype h.short_len fits.ptype (sym modification ∙ none.0) (sym short_len ∙ none.1);
-      whole = omega (arith, len, type_len, id_len, sci_flag);
+      version = read.0;
+      room = λ none. room_of h.ptype h.short_len fits.ptype (sym read.4 ∙ none.0) (sym short_len ∙ none.1);
+      whole = omega (arith, len, type_len, id_len, read.2);
     }
 
 pub encoded_whole : (e : List ℕ) (h : MacsecHeader) → EncodesMacsec e h → IsWhole e
@@ -245,10 +223,7 @@ FitsPType_by (suc (suc (suc m))) type short_len below room = tt
 
 -- two bytes are those of their number
 two_again : (xs : List ℕ) → length xs ≡ 2 → AreBytes xs → to_be_bytes w16 (word_at xs 0) ≡ xs
-two_again (a ∷ b ∷ []) len fits =
-    let upper : word_at (a ∷ b ∷ []) 0 / 256 ^ 1 % 256 ≡ a = omega (arith, fits 0, fits 1) in
-    let lower : word_at (a ∷ b ∷ []) 0 % 256 ≡ b = omega (arith, fits 0, fits 1) in
-    λ i. upper i ∷ lower i ∷ []
+two_again (a ∷ b ∷ []) len fits = sym (word_cells (a ∷ b ∷ []) fits 0 refl)
 two_again _ len fits = absurd (omega arith)
 
 none_left : (k : ℕ) (e : List ℕ) → length e ≡ k → [] ≡ drop k e

@@ -5,7 +5,7 @@ use Rattle.std.proofs.lemmas.Grind.{common_steps}
 use Rattle.std.proofs.lemmas.List.{append-nil, append_assoc, length-append, length-drop}
 use Rattle.ep_base.specs.Bytes.{AreBytes, word_at, bit}
 use Rattle.ep_base.specs.Tables.{Parts, first_row, parts_of}
-use Rattle.ep_base.proofs.BytesLemmas.{AreBytes-drop, bit_le, bit_read, bit_of_read}
+use Rattle.ep_base.proofs.BytesLemmas.{AreBytes-drop, bit_le, bit_read, bit_of_read, word_cells}
 use Rattle.ep_base.proofs.TableLemmas.{IsReadBy}
 use Rattle.ep_link.specs.declared.link_ext.single_vlan_header.SingleVlanHeader.{SingleVlanHeader}
 use Rattle.ep_link.specs.declared.link_ext.double_vlan_header.DoubleVlanHeader.{DoubleVlanHeader}
@@ -48,14 +48,10 @@ vlan_front bytes fits long =
     let flag : bit (dei == 1) ≡ dei = bit_of_read dei (omega arith) in
     let tag = 2 ^ 13 * (slice_index bytes 0 / 32) + 2 ^ 12 * bit (dei == 1) + word_at bytes 0 % 4096 in
     let same : tag ≡ word_at bytes 0 = tag_same (slice_index bytes 0) (slice_index bytes 1) (fits 1) flag in
-    let b0 : slice_index bytes 0 ≡ tag / 256 ^ 1 % 256 = omega (arith, fits 0, fits 1, same) in
-    let b1 : slice_index bytes 1 ≡ tag % 256 = omega (arith, fits 1, same) in
-    let b2 : slice_index bytes 2 ≡ word_at bytes 2 / 256 ^ 1 % 256 = omega (arith, fits 2, fits 3) in
-    let b3 : slice_index bytes 3 ≡ word_at bytes 2 % 256 = omega (arith, fits 2, fits 3) in
     let cells : bytes
     ≡ slice_index bytes 0 ∷ slice_index bytes 1 ∷ slice_index bytes 2 ∷ slice_index bytes 3 ∷ drop 4 bytes =
     grind (arith, common_steps) in
-    cells ∙ (λ i. b0 i ∷ b1 i ∷ b2 i ∷ b3 i ∷ drop 4 bytes)
+    cells ∙ (λ i. word_cells bytes fits 0 same i ++ word_cells bytes fits 2 refl i ++ drop 4 bytes)
 
 vlan_fits : (bytes : List ℕ) → AreBytes bytes → FitsVlan (vlan_header_of bytes)
 vlan_fits bytes fits = record {

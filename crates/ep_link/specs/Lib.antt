@@ -14,7 +14,7 @@ pub mod LinkExtensions
 -- what the contracts name of the crates below
 pub use Rattle.ep_base.specs.Bytes
 pub use Rattle.ep_base.specs.NumberComparisons
-pub use Rattle.ep_base.specs.Layer
+pub use Rattle.ep_base.specs.Readings
 pub use Rattle.ep_base.specs.Missing
 pub use Rattle.ep_base.specs.Padding
 pub use Rattle.ep_base.specs.Tables

@@ -4,10 +4,10 @@ use Rattle.std.specs.Prelude.{◌&&◌, nat_lt}
 use Rattle.std.proofs.lemmas.Grind.{common_steps}
 use Rattle.ep_base.specs.Bytes.{word_at}
 use Rattle.ep_base.specs.IpNumbers.{icmpv4_number, icmpv6_number, tcp_number, udp_number}
-use Rattle.ep_base.specs.Layer.{Reading, headers, len_error, slices}
+use Rattle.ep_base.specs.Readings.{Reading, headers, len_error, slices}
 use Rattle.ep_base.specs.Missing.{IsCutRefusal, TellsCut, slice_end}
 use Rattle.ep_base.specs.Tables.{rows_as}
-use Rattle.ep_base.proofs.CutRefusalLemmas.{BesideRows, byte_beside, cut_row, either_beside, enough, named_beside, refused_beside, same_row, word_beside}
+use Rattle.ep_base.proofs.CutRefusalLemmas.{BesideRows, byte_beside, cut_first, cut_then, either_beside, named_beside, refused_beside, same_then, word_beside}
 use Rattle.ep_base.specs.declared.err.len_error.LenError.{LenError}
 use Rattle.ep_base.specs.declared.err.layer.Layer.{Layer}
 use Rattle.ep_base.specs.declared.err.layer.Layer.TheVariants as layer
@@ -39,27 +39,15 @@ BesideAs named front back error = IsCutRefusal named slice_end (length front) (l
 
 udp_header_beside : {E : Type 0} (named : LenError → E) (front back : List ℕ)
     → BesideRows (BesideAs named front back) (udp_header_rows front) (udp_header_rows (front ++ back))
-udp_header_beside named front back long =
-    (cut_row named slice_end front back 8 8 source.Slice layer.UdpHeader refl refl long, λ there. tt)
+udp_header_beside named front back = cut_first named slice_end front back 8 layer.UdpHeader refl (λ there. tt)
 
 udp_beside : {E : Type 0} (named : LenError → E) (front back : List ℕ)
     → BesideRows (BesideAs named front back) (udp_rows front) (udp_rows (front ++ back))
-udp_beside named front back long = (
-  cut_row named slice_end front back 8 8 source.Slice layer.UdpHeader refl refl long,
-  λ short.
-      let there = enough (length front) 8 short in
-      let field = word_beside front back 4 (omega (arith, there)) in
-      λ least. (
-        same_row (BesideAs named front back) _ _ _ (ap (λ (n : ℕ). nat_lt 0 n && nat_lt n 8) field) least,
-        λ also.
-            λ whole. (
-              cut_row named slice_end front back (word_at front 4) (word_at (front ++ back) 4) source.Slice layer.UdpPayload
-                  refl field
-                  whole,
-              λ last. tt,
-            ),
-      ),
-)
+udp_beside named front back =
+    cut_first named slice_end front back 8 layer.UdpHeader refl (λ there.
+    let field = word_beside front back 4 (omega (arith, there)) in
+    same_then (ap (λ (n : ℕ). nat_lt 0 n && nat_lt n 8) field)
+    (cut_then named slice_end front back (word_at front 4) (word_at (front ++ back) 4) layer.UdpPayload refl field tt))
 
 udp_part_beside : {E : Type 0} (named : LenError → E) (reading : Reading) (front back : List ℕ)
     → BesideRows (BesideAs named front back) (udp_part_rows reading front) (udp_part_rows reading (front ++ back))
@@ -67,21 +55,12 @@ udp_part_beside named slices front back = udp_beside named front back
 udp_part_beside named headers front back = udp_header_beside named front back
 
 tcp_beside : (front back : List ℕ) → BesideRows (Beside front back) (tcp_rows front) (tcp_rows (front ++ back))
-tcp_beside front back long = (
-  cut_row Len slice_end front back 20 20 source.Slice layer.TcpHeader refl refl long,
-  λ short.
-      let there = enough (length front) 20 short in
-      let field = byte_beside front back 12 (omega (arith, there)) in
-      λ least. (
-        same_row (Beside front back) _ _ _ (ap (λ (b : ℕ). nat_lt (b / 16) 5) field) least,
-        λ also.
-            λ whole. (
-              cut_row Len slice_end front back (4 * data_offset_of front) (4 * data_offset_of (front ++ back)) source.Slice
-                  layer.TcpHeader refl (ap (λ (b : ℕ). 4 * (b / 16)) field) whole,
-              λ last. tt,
-            ),
-      ),
-)
+tcp_beside front back =
+    cut_first Len slice_end front back 20 layer.TcpHeader refl (λ there.
+    let field = byte_beside front back 12 (omega (arith, there)) in
+    same_then (ap (λ (b : ℕ). nat_lt (b / 16) 5) field)
+    (cut_then Len slice_end front back (4 * data_offset_of front) (4 * data_offset_of (front ++ back)) layer.TcpHeader
+    refl (ap (λ (b : ℕ). 4 * (b / 16)) field) tt))
 
 -- a message that must have exactly 20 bytes
 exact_row : {E : Type 0} (named : LenError → E) (front back : List ℕ) (place : Layer)
@@ -109,23 +88,19 @@ timestamp_beside named front back (Some _) = tt
 
 icmpv4_beside : {E : Type 0} (named : LenError → E) (front back : List ℕ)
     → BesideRows (BesideAs named front back) (icmpv4_rows front) (icmpv4_rows (front ++ back))
-icmpv4_beside named front back long = (
-  cut_row named slice_end front back 8 8 source.Slice layer.Icmpv4 refl refl long,
-  λ short.
-      let there = enough (length front) 8 short in
-      let type = byte_beside front back 0 (omega (arith, there)) in
-      let code = byte_beside front back 1 (omega (arith, there)) in
-      let same : icmpv4_kind_at front ≡ icmpv4_kind_at (front ++ back) = λ i. icmpv4_kind_of (type i) (code i) in
-      subst (λ (of : Option Icmpv4Kind). BesideRows (BesideAs named front back)
-      (icmpv4_timestamp_rows (icmpv4_kind_at front)
-      (length front)) (icmpv4_timestamp_rows of (length (front ++ back)))) same
-      (timestamp_beside named front back (icmpv4_kind_at front)),
-)
+icmpv4_beside named front back =
+    cut_first named slice_end front back 8 layer.Icmpv4 refl (λ there.
+    let type = byte_beside front back 0 (omega (arith, there)) in
+    let code = byte_beside front back 1 (omega (arith, there)) in
+    let same : icmpv4_kind_at front ≡ icmpv4_kind_at (front ++ back) = λ i. icmpv4_kind_of (type i) (code i) in
+    subst (λ (of : Option Icmpv4Kind). BesideRows (BesideAs named front back)
+    (icmpv4_timestamp_rows (icmpv4_kind_at front)
+    (length front)) (icmpv4_timestamp_rows of (length (front ++ back)))) same
+    (timestamp_beside named front back (icmpv4_kind_at front)))
 
 icmpv6_beside : {E : Type 0} (named : LenError → E) (front back : List ℕ)
     → BesideRows (BesideAs named front back) (icmpv6_rows front) (icmpv6_rows (front ++ back))
-icmpv6_beside named front back long =
-    (cut_row named slice_end front back 8 8 source.Slice layer.Icmpv6 refl refl long, λ there. tt)
+icmpv6_beside named front back = cut_first named slice_end front back 8 layer.Icmpv6 refl (λ there. tt)
 
 transport_beside : (reading : Reading) (number : ℕ) (front back : List ℕ)
     → BesideRows (Beside front back) (transport_rows reading number front)

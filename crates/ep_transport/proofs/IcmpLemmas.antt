@@ -1,14 +1,13 @@
 -- What the bytes of messages of ICMP and of ICMPv6 have in common.
-use Rattle.std.proofs.Common.{◌≡◌, ◌==◌, ◌&&◌, ℕ, ◌≤◌, List, [], ◌∷◌, ◌++◌, Option, Some, None, length, take, drop, slice_index, slice_range, sym, ap, subst, ◌∙◌, inl, inr, arith}
+use Rattle.std.proofs.Common.{◌≡◌, ◌==◌, ◌&&◌, ℕ, ◌≤◌, List, [], ◌∷◌, ◌++◌, Option, Some, None, length, take, drop, slice_index, slice_range, refl, sym, ap, subst, ◌∙◌, inl, inr, arith}
 use Rattle.std.specs.Prelude.{nat_le}
 use Rattle.std.specs.Int.{w16, to_be_bytes}
 use Rattle.std.proofs.lemmas.Bool.{cases_Bool, and_parts, cond-true, cond-false, eqb-true, leb-true}
 use Rattle.std.proofs.lemmas.Option.{none-some}
 use Rattle.ep_base.specs.Bytes.{AreBytes, word_at}
 use Rattle.ep_transport.specs.declared.icmp_echo_header.IcmpEchoHeader.{IcmpEchoHeader}
-use Rattle.ep_base.proofs.BytesLemmas.{elements, drop-elements}
+use Rattle.ep_base.proofs.BytesLemmas.{elements, drop-elements, word_cells}
 use Rattle.ep_transport.specs.Icmp.{kind_in, FitsEcho, echo_bytes, echo_of}
-use Rattle.ep_transport.proofs.TcpLemmas.{word_bytes}
 
 -- ---- the table
 
@@ -61,17 +60,13 @@ pub message_front : (bytes rest : List ℕ) (type code : ℕ) → AreBytes bytes
     → bytes ≡ type ∷ code ∷ (to_be_bytes w16 (word_at bytes 2) ++ rest)
 unfolding elements
 message_front bytes rest type code fits long is_type is_code is_rest =
-    let checksum = word_bytes (slice_index bytes 2) (slice_index bytes 3) (fits 2) (fits 3) in
     drop-elements 4 0 bytes (omega arith)
-    ∙ (λ i. is_type i ∷ is_code i ∷ checksum.0 i ∷ checksum.1 i ∷ is_rest i)
+    ∙ (λ i. is_type i ∷ is_code i ∷ (word_cells bytes fits 2 refl i ++ is_rest i))
 
 -- ---- echoes
 
 pub echo_same : (bytes : List ℕ) → AreBytes bytes → four_at bytes ≡ echo_bytes (echo_of bytes)
-echo_same bytes fits =
-    let id = word_bytes (slice_index bytes 4) (slice_index bytes 5) (fits 4) (fits 5) in
-    let seq = word_bytes (slice_index bytes 6) (slice_index bytes 7) (fits 6) (fits 7) in
-    λ i. id.0 i ∷ id.1 i ∷ seq.0 i ∷ seq.1 i ∷ []
+echo_same bytes fits = λ i. word_cells bytes fits 4 refl i ++ word_cells bytes fits 6 refl i
 
 pub echo_fits : (bytes : List ℕ) → AreBytes bytes → FitsEcho (echo_of bytes)
 echo_fits bytes fits = record { id = omega (arith, fits 4, fits 5); seq = omega (arith, fits 6, fits 7) }

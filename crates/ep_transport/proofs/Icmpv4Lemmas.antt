@@ -8,7 +8,7 @@ use Rattle.std.proofs.lemmas.Bool.Decides.{nat_tests}
 use Rattle.std.proofs.lemmas.List.{drop_all}
 use Rattle.ep_base.specs.Bytes.{AreBytes, word_at}
 use Rattle.ep_base.specs.Tables.{Parts, first_row}
-use Rattle.ep_base.proofs.BytesLemmas.{elements, drop-elements, AreBytes-take, AreBytes-drop}
+use Rattle.ep_base.proofs.BytesLemmas.{elements, drop-elements, AreBytes-take, AreBytes-drop, long_cells, word_cells}
 use Rattle.ep_base.proofs.TableLemmas.{IsReadBy}
 use Rattle.ep_transport.specs.declared.icmpv4.kind.Icmpv4Kind.{Icmpv4Kind}
 use Rattle.ep_transport.specs.declared.icmpv4.kind.Icmpv4Kind.TheVariants as kind
@@ -22,7 +22,6 @@ use Rattle.ep_transport.specs.Tcp.{long_at}
 use Rattle.ep_transport.specs.Icmpv4.{icmpv4_row, icmpv4_kinds, icmpv4_kind_of, icmpv4_kind_at, icmpv4_kind, icmpv4_len, icmpv4_type_u8, icmpv4_code_u8, icmpv4_exceeded_u8, icmpv4_exceeded_of}
 use Rattle.ep_transport.specs.Icmpv4.{FitsIcmpv4, FitsIcmpv4Fields, FitsTimestamp, EndsIcmpv4, IsIcmpv4, icmpv4_bytes_with, icmpv4_header_of, icmpv4_parts, icmpv4_rest_with, icmpv4_rows, icmpv4_timestamp_rows, icmpv4_value_of, timestamp_bytes, timestamp_of}
 use Rattle.ep_transport.proofs.IcmpLemmas.{IsInRow, kind_in-row, four_at, four_there, four_range, message_front, echo_same, echo_fits, echo_read, message_bytes}
-use Rattle.ep_transport.proofs.TcpLemmas.{word_bytes, long_bytes}
 
 -- ---- lengths
 
@@ -107,9 +106,7 @@ kind_same (Some _) bytes = refl
 mtu_same : (used : Bool) (bytes : List ℕ) → AreBytes bytes
     → four_at bytes ≡ (if used then take 2 (four_at bytes) ++ to_be_bytes w16 (if used then word_at bytes 6 else 0)
     else four_at bytes)
-mtu_same true bytes fits =
-    let mtu = word_bytes (slice_index bytes 6) (slice_index bytes 7) (fits 6) (fits 7) in
-    λ i. slice_index bytes 4 ∷ slice_index bytes 5 ∷ mtu.0 i ∷ mtu.1 i ∷ []
+mtu_same true bytes fits = λ i. slice_index bytes 4 ∷ slice_index bytes 5 ∷ word_cells bytes fits 6 refl i
 mtu_same false bytes fits = refl
 
 pointer_same : (used : Bool) (bytes : List ℕ)
@@ -122,18 +119,9 @@ timestamp_same : (bytes : List ℕ) → AreBytes bytes → 20 ≤ length bytes
     → drop 4 bytes ≡ timestamp_bytes (timestamp_of bytes) ++ drop 20 bytes
 unfolding elements
 timestamp_same bytes fits long =
-    let b = slice_index bytes in
-    let id = word_bytes (b 4) (b 5) (fits 4) (fits 5) in
-    let seq = word_bytes (b 6) (b 7) (fits 6) (fits 7) in
-    let sent =
-    long_bytes (b 8) (b 9) (b 10) (b 11) (fits 8) (fits 9) (fits 10) (fits 11) (long_at bytes 8) refl in
-    let got =
-    long_bytes (b 12) (b 13) (b 14) (b 15) (fits 12) (fits 13) (fits 14) (fits 15) (long_at bytes 12) refl in
-    let answered =
-    long_bytes (b 16) (b 17) (b 18) (b 19) (fits 16) (fits 17) (fits 18) (fits 19) (long_at bytes 16) refl in
     drop-elements 16 4 bytes long
-    ∙ (λ i. id.0 i ∷ id.1 i ∷ seq.0 i ∷ seq.1 i ∷ sent.0 i ∷ sent.1 i ∷ sent.2 i ∷ sent.3 i
-    ∷ got.0 i ∷ got.1 i ∷ got.2 i ∷ got.3 i ∷ answered.0 i ∷ answered.1 i ∷ answered.2 i ∷ answered.3 i ∷ drop 20 bytes)
+    ∙ (λ i. word_cells bytes fits 4 refl i ++ word_cells bytes fits 6 refl i ++ long_cells bytes fits 8 refl i
+    ++ long_cells bytes fits 12 refl i ++ long_cells bytes fits 16 refl i ++ drop 20 bytes)
 
 -- what stands behind the checksum, in front of what follows 8 bytes
 four_same : (bytes back : List ℕ) → 8 ≤ length bytes → four_at bytes ≡ back → drop 4 bytes ≡ back ++ drop 8 bytes

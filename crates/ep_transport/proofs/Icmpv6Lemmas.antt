@@ -4,7 +4,7 @@ use Rattle.std.proofs.lemmas.Grind.{common_steps}
 use Rattle.std.proofs.lemmas.Bool.Decides.{nat_tests}
 use Rattle.ep_base.specs.Bytes.{AreBytes, word_at}
 use Rattle.ep_base.specs.Tables.{Parts, first_row}
-use Rattle.ep_base.proofs.BytesLemmas.{AreBytes-take, AreBytes-drop}
+use Rattle.ep_base.proofs.BytesLemmas.{AreBytes-take, AreBytes-drop, long_cells}
 use Rattle.ep_base.proofs.TableLemmas.{IsReadBy}
 use Rattle.ep_transport.specs.declared.icmpv6.kind.Icmpv6Kind.{Icmpv6Kind}
 use Rattle.ep_transport.specs.declared.icmpv6.kind.Icmpv6Kind.TheVariants as kind
@@ -17,7 +17,6 @@ use Rattle.ep_transport.specs.Tcp.{long_at}
 use Rattle.ep_transport.specs.Icmpv6.{icmpv6_row, icmpv6_kinds, icmpv6_kind_of, icmpv6_kind_at, icmpv6_kind, icmpv6_type_u8, icmpv6_code_u8, icmpv6_exceeded_u8, icmpv6_exceeded_of}
 use Rattle.ep_transport.specs.Icmpv6.{FitsIcmpv6, FitsIcmpv6Fields, IsIcmpv6, icmpv6_bytes_with, icmpv6_header_of, icmpv6_parts, icmpv6_rest_with, icmpv6_rows, icmpv6_value_of}
 use Rattle.ep_transport.proofs.IcmpLemmas.{IsInRow, kind_in-row, four_at, four_there, four_range, message_front, echo_same, echo_fits, echo_read}
-use Rattle.ep_transport.proofs.TcpLemmas.{long_bytes}
 
 -- ---- bytes are those of the header that is read from them
 
@@ -47,11 +46,7 @@ kind_same (Some _) bytes = refl
 
 number_same : (bytes : List ℕ) → AreBytes bytes
     → four_at bytes ≡ icmpv6_rest_with [] (message.PacketTooBig (long_at bytes 4))
-number_same bytes fits =
-    let number =
-    long_bytes (slice_index bytes 4) (slice_index bytes 5) (slice_index bytes 6) (slice_index bytes 7) (fits 4) (fits 5)
-    (fits 6) (fits 7) (long_at bytes 4) refl in
-    λ i. number.0 i ∷ number.1 i ∷ number.2 i ∷ number.3 i ∷ []
+number_same bytes fits = long_cells bytes fits 4 refl
 
 rest_same : (found : Option Icmpv6Kind) (bytes : List ℕ) → AreBytes bytes → 8 ≤ length bytes
     → four_at bytes ≡ icmpv6_rest_with (four_at bytes) (icmpv6_value_of found bytes)

@@ -3,7 +3,7 @@ use Rattle.std.proofs.Common.{◌≡◌, ◌⊎◌, ℕ, ◌*◌, ◌==◌, Bool
 use Rattle.std.specs.Prelude.{⊤, nat_lt}
 use Rattle.ep_base.specs.Bytes.{word_at}
 use Rattle.ep_base.specs.IpNumbers.{icmpv4_number, icmpv6_number, tcp_number, udp_number}
-use Rattle.ep_base.specs.Layer.{Reading, slices, headers, len_error}
+use Rattle.ep_base.specs.Readings.{Reading, slices, headers, len_error}
 use Rattle.ep_base.specs.Missing.{CountsMissing, TellsMissing}
 use Rattle.ep_base.specs.Tables.{rows_as}
 use Rattle.ep_base.proofs.MissingLemmas.{AllWhere, counted, either_where, not_counted, not_udp, refusal_where, tells_missing}

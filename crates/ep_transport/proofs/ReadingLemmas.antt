@@ -3,7 +3,7 @@ use Rattle.std.proofs.Common.{◌≡◌, ◌⊎◌, ℕ, ◌==◌, Bool, true, f
 use Rattle.std.proofs.lemmas.Option.{none-some}
 use Rattle.std.specs.Prelude.{◌&&◌, nat_lt, length}
 use Rattle.ep_base.specs.Bytes.{AreBytes, word_at}
-use Rattle.ep_base.specs.Layer.{Reading, slices, headers, len_error}
+use Rattle.ep_base.specs.Readings.{Reading, slices, headers, len_error}
 use Rattle.ep_base.specs.IpNumbers.{icmpv4_number, icmpv6_number, tcp_number, udp_number}
 use Rattle.ep_base.specs.Tables.{IsDecided, Parts, first_row, parts_of, rows_as}
 use Rattle.ep_base.proofs.DecidedLemmas.{decided_as, decided_by, decided_then, same_image}

@@ -6,7 +6,7 @@ use Rattle.std.proofs.lemmas.List.{get_or-take, get_or_append_left, length-take,
 use Rattle.std.proofs.lemmas.List.{take-append-drop, take_all, take_at, drop_at}
 use Rattle.ep_base.specs.Bytes.{AreBytes, word_at, bit}
 use Rattle.ep_base.specs.Tables.{Parts, first_row}
-use Rattle.ep_base.proofs.BytesLemmas.{elements, drop-elements, AreBytes-take, AreBytes-drop, bit_le, bit_read, bit_of_read}
+use Rattle.ep_base.proofs.BytesLemmas.{elements, drop-elements, AreBytes-take, AreBytes-drop, bit_le, bit_read, bit_of_read, long_cells, word_cells}
 use Rattle.ep_base.proofs.TableLemmas.{IsReadBy}
 use Rattle.ep_transport.specs.declared.tcp_header.TcpHeader.{TcpHeader}
 use Rattle.ep_transport.specs.Tcp.{FitsTcp, EncodesTcp, IsTcp, tcp_bytes_with, tcp_flags, tcp_header_of, tcp_parts, tcp_rows, data_offset_of, long_at, flag_at}
@@ -17,17 +17,6 @@ use Rattle.ep_transport.specs.Tcp.{FitsTcp, EncodesTcp, IsTcp, tcp_bytes_with, t
 pub record IsWhole (bytes : List ℕ) : Type 0 where
   pub words : 5 ≤ data_offset_of bytes
   pub whole : length bytes ≡ 4 * data_offset_of bytes
-
--- each flag is a bit of the byte that they make
-record FlagBits (n : ℕ) (h : TcpHeader) : Type 0 where
-  fin : n / 2 ^ 0 % 2 ≡ bit h.fin
-  syn : n / 2 ^ 1 % 2 ≡ bit h.syn
-  rst : n / 2 ^ 2 % 2 ≡ bit h.rst
-  psh : n / 2 ^ 3 % 2 ≡ bit h.psh
-  ack : n / 2 ^ 4 % 2 ≡ bit h.ack
-  urg : n / 2 ^ 5 % 2 ≡ bit h.urg
-  ece : n / 2 ^ 6 % 2 ≡ bit h.ece
-  cwr : n / 2 ^ 7 % 2 ≡ bit h.cwr
 
 -- bits put together are those bits again
 bits_apart : (a b c d e f g h : ℕ) → a ≤ 1 → b ≤ 1 → c ≤ 1 → d ≤ 1 → e ≤ 1 → f ≤ 1 → g ≤ 1 → h ≤ 1
@@ -119,22 +108,6 @@ bits_together n byte =
     let b : (i : ℕ) → bit (n / 2 ^ i % 2 == 1) ≡ n / 2 ^ i % 2 = λ i. bit_of_read (n / 2 ^ i % 2) (omega arith) in
     omega (arith, byte, b 0, b 1, b 2, b 3, b 4, b 5, b 6, b 7)
 
--- the two bytes of a 16 bit number
-pub word_bytes : (upper lower : ℕ) → upper < 256 → lower < 256
-    → (upper ≡ (256 * upper + lower) / 256 ^ 1 % 256) × (lower ≡ (256 * upper + lower) % 256)
-word_bytes upper lower u l = (omega (arith, u, l), omega (arith, u, l))
-
--- the four bytes of a 32 bit number
-pub long_bytes : (a b c d : ℕ) → a < 256 → b < 256 → c < 256 → d < 256 → (n : ℕ)
-    → n ≡ 2 ^ 16 * (256 * a + b) + (256 * c + d)
-    → (a ≡ n / 256 ^ 3 % 256) × (b ≡ n / 256 ^ 2 % 256) × (c ≡ n / 256 ^ 1 % 256) × (d ≡ n % 256)
-long_bytes a b c d af bf cf df n same = (
-  omega (arith, same, af, bf, cf, df),
-  omega (arith, same, af, bf, cf, df),
-  omega (arith, same, af, bf, cf, df),
-  omega (arith, same, af, bf, cf, df),
-)
-
 pub whole_encodes : (e : List ℕ) → AreBytes e → IsWhole e → EncodesTcp e (tcp_header_of e)
 unfolding elements
 whole_encodes e fits a =
@@ -143,28 +116,16 @@ whole_encodes e fits a =
     let all : options ≡ rest = take_all (4 * data_offset_of e - 20) rest (omega (arith, length-drop 20 e, a.whole)) in
     let len : length options ≡ 4 * data_offset_of e - 20 = omega (arith, ap length all, length-drop 20 e, a.whole) in
     let front : e ≡ elements 20 0 e ++ rest = drop-elements 20 0 e (omega (arith, a.whole, a.words)) in
-    let source_port = word_bytes (slice_index e 0) (slice_index e 1) (fits 0) (fits 1) in
-    let destination_port = word_bytes (slice_index e 2) (slice_index e 3) (fits 2) (fits 3) in
-    let sequence =
-    long_bytes (slice_index e 4) (slice_index e 5) (slice_index e 6) (slice_index e 7) (fits 4) (fits 5) (fits 6)
-    (fits 7) (long_at e 4) refl in
-    let acknowledgment =
-    long_bytes (slice_index e 8) (slice_index e 9) (slice_index e 10) (slice_index e 11) (fits 8) (fits 9) (fits 10)
-    (fits 11) (long_at e 8) refl in
     let reserved = slice_index e 12 / 2 % 8 in
     let ns : bit (slice_index e 12 % 2 == 1) ≡ slice_index e 12 % 2 =
     bit_of_read (slice_index e 12 % 2) (omega arith) in
     let b12 : slice_index e 12 ≡ 2 ^ 4 * ((20 + length options) / 4) + 2 ^ 1 * reserved
     + bit (slice_index e 12 % 2 == 1) = omega (arith, len, ns, a.words) in
     let b13 = bits_together (slice_index e 13) (fits 13) in
-    let window = word_bytes (slice_index e 14) (slice_index e 15) (fits 14) (fits 15) in
-    let checksum = word_bytes (slice_index e 16) (slice_index e 17) (fits 16) (fits 17) in
-    let urgent = word_bytes (slice_index e 18) (slice_index e 19) (fits 18) (fits 19) in
     let joined : elements 20 0 e ++ rest ≡ tcp_bytes_with reserved (tcp_header_of e) = λ i.
-    source_port.0 i ∷ source_port.1 i ∷ destination_port.0 i ∷ destination_port.1 i
-    ∷ sequence.0 i ∷ sequence.1 i ∷ sequence.2 i ∷ sequence.3 i
-    ∷ acknowledgment.0 i ∷ acknowledgment.1 i ∷ acknowledgment.2 i ∷ acknowledgment.3 i
-    ∷ b12 i ∷ b13 i ∷ window.0 i ∷ window.1 i ∷ checksum.0 i ∷ checksum.1 i ∷ urgent.0 i ∷ urgent.1 i ∷ sym all i in
+    word_cells e fits 0 refl i ++ word_cells e fits 2 refl i ++ long_cells e fits 4 refl i ++ long_cells e fits 8 refl i
+    ++ b12 i ∷ b13 i ∷ (word_cells e fits 14 refl i ++ word_cells e fits 16 refl i ++ word_cells e fits 18 refl i
+    ++ sym all i) in
     record { fits = whole_fits e fits a; reserved = reserved; three_bits = omega arith; same = front ∙ joined }
 
 -- ---- a whole header at the front of bytes

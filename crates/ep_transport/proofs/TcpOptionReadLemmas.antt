@@ -7,7 +7,7 @@ use Rattle.std.proofs.lemmas.Option.{none-some}
 use Rattle.std.proofs.lemmas.List.{drop-drop, get_or-drop, length-drop}
 use Rattle.ep_base.specs.Bytes.{AreBytes, word_at}
 use Rattle.ep_base.specs.Tables.{first_row}
-use Rattle.ep_base.proofs.BytesLemmas.{elements, drop-elements, AreBytes-drop}
+use Rattle.ep_base.proofs.BytesLemmas.{elements, drop-elements, AreBytes-drop, long_cells, word_cells}
 use Rattle.ep_base.proofs.TableLemmas.{IsReadBy}
 use Rattle.ep_transport.specs.declared.tcp_option_element.TcpOptionElement.{TcpOptionElement}
 use Rattle.ep_transport.specs.declared.tcp_option_element.TcpOptionElement.TheVariants.{Noop, MaximumSegmentSize, WindowScale, SelectiveAcknowledgementPermitted, SelectiveAcknowledgement, Timestamp}
@@ -15,7 +15,6 @@ use Rattle.ep_transport.specs.declared.tcp_option_element.TcpOptionReadError.The
 use Rattle.ep_transport.specs.Tcp.{long_at}
 use Rattle.ep_transport.specs.TcpOptionBytes.{Block, FitsBlock, FitsOption, block_bytes, option_bytes, as_read, IsOption, IsNextOption, is_blocks_size, sized_rows, blocks_rows, kind_rows, option_rows}
 use Rattle.ep_transport.specs.TcpOptionSteps.{block_at}
-use Rattle.ep_transport.proofs.TcpLemmas.{long_bytes, word_bytes}
 
 -- ---- blocks
 
@@ -29,13 +28,7 @@ block_fits bytes i fits = (
 block_front : (s : List ℕ) → AreBytes s → 8 ≤ length s → s ≡ block_bytes (block_at s 0) ++ drop 8 s
 unfolding elements
 block_front s fits long =
-    let a =
-    long_bytes (slice_index s 0) (slice_index s 1) (slice_index s 2) (slice_index s 3) (fits 0) (fits 1) (fits 2)
-    (fits 3) (long_at s 0) refl in
-    let b =
-    long_bytes (slice_index s 4) (slice_index s 5) (slice_index s 6) (slice_index s 7) (fits 4) (fits 5) (fits 6)
-    (fits 7) (long_at s 4) refl in
-    drop-elements 8 0 s long ∙ (λ i. a.0 i ∷ a.1 i ∷ a.2 i ∷ a.3 i ∷ b.0 i ∷ b.1 i ∷ b.2 i ∷ b.3 i ∷ drop 8 s)
+    drop-elements 8 0 s long ∙ (λ i. long_cells s fits 0 refl i ++ long_cells s fits 4 refl i ++ drop 8 s)
 
 block_drop : (bytes : List ℕ) (i : ℕ) → block_at (drop i bytes) 0 ≡ block_at bytes i
 block_drop bytes i =
@@ -248,13 +241,11 @@ blocks_rows_none bytes size same two is within = grind (arith, common_steps)
 size_there : (bytes : List ℕ) → AreBytes bytes → 4 ≤ length bytes → slice_index bytes 0 ≡ 2 → slice_index bytes 1 ≡ 4
     → IsOption bytes (MaximumSegmentSize (word_at bytes 2), drop 4 bytes)
 unfolding elements
-size_there bytes fits long kind size =
-    let word = word_bytes (slice_index bytes 2) (slice_index bytes 3) (fits 2) (fits 3) in
-    record {
-      fits = omega (arith, fits 2, fits 3);
-      blocks = refl;
-      parts = drop-elements 4 0 bytes long ∙ (λ i. kind i ∷ size i ∷ word.0 i ∷ word.1 i ∷ drop 4 bytes);
-    }
+size_there bytes fits long kind size = record {
+  fits = omega (arith, fits 2, fits 3);
+  blocks = refl;
+  parts = drop-elements 4 0 bytes long ∙ (λ i. kind i ∷ size i ∷ (word_cells bytes fits 2 refl i ++ drop 4 bytes));
+}
 
 shift_there : (bytes : List ℕ) → AreBytes bytes → 3 ≤ length bytes → slice_index bytes 0 ≡ 3 → slice_index bytes 1 ≡ 3
     → IsOption bytes (WindowScale (slice_index bytes 2), drop 3 bytes)

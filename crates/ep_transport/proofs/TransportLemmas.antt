@@ -4,7 +4,7 @@ use Rattle.std.proofs.lemmas.Bool.{cases_eq, cond-false, ne_eqb}
 use Rattle.std.proofs.lemmas.List.{append-nil}
 use Rattle.ep_base.specs.Bytes.{AreBytes}
 use Rattle.ep_base.specs.IpNumbers.{icmpv4_number, tcp_number, udp_number, icmpv6_number}
-use Rattle.ep_base.specs.Layer.{Reading, slices, headers}
+use Rattle.ep_base.specs.Readings.{Reading, slices, headers}
 use Rattle.ep_base.specs.Tables.{Parts, parts_of, first_row}
 use Rattle.ep_base.specs.declared.err.len_error.LenError.{LenError}
 use Rattle.ep_base.specs.declared.err.tcp.HeaderSliceError.TheVariants.{Len}
@@ -241,8 +241,14 @@ record AreLayer (bytes : List ℕ) (header : TransportHeader) (payload : List �
   parts : bytes ≡ encoded ++ (payload ++ left)
 
 -- where nothing is left
-unleft : (bytes encoded payload : List ℕ) → bytes ≡ encoded ++ payload → bytes ≡ encoded ++ (payload ++ [])
-unleft bytes encoded payload parts = parts ∙ ap (λ (s : List ℕ). encoded ++ s) (sym (append-nil payload))
+whole_layer : (bytes encoded payload : List ℕ) (header : TransportHeader) → EncodesTransportHeader header encoded
+    → bytes ≡ encoded ++ payload → AreLayer bytes header payload
+whole_layer bytes encoded payload header encodes parts = record {
+  encoded = encoded;
+  left = [];
+  encodes = encodes;
+  parts = parts ∙ ap (λ (s : List ℕ). encoded ++ s) (sym (append-nil payload));
+}
 
 layer_bytes : (reading : Reading) (number : ℕ) (bytes : List ℕ) (header : TransportHeader) (payload : List ℕ)
     → IsTransportLayer reading number bytes header payload → AreLayer bytes header payload
@@ -254,36 +260,14 @@ layer_bytes slices number bytes (Udp header) payload is =
       encodes = (datagram.fits, refl);
       parts = datagram.parts ∙ append_assoc (udp_bytes header) payload is.1.0;
     }
-layer_bytes headers number bytes (Udp header) payload is = record {
-  encoded = udp_bytes header;
-  left = [];
-  encodes = (is.1.fits, refl);
-  parts = unleft bytes (udp_bytes header) payload is.1.parts;
-}
+layer_bytes headers number bytes (Udp header) payload is =
+    whole_layer bytes (udp_bytes header) payload (Udp header) (is.1.fits, refl) is.1.parts
 layer_bytes reading number bytes (Tcp header) payload is =
-    let segment = is.1 in
-    record {
-      encoded = segment.encoded;
-      left = [];
-      encodes = segment.encodes;
-      parts = unleft bytes segment.encoded payload segment.parts;
-    }
+    whole_layer bytes is.1.encoded payload (Tcp header) is.1.encodes is.1.parts
 layer_bytes reading number bytes (Icmpv4 header) payload is =
-    let message = is.1 in
-    record {
-      encoded = message.encoded;
-      left = [];
-      encodes = message.encodes;
-      parts = unleft bytes message.encoded payload message.parts;
-    }
+    whole_layer bytes is.1.encoded payload (Icmpv4 header) is.1.encodes is.1.parts
 layer_bytes reading number bytes (Icmpv6 header) payload is =
-    let message = is.1 in
-    record {
-      encoded = message.encoded;
-      left = [];
-      encodes = message.encodes;
-      parts = unleft bytes message.encoded payload message.parts;
-    }
+    whole_layer bytes is.1.encoded payload (Icmpv6 header) is.1.encodes is.1.parts
 
 pub transport_bytes_are : (reading : Reading) (number : ℕ) (fragmented : Bool) (bytes : List ℕ)
     (part : Option TransportLayer)

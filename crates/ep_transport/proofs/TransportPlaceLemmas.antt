@@ -1,6 +1,6 @@
 -- That a refusal of the transport layer names the place where its payload starts.
 use Rattle.std.proofs.Common.{◌≡◌, ℕ, ◌==◌, Bool, true, false, if◌then◌else◌, List, [], length, Option, Some, None, refl}
-use Rattle.ep_base.specs.Layer.{Reading, slices, headers}
+use Rattle.ep_base.specs.Readings.{Reading, slices, headers}
 use Rattle.ep_base.specs.IpNumbers.{icmpv4_number, icmpv6_number, tcp_number, udp_number}
 use Rattle.ep_base.specs.Tables.{rows_as}
 use Rattle.ep_base.proofs.TableLemmas.{AllErrors, refusal_is}

@@ -1,13 +1,16 @@
 -- The bytes of a datagram, and what is read from them.
-use Rattle.std.proofs.Common.{◌≡◌, ℕ, ◌≤◌, ◌==◌, if◌then◌else◌, List, None, ◌++◌, length, take, drop, sym, ap, ◌∙◌, arith}
+use Rattle.std.proofs.Common.{◌≡◌, ◌⊎◌, ℕ, ◌+◌, ◌-◌, ◌≤◌, ◌<◌, ◌==◌, ◌||◌, nat_lt, if◌then◌else◌, Bool, false, List, [], None, ◌++◌, length, take, drop, refl, sym, ap, subst, ◌∙◌, inl, inr, arith, append_assoc, length-append, length-drop}
 use Rattle.std.proofs.lemmas.Grind.{common_steps}
-use Rattle.std.proofs.lemmas.List.{length-take, take-append-drop}
+use Rattle.std.proofs.lemmas.List.{append-nil, get_or-take, length-take, take-append-drop}
 use Rattle.ep_base.specs.Bytes.{AreBytes, word_at}
+use Rattle.ep_base.specs.LaxCut.{LaxCut, IsLaxCut}
 use Rattle.ep_base.specs.Tables.{Parts, first_row}
+use Rattle.ep_base.specs.declared.len_source.LenSource.TheVariants as source
 use Rattle.ep_base.proofs.BytesLemmas.{AreBytes-take}
-use Rattle.ep_base.proofs.TableLemmas.{IsReadBy, cut_at, cut_same}
+use Rattle.ep_base.proofs.LaxCutLemmas.{cut_there, cut_nowhere, one_lax_cut}
+use Rattle.ep_base.proofs.TableLemmas.{IsReadBy, cut_at, cut_same, one_value}
 use Rattle.ep_transport.specs.declared.udp_header.UdpHeader.{UdpHeader}
-use Rattle.ep_transport.specs.Udp.{FitsUdp, IsUdp, IsUdpHeader, udp_bytes, udp_header_of, udp_parts, udp_header_rows, udp_rows}
+use Rattle.ep_transport.specs.Udp.{FitsUdp, IsLaxUdp, IsUdp, IsUdpHeader, udp_bytes, udp_header_of, udp_parts, udp_header_rows, udp_rows}
 
 -- the header that is read fits, and its bytes are those at the front
 udp_fits : (bytes : List ℕ) → AreBytes bytes → FitsUdp (udp_header_of bytes)
@@ -89,3 +92,91 @@ is_read bytes datagram is =
 
 pub udp_is_read : IsReadBy IsUdp udp_rows udp_read
 udp_is_read = record { reads = reads; is_read = is_read }
+
+-- ---- datagrams of which bytes may be missing
+
+-- a front of the bytes that has the header, and what is left, are the header and what is behind it
+front_stands : (bytes : List ℕ) (end : ℕ) → AreBytes bytes → 8 ≤ end → end ≤ length bytes
+    → IsUdpHeader bytes (udp_header_of (take end bytes), drop 8 (take end bytes) ++ drop end bytes)
+front_stands bytes end fits enough within =
+    let seen = take end bytes in
+    let seen_fits : AreBytes seen = AreBytes-take end bytes fits in
+    let front = udp_front seen seen_fits (omega (arith, length-take end bytes)) in
+    record {
+      fits = udp_fits seen seen_fits;
+      parts = sym (take-append-drop end bytes) ∙ ap (λ (s : List ℕ). s ++ drop end bytes) front
+          ∙ append_assoc (udp_bytes (udp_header_of seen)) (drop 8 seen) (drop end bytes);
+    }
+
+-- what is known of such a front
+pub record ShowsLaxUdp (outer : Bool) (bytes seen : List ℕ) : Type 0 where
+  pub cut : LaxCut
+  pub parts : bytes ≡ seen ++ cut.left
+  pub is : IsLaxUdp outer bytes (udp_header_of seen, cut)
+  pub payload : drop 8 seen ≡ cut.payload
+
+-- the length field of a front is that of all bytes
+length_there : (bytes : List ℕ) (end : ℕ) → 8 ≤ end → word_at (take end bytes) 4 ≡ word_at bytes 4
+length_there bytes end enough =
+    let high = get_or-take end bytes 4 0 (omega arith) in
+    let low = get_or-take end bytes 5 0 (omega arith) in
+    omega (arith, high, low)
+
+-- the length field cuts
+pub lax_udp_cut : (outer : Bool) (bytes : List ℕ) (end : ℕ) → AreBytes bytes → end ≡ word_at bytes 4 → 8 ≤ end
+    → end ≤ length bytes → ShowsLaxUdp outer bytes (take end bytes)
+lax_udp_cut outer bytes end fits says enough within =
+    let seen = take end bytes in
+    let field = length_there bytes end enough in
+    let len = length-take end bytes in
+    let payload_len = length-drop 8 seen in
+    let all = length-append (drop 8 seen) (drop end bytes) in
+    let left_len = length-drop end bytes in
+    record {
+      cut = record { payload = drop 8 seen; left = drop end bytes; source = source.UdpHeaderLen; incomplete = false };
+      parts = sym (take-append-drop end bytes);
+      is = record {
+        behind = drop 8 seen ++ drop end bytes;
+        stands = front_stands bytes end fits enough within;
+        cut = cut_there 8 (word_at seen 4) source.UdpHeaderLen outer 8 (drop 8 seen) (drop end bytes)
+            (omega arith) (omega arith) (omega arith);
+      };
+      payload = refl;
+    }
+
+-- or does not
+pub lax_udp_whole : (outer : Bool) (bytes : List ℕ) → AreBytes bytes → 8 ≤ length bytes
+    → (word_at bytes 4 < 8) ⊎ (length bytes < word_at bytes 4) → ShowsLaxUdp outer bytes bytes
+lax_udp_whole outer bytes fits enough why =
+    let front = udp_front bytes fits enough in
+    let none = append-nil (drop 8 bytes) in
+    let there : length (drop 8 bytes ++ []) ≡ length bytes - 8 = ap length none ∙ length-drop 8 bytes in
+    record {
+      cut = record {
+        payload = drop 8 bytes;
+        left = [];
+        source = source.Slice;
+        incomplete = outer || nat_lt (8 + length (drop 8 bytes ++ [])) (word_at bytes 4);
+      };
+      parts = sym (append-nil bytes);
+      is = record {
+        behind = drop 8 bytes ++ [];
+        stands = record {
+          fits = udp_fits bytes fits;
+          parts = front ∙ ap (λ (s : List ℕ). udp_bytes (udp_header_of bytes) ++ s) (sym none);
+        };
+        cut = cut_nowhere 8 (word_at bytes 4) source.UdpHeaderLen outer 8 (drop 8 bytes) []
+            (elim why [ inl short ↦ inl short | inr long ↦ inr (omega arith) ]) refl;
+      };
+      payload = refl;
+    }
+
+-- there is one header and one cut
+pub one_lax_udp : (outer : Bool) (bytes : List ℕ) (read other : UdpHeader × LaxCut) → IsLaxUdp outer bytes read
+    → IsLaxUdp outer bytes other → read ≡ other
+one_lax_udp outer bytes read other a b =
+    let same = one_value udp_header_is_read bytes (read.0, a.behind) (other.0, b.behind) a.stands b.stands in
+    let moved = subst (λ (h : UdpHeader × List ℕ). IsLaxCut 8 h.0.length source.UdpHeaderLen outer 8 h.1 read.1) same
+    a.cut in
+    let cut = one_lax_cut 8 other.0.length source.UdpHeaderLen outer 8 b.behind read.1 other.1 moved b.cut in
+    λ i. ((same i).0, cut i)

@@ -4,7 +4,7 @@ use Rattle.std.specs.Int.{w16, w32, to_be_bytes}
 use Rattle.ep_base.specs.Bytes.{AreBytes, word_at}
 use Rattle.ep_base.specs.Checksum.{checksum_of}
 use Rattle.ep_base.specs.IpNumbers.{icmpv6_number}
-use Rattle.ep_base.specs.Layer.{len_error}
+use Rattle.ep_base.specs.Readings.{len_error}
 use Rattle.ep_base.specs.Tables.{Refuses, Parts, parts_of}
 use Rattle.ep_base.specs.declared.err.len_error.LenError.{LenError}
 use Rattle.ep_base.specs.declared.err.layer.Layer.TheVariants as layer

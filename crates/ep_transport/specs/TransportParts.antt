@@ -1,7 +1,7 @@
 -- The transport layer of an IP payload, by its protocol number.
 use Rattle.std.specs.Prelude.{◌≡◌, ◌≢◌, ◌==◌, ℕ, ◌⊎◌, if◌then◌else◌, Bool, true, false, List, [], ◌++◌, Option, Some, None}
 use Rattle.ep_base.specs.IpNumbers.{icmpv4_number, tcp_number, udp_number, icmpv6_number}
-use Rattle.ep_base.specs.Layer.{Reading, slices, headers}
+use Rattle.ep_base.specs.Readings.{Reading, slices, headers}
 use Rattle.ep_base.specs.Tables.{Refuses, parts_of, rows_as}
 use Rattle.ep_base.specs.declared.err.tcp.HeaderSliceError.{HeaderSliceError}
 use Rattle.ep_base.specs.declared.err.tcp.HeaderSliceError.TheVariants.{Len, Content}

@@ -2,7 +2,8 @@
 use Rattle.std.specs.Prelude.{◌≡◌, ℕ, ◌+◌, ◌<◌, ◌^◌, ◌⊎◌, ◌&&◌, nat_lt, List, [], ◌∷◌, ◌++◌, length, drop, Bool}
 use Rattle.std.specs.Int.{w16, to_be_bytes}
 use Rattle.ep_base.specs.Bytes.{word_at}
-use Rattle.ep_base.specs.Layer.{len_error}
+use Rattle.ep_base.specs.LaxCut.{LaxCut, IsLaxCut}
+use Rattle.ep_base.specs.Readings.{len_error}
 use Rattle.ep_base.specs.Tables.{Refuses, Parts}
 use Rattle.ep_base.specs.declared.err.len_error.LenError.{LenError}
 use Rattle.ep_base.specs.declared.err.layer.Layer.TheVariants as layer
@@ -75,3 +76,12 @@ udp_parts bytes left = record { header = udp_header_of bytes; payload = drop 8 b
 -- a refusal by the length field: the field is below the header's length, or above the bytes that are there
 abbrev pub IsOfUdpLength : LenError → Type 0
 IsOfUdpLength error = (error.len_source ≡ source.UdpHeaderLen) ⊎ (error.layer ≡ layer.UdpPayload)
+
+-- ---- datagrams of which bytes may be missing
+
+-- The bytes are a header, and behind it a payload and what is left, which the length field cuts where it can, of a layer
+-- that is incomplete or not.
+pub record IsLaxUdp (outer : Bool) (bytes : List ℕ) (read : UdpHeader × LaxCut) : Type 0 where
+  pub behind : List ℕ
+  pub stands : IsUdpHeader bytes (read.0, behind)
+  pub cut : IsLaxCut 8 read.0.length source.UdpHeaderLen outer 8 behind read.1

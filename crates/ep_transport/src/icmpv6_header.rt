@@ -101,14 +101,7 @@ impl Icmpv6Header {
             × (self.new ≡ record self.old { checksum = icmpv6_checksum source destination self.old payload.now }))
             (λ error. Refuses (icmpv6_length_rows payload.now) error × (self.new ≡ self.old)) }
     {
-        const MAX_PAYLOAD_LEN: usize = 4294967287;
-        if payload.len() > MAX_PAYLOAD_LEN {
-            return Err(ValueTooBigError {
-                actual: payload.len(),
-                max_allowed: MAX_PAYLOAD_LEN,
-                value_type: ValueType::Icmpv6PayloadLength,
-            });
-        }
+        pseudo_header::check_len(payload, 4294967287, ValueType::Icmpv6PayloadLength)?;
         self.checksum = 0;
         let len = (Icmpv6Header::MIN_LEN + payload.len()) as u32;
         self.checksum = pseudo_header::sum_ipv6(source, destination, IpNumber::IPV6_ICMP, len)

@@ -7,7 +7,7 @@ ghost use Rattle.ep_transport.specs.declared.tcp_option_element.TcpOptionElement
 ghost use Rattle.ep_transport.specs.declared.tcp_option_element.TcpOptionReadError.{TcpOptionReadError};
 ghost use Rattle.ep_base.specs.Bytes.{AreBytes};
 ghost use Rattle.ep_base.specs.Checksum.{ones_sum, checksum_of, no_zero};
-ghost use Rattle.ep_base.specs.Layer.{Reading, slices, headers};
+ghost use Rattle.ep_base.specs.Readings.{Reading, slices, headers};
 ghost use Rattle.ep_base.specs.Missing.{TellsCut, TellsMissing, slice_end};
 ghost use Rattle.ep_base.specs.Tables.{IsDecided};
 ghost use Rattle.ep_base.specs.declared.len_source.LenSource.TheVariants as source;

@@ -1,11 +1,34 @@
 //! The sums of the pseudo headers that transport checksums are taken over (RFC 768; RFC 9293, 3.1; RFC 8200, 8.1).
 
-ghost use Rattle.std.specs.Prelude.{◌≡◌, ◌%◌, length};
+ghost use Rattle.std.specs.Prelude.{◌≡◌, ◌≤◌, ◌%◌, length, None, IfOk, IfErr};
 ghost use Rattle.ep_base.specs.Checksum.{ones_sum};
-ghost use Rattle.ep_transport.specs.PseudoHeaders.{pseudo_header_ipv4, pseudo_header_ipv6};
+ghost use Rattle.ep_base.specs.Tables.{Refuses, first_row};
+ghost use Rattle.ep_transport.specs.PseudoHeaders.{length_rows, pseudo_header_ipv4, pseudo_header_ipv6};
 
 use ep_base::IpNumber;
 use ep_base::checksum::Sum16BitWords;
+use ep_base::err::{ValueTooBigError, ValueType};
+
+/// Refuses bytes of which there are more than the pseudo header can count.
+#[inline]
+pub(crate) fn check_len(
+    bytes: &[u8],
+    max_allowed: usize,
+    value_type: ValueType,
+) -> Result<(), ValueTooBigError<usize>>
+    ensures ok { IfOk result (λ _. first_row (length_rows max_allowed value_type bytes.now) ≡ None) }
+    ensures bound { IfOk result (λ _. length bytes.now ≤ max_allowed) }
+    ensures err { IfErr result (Refuses (length_rows max_allowed value_type bytes.now)) }
+{
+    if bytes.len() > max_allowed {
+        return Err(ValueTooBigError {
+            actual: bytes.len(),
+            max_allowed,
+            value_type,
+        });
+    }
+    Ok(())
+}
 
 /// The sum of the pseudo header over IPv4, for a message of this number and length.
 pub(crate) fn sum_ipv4(

@@ -202,13 +202,7 @@ impl TcpHeader {
             (Refuses (tcp_length_rows_ipv4 self.now payload.now)) }
     {
         let max_allowed = u16::MAX as usize - self.header_len();
-        if payload.len() > max_allowed {
-            return Err(ValueTooBigError {
-                actual: payload.len(),
-                max_allowed,
-                value_type: ValueType::TcpPayloadLengthIpv4,
-            });
-        }
+        pseudo_header::check_len(payload, max_allowed, ValueType::TcpPayloadLengthIpv4)?;
         let len = (self.header_len() + payload.len()) as u16;
         let sum = pseudo_header::sum_ipv4(source, destination, IpNumber::TCP, len);
         Ok(self.checksum_behind(&sum, payload))
@@ -243,13 +237,7 @@ impl TcpHeader {
             (Refuses (tcp_length_rows_ipv6 self.now payload.now)) }
     {
         let max_allowed = u32::MAX as usize - self.header_len();
-        if payload.len() > max_allowed {
-            return Err(ValueTooBigError {
-                actual: payload.len(),
-                max_allowed,
-                value_type: ValueType::TcpPayloadLengthIpv6,
-            });
-        }
+        pseudo_header::check_len(payload, max_allowed, ValueType::TcpPayloadLengthIpv6)?;
         let len = (self.header_len() + payload.len()) as u32;
         let sum = pseudo_header::sum_ipv6(source, destination, IpNumber::TCP, len);
         Ok(self.checksum_behind(&sum, payload))

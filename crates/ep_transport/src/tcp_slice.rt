@@ -298,16 +298,9 @@ impl<'a> TcpSlice<'a> {
             × (sum ≡ segment_checksum_ipv4 source destination (tcp_slice_bytes self.now)))
             (Refuses (segment_length_rows_ipv4 (tcp_slice_bytes self.now))) }
     {
-        let len = self.bytes.slice.len();
-        let max_allowed = u16::MAX as usize;
-        if len > max_allowed {
-            return Err(ValueTooBigError {
-                actual: len,
-                max_allowed,
-                value_type: ValueType::TcpPayloadLengthIpv4,
-            });
-        }
-        let sum = pseudo_header::sum_ipv4(source, destination, IpNumber::TCP, len as u16);
+        let bytes = self.bytes.slice;
+        pseudo_header::check_len(bytes, u16::MAX as usize, ValueType::TcpPayloadLengthIpv4)?;
+        let sum = pseudo_header::sum_ipv4(source, destination, IpNumber::TCP, bytes.len() as u16);
         Ok(self.checksum_behind(&sum))
     }
 
@@ -323,16 +316,9 @@ impl<'a> TcpSlice<'a> {
             × (sum ≡ segment_checksum_ipv6 source destination (tcp_slice_bytes self.now)))
             (Refuses (segment_length_rows_ipv6 (tcp_slice_bytes self.now))) }
     {
-        let len = self.bytes.slice.len();
-        let max_allowed = u32::MAX as usize;
-        if len > max_allowed {
-            return Err(ValueTooBigError {
-                actual: len,
-                max_allowed,
-                value_type: ValueType::TcpPayloadLengthIpv6,
-            });
-        }
-        let sum = pseudo_header::sum_ipv6(source, destination, IpNumber::TCP, len as u32);
+        let bytes = self.bytes.slice;
+        pseudo_header::check_len(bytes, u32::MAX as usize, ValueType::TcpPayloadLengthIpv6)?;
+        let sum = pseudo_header::sum_ipv6(source, destination, IpNumber::TCP, bytes.len() as u32);
         Ok(self.checksum_behind(&sum))
     }
 

@@ -3,7 +3,7 @@
 ghost use Rattle.std.specs.Prelude.{◌≡◌, ◌+◌, ◌<◌, ◌≤◌, ◌++◌, IfOk, IfErr, IsOkAnd, MatchResult, OnOk, OnErr, Option, length, vec_len, vec_capacity};
 ghost use Rattle.std.specs.Option.{option_map};
 ghost use Rattle.std.specs.Borrow.{LendsIf, sem};
-ghost use Rattle.ep_base.specs.Layer.{headers};
+ghost use Rattle.ep_base.specs.Readings.{headers};
 ghost use Rattle.ep_base.specs.Tables.{Refuses, first_row};
 ghost use Rattle.ep_transport.specs.contracts.transport_header.TransportHeader.{the_row};
 ghost use Rattle.ep_transport.specs.contracts.udp_header.UdpHeader.{the_row as udp_row};
@@ -147,10 +147,9 @@ impl TransportHeader {
         ensures* writes_back { sem 𝓛 (LendsIf the_row udp_row self.entry result Udp self.old) }
         ensures value { option_map (λ header. header.now) result ≡ udp_header_in self.old }
     {
-        if let TransportHeader::Udp(header) = self {
-            Some(header)
-        } else {
-            None
+        match self {
+            TransportHeader::Udp(header) => Some(header),
+            _ => None,
         }
     }
 
@@ -160,10 +159,9 @@ impl TransportHeader {
         ensures* writes_back { sem 𝓛 (LendsIf the_row tcp_row self.entry result Tcp self.old) }
         ensures value { option_map (λ header. header.now) result ≡ tcp_header_in self.old }
     {
-        if let TransportHeader::Tcp(header) = self {
-            Some(header)
-        } else {
-            None
+        match self {
+            TransportHeader::Tcp(header) => Some(header),
+            _ => None,
         }
     }
 
@@ -173,10 +171,9 @@ impl TransportHeader {
         ensures* writes_back { sem 𝓛 (LendsIf the_row icmpv4_row self.entry result Icmpv4 self.old) }
         ensures value { option_map (λ header. header.now) result ≡ icmpv4_header_in self.old }
     {
-        if let TransportHeader::Icmpv4(header) = self {
-            Some(header)
-        } else {
-            None
+        match self {
+            TransportHeader::Icmpv4(header) => Some(header),
+            _ => None,
         }
     }
 
@@ -186,10 +183,9 @@ impl TransportHeader {
         ensures* writes_back { sem 𝓛 (LendsIf the_row icmpv6_row self.entry result Icmpv6 self.old) }
         ensures value { option_map (λ header. header.now) result ≡ icmpv6_header_in self.old }
     {
-        if let TransportHeader::Icmpv6(header) = self {
-            Some(header)
-        } else {
-            None
+        match self {
+            TransportHeader::Icmpv6(header) => Some(header),
+            _ => None,
         }
     }
 

@@ -21,9 +21,9 @@ pub enum TransportSlice<'a> {
 }
 
 impl<'a> TransportSlice<'a> {
-    ghost use Rattle.std.specs.Prelude.{◌≡◌, ◌++◌, None, IfOk, IfErr, IfSome, IsOkAnd, List, ℕ, Option};
+    ghost use Rattle.std.specs.Prelude.{◌≡◌, ◌≤◌, ◌++◌, None, IfOk, IfErr, IfSome, IsOkAnd, List, ℕ, Option};
     ghost use Rattle.std.specs.Option.{MatchOption, option_map};
-    ghost use Rattle.ep_base.specs.Layer.{slices};
+    ghost use Rattle.ep_base.specs.Readings.{slices};
     ghost use Rattle.ep_transport.specs.TransportParts.{TransportLayer, transport_layer, IsTransportPart, RefusesTransportPart, transport_layer_of, transport_slice_bytes, transport_payload};
     ghost use Rattle.ep_transport.specs.TransportHeaders.{transport_header_len};
     ghost use Rattle.ep_transport.specs.TransportHeaders.{udp_header_in, tcp_header_in, icmpv4_header_in, icmpv6_header_in};
@@ -124,7 +124,8 @@ impl<'a> TransportSlice<'a> {
     /// The number of bytes of the header.
     #[inline]
     pub fn header_len(&self) -> usize
-        ensures { result ≡ transport_header_len (transport_layer_of self.now).header }
+        ensures value { result ≡ transport_header_len (transport_layer_of self.now).header }
+        ensures bound { result ≤ 60 }
     {
         match self {
             TransportSlice::Udp(datagram) => datagram.header_len(),

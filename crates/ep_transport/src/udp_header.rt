@@ -123,14 +123,7 @@ impl UdpHeader {
             × (sum ≡ udp_checksum_ipv4 source destination self.now payload.now))
             (Refuses (udp_length_rows_ipv4 payload.now)) }
     {
-        const MAX_PAYLOAD_LEN: usize = 65527;
-        if payload.len() > MAX_PAYLOAD_LEN {
-            return Err(ValueTooBigError {
-                actual: payload.len(),
-                max_allowed: MAX_PAYLOAD_LEN,
-                value_type: ValueType::UdpPayloadLengthIpv4,
-            });
-        }
+        pseudo_header::check_len(payload, 65527, ValueType::UdpPayloadLengthIpv4)?;
         let sum = pseudo_header::sum_ipv4(source, destination, IpNumber::UDP, self.length);
         Ok(self.checksum_behind(&sum, payload))
     }
@@ -163,14 +156,7 @@ impl UdpHeader {
             × (sum ≡ udp_checksum_ipv6 source destination self.now payload.now))
             (Refuses (udp_length_rows_ipv6 payload.now)) }
     {
-        const MAX_PAYLOAD_LEN: usize = 4294967287;
-        if payload.len() > MAX_PAYLOAD_LEN {
-            return Err(ValueTooBigError {
-                actual: payload.len(),
-                max_allowed: MAX_PAYLOAD_LEN,
-                value_type: ValueType::UdpPayloadLengthIpv6,
-            });
-        }
+        pseudo_header::check_len(payload, 4294967287, ValueType::UdpPayloadLengthIpv6)?;
         let sum = pseudo_header::sum_ipv6(source, destination, IpNumber::UDP, self.length as u32);
         Ok(self.checksum_behind(&sum, payload))
     }

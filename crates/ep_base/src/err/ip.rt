@@ -17,36 +17,42 @@ pub enum HeaderError {
 
 /// What is wrong in the bytes of an IP header or of its extension headers.
 #[derive(Clone, Debug, PartialEq, Eq, Hash, Drop, Error)]
+#[error(transparent)]
 pub enum HeadersError {
     /// In the IP header.
-    #[error(transparent)]
     Ip(HeaderError),
     /// In the extension header of IPv4.
-    #[error(transparent)]
     Ipv4Ext(ip_auth::HeaderError),
     /// In the extension headers of IPv6.
-    #[error(transparent)]
     Ipv6Ext(ipv6_exts::HeaderError),
 }
 
 /// Why no IP headers could be read from a slice.
 #[derive(Clone, Debug, PartialEq, Eq, Hash, Drop, Error)]
+#[error(transparent)]
 pub enum HeadersSliceError {
     /// Too few bytes.
-    #[error(transparent)]
     Len(LenError),
     /// The bytes are no IP headers.
-    #[error(transparent)]
     Content(HeadersError),
 }
 
 /// Why no IP packet could be read from a slice.
 #[derive(Clone, Debug, PartialEq, Eq, Hash, Drop, Error)]
+#[error(transparent)]
 pub enum SliceError {
     /// Too few bytes.
-    #[error(transparent)]
     Len(LenError),
     /// The bytes are no IP headers.
-    #[error(transparent)]
     IpHeaders(HeadersError),
+}
+
+/// Why nothing could be read laxly from a slice that is to begin with an IP header: the header itself is refused.
+#[derive(Clone, Debug, PartialEq, Eq, Hash, Drop, Error)]
+#[error(transparent)]
+pub enum LaxHeaderSliceError {
+    /// Too few bytes for the header.
+    Len(LenError),
+    /// The bytes are no IP header.
+    Content(HeaderError),
 }

@@ -5,11 +5,10 @@ use thiserror::Error;
 
 /// Why the next header fields do not lead to each extension header.
 #[derive(Clone, Debug, PartialEq, Eq, Hash, Drop, Error)]
+#[error(transparent)]
 pub enum ExtsWalkError {
     /// In IPv4.
-    #[error(transparent)]
     Ipv4Exts(ipv4_exts::ExtsWalkError),
     /// In IPv6.
-    #[error(transparent)]
     Ipv6Exts(ipv6_exts::ExtsWalkError),
 }

@@ -14,25 +14,22 @@ pub enum HeaderError {
 
 /// Why no IPv6 header could be read from a slice.
 #[derive(Clone, Debug, PartialEq, Eq, Hash, Drop, Error)]
+#[error(transparent)]
 pub enum HeaderSliceError {
     /// Too few bytes.
-    #[error(transparent)]
     Len(LenError),
     /// The bytes are no IPv6 header.
-    #[error(transparent)]
     Content(HeaderError),
 }
 
 /// Why no IPv6 packet could be read from a slice.
 #[derive(Clone, Debug, PartialEq, Eq, Hash, Drop, Error)]
+#[error(transparent)]
 pub enum SliceError {
     /// Too few bytes.
-    #[error(transparent)]
     Len(LenError),
     /// The header's bytes are no IPv6 header.
-    #[error(transparent)]
     Header(HeaderError),
     /// The bytes of an extension header are none.
-    #[error(transparent)]
     Exts(ipv6_exts::HeaderError),
 }

@@ -18,12 +18,11 @@ pub enum HeaderError {
 
 /// Why no chain of extension headers could be read from a slice.
 #[derive(Clone, Debug, PartialEq, Eq, Hash, Drop, Error)]
+#[error(transparent)]
 pub enum HeaderSliceError {
     /// Too few bytes.
-    #[error(transparent)]
     Len(LenError),
     /// The bytes are no chain of extension headers.
-    #[error(transparent)]
     Content(HeaderError),
 }
 

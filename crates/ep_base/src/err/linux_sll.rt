@@ -16,11 +16,10 @@ pub enum HeaderError {
 
 /// Why no SLL header could be read from a slice.
 #[derive(Clone, Debug, PartialEq, Eq, Hash, Drop, Error)]
+#[error(transparent)]
 pub enum HeaderSliceError {
     /// Too few bytes.
-    #[error(transparent)]
     Len(LenError),
     /// The bytes are no SLL header.
-    #[error(transparent)]
     Content(HeaderError),
 }

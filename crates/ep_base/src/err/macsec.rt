@@ -16,11 +16,10 @@ pub enum HeaderError {
 
 /// Why no MACsec tag could be read from a slice.
 #[derive(Clone, Debug, PartialEq, Eq, Hash, Drop, Error)]
+#[error(transparent)]
 pub enum HeaderSliceError {
     /// Too few bytes.
-    #[error(transparent)]
     Len(LenError),
     /// The bytes are no MACsec tag.
-    #[error(transparent)]
     Content(HeaderError),
 }

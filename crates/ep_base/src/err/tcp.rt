@@ -13,11 +13,10 @@ pub enum HeaderError {
 
 /// Why no TCP header could be read from a slice.
 #[derive(Clone, Debug, PartialEq, Eq, Hash, Drop, Error)]
+#[error(transparent)]
 pub enum HeaderSliceError {
     /// Too few bytes.
-    #[error(transparent)]
     Len(LenError),
     /// The bytes are no TCP header.
-    #[error(transparent)]
     Content(HeaderError),
 }

@@ -11,6 +11,7 @@ pub fn equalities()
     ensures ip_headers { TellsSame ⟦<ip::HeadersError as PartialEq>⟧.eq }
     ensures ip_headers_slice { TellsSame ⟦<ip::HeadersSliceError as PartialEq>⟧.eq }
     ensures ip_slice { TellsSame ⟦<ip::SliceError as PartialEq>⟧.eq }
+    ensures ip_lax_header_slice { TellsSame ⟦<ip::LaxHeaderSliceError as PartialEq>⟧.eq }
     ensures ip_auth_header { TellsSame ⟦<ip_auth::HeaderError as PartialEq>⟧.eq }
     ensures ip_auth_header_slice { TellsSame ⟦<ip_auth::HeaderSliceError as PartialEq>⟧.eq }
     ensures ip_exts_walk { TellsSame ⟦<ip_exts::ExtsWalkError as PartialEq>⟧.eq }
@@ -44,6 +45,8 @@ pub fn clones()
     ensures ip_headers_slice { ClonesExactly
         ⟦<ip::HeadersSliceError as Clone>⟧.is_infallible ⟦<ip::HeadersSliceError as Clone>⟧.is_clone }
     ensures ip_slice { ClonesExactly ⟦<ip::SliceError as Clone>⟧.is_infallible ⟦<ip::SliceError as Clone>⟧.is_clone }
+    ensures ip_lax_header_slice { ClonesExactly
+        ⟦<ip::LaxHeaderSliceError as Clone>⟧.is_infallible ⟦<ip::LaxHeaderSliceError as Clone>⟧.is_clone }
     ensures ip_auth_header { ClonesExactly
         ⟦<ip_auth::HeaderError as Clone>⟧.is_infallible ⟦<ip_auth::HeaderError as Clone>⟧.is_clone }
     ensures ip_auth_header_slice { ClonesExactly

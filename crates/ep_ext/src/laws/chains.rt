@@ -5,7 +5,7 @@ ghost use Rattle.ep_base.specs.declared.err.ipv6_exts.ExtsWalkError.{ExtsWalkErr
 ghost use Rattle.ep_base.specs.declared.err.ipv6_exts.HeaderSliceError.{HeaderSliceError};
 ghost use Rattle.ep_base.specs.Bytes.{AreBytes};
 ghost use Rattle.ep_base.specs.IpNumbers.{authentication_number};
-ghost use Rattle.ep_base.specs.Layer.{Reading, slices, headers};
+ghost use Rattle.ep_base.specs.Readings.{Reading, slices, headers};
 ghost use Rattle.ep_base.specs.Tables.{IsDecided};
 ghost use Rattle.ep_ext.specs.Chains.{IpVersion, ipv4, ipv6, ExtensionChain, IsExtensionChain, RefusesExtensionChain, NoKindTwice, StopsAtSecond, FitParts, EncodesParts, chain_of, chain_fragments, is_ipv6_extension, parts_bytes};
 ghost use Rattle.ep_ext.specs.ExtensionParts.{ExtensionPart};

@@ -1,7 +1,7 @@
 //! A MACsec tag in a slice (IEEE 802.1AE, 9).
 
 ghost use Rattle.std.specs.Prelude.{◌≡◌, ◌<◌, ◌≤◌, length, slice_index};
-ghost use Rattle.ep_base.specs.Layer.{len_error};
+ghost use Rattle.ep_base.specs.Readings.{len_error};
 ghost use Rattle.ep_base.specs.declared.err.layer.Layer.TheVariants as layer;
 ghost use Rattle.ep_base.specs.declared.err.macsec.HeaderSliceError.TheVariants as header_error;
 ghost use Rattle.ep_base.specs.declared.len_source.LenSource.TheVariants as source;

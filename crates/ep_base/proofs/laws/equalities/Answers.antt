@@ -1,5 +1,8 @@
-use Rattle.std.proofs.Common.{◌≡◌, ap, rules}
-use Rattle.std.proofs.lemmas.Bool.{and_parts, and_from, eqb-true, eq-eqb}
+use Rattle.std.proofs.Common.{refl, rules}
+use Rattle.std.proofs.lemmas.Bool.{and_parts, and_from}
+use Rattle.std.proofs.lemmas.Bool.Decides.{Decides-eqb}
+use Rattle.ep_base.specs.declared.err.len_error.LenError.{LenError}
+use Rattle.ep_base.proofs.ComparisonLemmas.{five, five_same, made_same}
 use Rattle.ep_base.proofs.laws.equalities.Goals as goal
 
 pub returns-clause-len_sources : goal.returns-clause-len_sources
@@ -27,27 +30,9 @@ returns-clause-ip_payloads c a b = (
 
 pub returns-clause-len_errors : goal.returns-clause-len_errors
 returns-clause-len_errors c a b =
-    let same_source = returns-clause-len_sources c a.len_source b.len_source in
-    let same_layer = returns-clause-layers c a.layer b.layer in (
-      λ equal.
-          let required = and_parts _ _ equal in
-          let len = and_parts _ _ required.1 in
-          let source = and_parts _ _ len.1 in
-          let layer = and_parts _ _ source.1 in
-          let required_len : a.required_len ≡ b.required_len = eqb-true _ _ required.0 in
-          let here : a.len ≡ b.len = eqb-true _ _ len.0 in
-          let offset : a.layer_start_offset ≡ b.layer_start_offset = eqb-true _ _ layer.1 in
-          λ i. record {
-            required_len = required_len i;
-            len = here i;
-            len_source = same_source.0 source.0 i;
-            layer = same_layer.0 layer.0 i;
-            layer_start_offset = offset i;
-          },
-      λ same.
-          and_from _ _ (eq-eqb _ _ (ap (λ error. error.required_len) same))
-          (and_from _ _ (eq-eqb _ _ (ap (λ error. error.len) same))
-          (and_from _ _ (same_source.1 (ap (λ error. error.len_source) same))
-          (and_from _ _ (same_layer.1 (ap (λ error. error.layer) same))
-          (eq-eqb _ _ (ap (λ error. error.layer_start_offset) same))))),
-    )
+    made_same (λ (e : LenError). five e.required_len e.len e.len_source e.layer e.layer_start_offset)
+    (λ p. record { required_len = p.0; len = p.1; len_source = p.2; layer = p.3; layer_start_offset = p.4 }) (λ e. refl)
+    a b
+    (five_same (Decides-eqb a.required_len b.required_len) (Decides-eqb a.len b.len)
+    (returns-clause-len_sources c a.len_source b.len_source) (returns-clause-layers c a.layer b.layer)
+    (Decides-eqb a.layer_start_offset b.layer_start_offset))

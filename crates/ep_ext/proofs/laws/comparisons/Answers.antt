@@ -1,6 +1,7 @@
-use Rattle.std.proofs.Common.{ap}
+use Rattle.std.proofs.Common.{refl, ap}
 use Rattle.std.proofs.lemmas.Bool.Decides.{Decides-like}
-use Rattle.ep_base.proofs.ComparisonLemmas.{same_option, four_and}
+use Rattle.ep_base.proofs.ComparisonLemmas.{five, five_same, made_same, same_option}
+use Rattle.ep_ext.specs.declared.ipv6_exts.Ipv6Extensions.{Ipv6Extensions}
 use Rattle.ep_ext.specs.ExtensionParts.{hop_by_hop, destination_options, authentication}
 use Rattle.ep_ext.proofs.ComparisonLemmas.{same_fragment, same_ip_auth, same_raw_extension, same_routing, there_fits, fit_each, fit_routing}
 use Rattle.ep_ext.proofs.laws.comparisons.Goals as goal
@@ -27,21 +28,15 @@ pub returns-clause-ipv6 : goal.returns-clause-ipv6
 returns-clause-ipv6 c a b fits other =
     let f = fit_each a fits in
     let g = fit_each b other in
-    Decides-like _ (λ all i. record {
-      hop_by_hop_options = all.0 i;
-      destination_options = all.1 i;
-      routing = all.2 i;
-      fragment = all.3 i;
-      auth = all.4 i;
-    })
-    (λ same. (
-      ap (λ e. e.hop_by_hop_options) same,
-      ap (λ e. e.destination_options) same,
-      ap (λ e. e.routing) same,
-      ap (λ e. e.fragment) same,
-      ap (λ e. e.auth) same,
-    ))
-    (four_and (same_option _ a.hop_by_hop_options b.hop_by_hop_options
+    made_same (λ (e : Ipv6Extensions). five e.hop_by_hop_options e.destination_options e.routing e.fragment e.auth)
+    (λ p. record {
+      hop_by_hop_options = p.0;
+      destination_options = p.1;
+      routing = p.2;
+      fragment = p.3;
+      auth = p.4;
+    }) (λ e. refl) a b
+    (five_same (same_option _ a.hop_by_hop_options b.hop_by_hop_options
     (λ x y is_x is_y. same_raw_extension x y (there_fits hop_by_hop a.hop_by_hop_options x f.hop is_x)
     (there_fits hop_by_hop b.hop_by_hop_options y g.hop is_y)))
     (same_option _ a.destination_options b.destination_options

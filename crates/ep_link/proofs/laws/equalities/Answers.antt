@@ -1,17 +1,12 @@
-use Rattle.std.proofs.Common.{◌≡◌, ◌&&◌, ℕ, ◌-◌, List, length, replicate, Option, Some, None, refl, ap, rules}
-use Rattle.std.specs.Prelude.{nat_eq}
-use Rattle.std.specs.Bool.{Decides}
-use Rattle.std.specs.Option.{option_eq}
+use Rattle.std.proofs.Common.{refl, rules}
 use Rattle.std.specs.Cmp.{booleans_Decides}
-use Rattle.std.specs.Cmp.Lexicographic.{pointwise}
-use Rattle.std.proofs.lemmas.Bool.{false≢true}
-use Rattle.std.proofs.lemmas.Bool.Decides.{Decides-eqb, Decides-and, Decides-like}
+use Rattle.std.proofs.lemmas.Bool.Decides.{Decides-eqb}
 use Rattle.std.proofs.lemmas.Slice.Eq.{slice_eq-Decides}
-use Rattle.ep_base.specs.Padding.{padded}
-use Rattle.ep_base.proofs.BytesLemmas.{same_parts}
+use Rattle.ep_base.proofs.ComparisonLemmas.{five, five_same, made_same, same_option, stored_same, two, two_same}
 use Rattle.ep_link.specs.Arp.{Arp}
-use Rattle.ep_link.specs.declared.link.link_header.LinkHeader.TheVariants as link
-use Rattle.ep_link.specs.declared.link_ext.link_ext_header.LinkExtHeader.TheVariants as tag
+use Rattle.ep_link.specs.ArpSlices.{arp_of}
+use Rattle.ep_link.specs.declared.link.linux_sll_header.LinuxSllHeader.{LinuxSllHeader}
+use Rattle.ep_link.specs.declared.link_ext.macsec_header.MacsecHeader.{MacsecHeader}
 use Rattle.ep_link.proofs.laws.equalities.Goals as goal
 
 pub returns-clause-ethernet2_header : goal.returns-clause-ethernet2_header
@@ -22,136 +17,69 @@ returns-clause-protocol_types c = search rules
 
 pub returns-clause-linux_sll_header : goal.returns-clause-linux_sll_header
 returns-clause-linux_sll_header c a b =
-    Decides-like _ (λ all i. record {
-      packet_type = record { 0 = all.0 i };
-      arp_hrd_type = record { 0 = all.1.0 i };
-      sender_address_valid_length = all.1.1.0 i;
-      sender_address = all.1.1.1.0 i;
-      protocol_type = all.1.1.1.1 i;
-    })
-    (λ same. (
-      ap (λ h. h.packet_type.0) same,
-      (
-        ap (λ h. h.arp_hrd_type.0) same,
-        (
-          ap (λ h. h.sender_address_valid_length) same,
-          (ap (λ h. h.sender_address) same, ap (λ h. h.protocol_type) same),
-        ),
-      ),
-    ))
-    (Decides-and _ _ (Decides-eqb a.packet_type.0 b.packet_type.0)
-    (Decides-and _ _ (Decides-eqb a.arp_hrd_type.0 b.arp_hrd_type.0)
-    (Decides-and _ _ (Decides-eqb a.sender_address_valid_length b.sender_address_valid_length)
-    (Decides-and _ _ (slice_eq-Decides Decides-eqb a.sender_address b.sender_address _ refl)
-    (returns-clause-protocol_types c a.protocol_type b.protocol_type)))))
+    made_same
+    (λ (h : LinuxSllHeader).
+    five h.packet_type.0 h.arp_hrd_type.0 h.sender_address_valid_length h.sender_address h.protocol_type)
+    (λ p. record {
+      packet_type = record { 0 = p.0 };
+      arp_hrd_type = record { 0 = p.1 };
+      sender_address_valid_length = p.2;
+      sender_address = p.3;
+      protocol_type = p.4;
+    }) (λ h. refl) a b
+    (five_same (Decides-eqb a.packet_type.0 b.packet_type.0) (Decides-eqb a.arp_hrd_type.0 b.arp_hrd_type.0)
+    (Decides-eqb a.sender_address_valid_length b.sender_address_valid_length)
+    (slice_eq-Decides Decides-eqb a.sender_address b.sender_address _ refl)
+    (returns-clause-protocol_types c a.protocol_type b.protocol_type))
 
 pub returns-clause-link_header : goal.returns-clause-link_header
-returns-clause-link_header c (link.Ethernet2 a) (link.Ethernet2 b) =
-    let one = returns-clause-ethernet2_header c a b in (λ equal i. link.Ethernet2 (one.0 equal i), λ same. one.1 (cc))
-returns-clause-link_header c (link.Ethernet2 a) (link.LinuxSll b) =
-    (λ equal. absurd (false≢true equal), λ same. absurd (cc))
-returns-clause-link_header c (link.LinuxSll a) (link.Ethernet2 b) =
-    (λ equal. absurd (false≢true equal), λ same. absurd (cc))
-returns-clause-link_header c (link.LinuxSll a) (link.LinuxSll b) =
-    let one = returns-clause-linux_sll_header c a b in (λ equal i. link.LinuxSll (one.0 equal i), λ same. one.1 (cc))
-
--- identifiers that may be there
-same_sci : (a b : Option ℕ) → Decides (option_eq nat_eq a b) (a ≡ b)
-same_sci None None = (λ _. refl, λ _. refl)
-same_sci None (Some y) = (λ equal. absurd (false≢true equal), λ same. absurd (cc))
-same_sci (Some x) None = (λ equal. absurd (false≢true equal), λ same. absurd (cc))
-same_sci (Some x) (Some y) =
-    let one = Decides-eqb x y in (λ equal i. Some (one.0 equal i), λ same. one.1 (cc))
+returns-clause-link_header c =
+    search (rules, returns-clause-ethernet2_header c, returns-clause-linux_sll_header c)
 
 pub returns-clause-macsec_ptype : goal.returns-clause-macsec_ptype
 returns-clause-macsec_ptype c = search rules
 
 pub returns-clause-macsec_header : goal.returns-clause-macsec_header
 returns-clause-macsec_header c a b =
-    Decides-like _ (λ all i. record {
-      ptype = all.0 i;
-      endstation_id = all.1.0 i;
-      scb = all.1.1.0 i;
-      an = all.1.1.1.0 i;
-      short_len = all.1.1.1.1.0 i;
-      packet_nr = all.1.1.1.1.1.0 i;
-      sci = all.1.1.1.1.1.1 i;
-    })
-    (λ same. (
-      ap (λ h. h.ptype) same,
-      (
-        ap (λ h. h.endstation_id) same,
-        (
-          ap (λ h. h.scb) same,
-          (
-            ap (λ h. h.an) same,
-            (ap (λ h. h.short_len) same, (ap (λ h. h.packet_nr) same, ap (λ h. h.sci) same)),
-          ),
-        ),
-      ),
-    ))
-    (Decides-and _ _ (returns-clause-macsec_ptype c a.ptype b.ptype)
-    (Decides-and _ _ (booleans_Decides a.endstation_id b.endstation_id)
-    (Decides-and _ _ (booleans_Decides a.scb b.scb)
-    (Decides-and _ _ (Decides-eqb a.an b.an)
-    (Decides-and _ _ (Decides-eqb a.short_len b.short_len)
-    (Decides-and _ _ (Decides-eqb a.packet_nr b.packet_nr)
-    (same_sci a.sci b.sci)))))))
+    made_same
+    (λ (h : MacsecHeader). five h.ptype h.endstation_id h.scb h.an (two h.short_len (two h.packet_nr h.sci)))
+    (λ p. record {
+      ptype = p.0;
+      endstation_id = p.1;
+      scb = p.2;
+      an = p.3;
+      short_len = p.4.0;
+      packet_nr = p.4.1.0;
+      sci = p.4.1.1;
+    }) (λ h. refl) a b
+    (five_same (returns-clause-macsec_ptype c a.ptype b.ptype) (booleans_Decides a.endstation_id b.endstation_id)
+    (booleans_Decides a.scb b.scb) (Decides-eqb a.an b.an)
+    (two_same (Decides-eqb a.short_len b.short_len) (two_same (Decides-eqb a.packet_nr b.packet_nr)
+    (same_option _ a.sci b.sci (λ x y is_x is_y. Decides-eqb x y)))))
 
 pub returns-clause-vlan_header : goal.returns-clause-vlan_header
 returns-clause-vlan_header c = search rules
 
 pub returns-clause-link_ext_header : goal.returns-clause-link_ext_header
-returns-clause-link_ext_header c (tag.Vlan a) (tag.Vlan b) =
-    let one = returns-clause-vlan_header c a b in (λ equal i. tag.Vlan (one.0 equal i), λ same. one.1 (cc))
-returns-clause-link_ext_header c (tag.Vlan a) (tag.Macsec b) =
-    (λ equal. absurd (false≢true equal), λ same. absurd (cc))
-returns-clause-link_ext_header c (tag.Macsec a) (tag.Vlan b) =
-    (λ equal. absurd (false≢true equal), λ same. absurd (cc))
-returns-clause-link_ext_header c (tag.Macsec a) (tag.Macsec b) =
-    let one = returns-clause-macsec_header c a b in (λ equal i. tag.Macsec (one.0 equal i), λ same. one.1 (cc))
-
--- addresses, each filled up to 255 bytes and with its length
-same_address : (a b : List ℕ)
-    → Decides (pointwise nat_eq (padded 255 a) (padded 255 b) && nat_eq (length a) (length b)) (a ≡ b)
-same_address a b =
-    Decides-like _
-    (λ both. (same_parts a b (replicate (255 - length a) 0) (replicate (255 - length b) 0) both.1 both.0).0)
-    (λ same. (ap (padded 255) same, ap (λ (s : List ℕ). length s) same))
-    (Decides-and _ _ (slice_eq-Decides Decides-eqb (padded 255 a) (padded 255 b) _ refl)
-    (Decides-eqb (length a) (length b)))
+returns-clause-link_ext_header c = search (rules, returns-clause-vlan_header c, returns-clause-macsec_header c)
 
 pub returns-clause-arp : goal.returns-clause-arp
 returns-clause-arp c a b =
-    Decides-like _ (λ all i. record {
-      hw_addr_type = record { 0 = all.0 i };
-      proto_addr_type = record { 0 = all.1.0 i };
-      operation = record { 0 = all.1.1.0 i };
-      sender_hw_addr = all.1.1.1.0 i;
-      sender_protocol_addr = all.1.1.1.1.0 i;
-      target_hw_addr = all.1.1.1.1.1.0 i;
-      target_protocol_addr = all.1.1.1.1.1.1 i;
-    })
-    (λ same. (
-      ap (λ (p : Arp). p.hw_addr_type.0) same,
-      (
-        ap (λ (p : Arp). p.proto_addr_type.0) same,
-        (
-          ap (λ (p : Arp). p.operation.0) same,
-          (
-            ap (λ (p : Arp). p.sender_hw_addr) same,
-            (
-              ap (λ (p : Arp). p.sender_protocol_addr) same,
-              (ap (λ (p : Arp). p.target_hw_addr) same, ap (λ (p : Arp). p.target_protocol_addr) same),
-            ),
-          ),
-        ),
-      ),
-    ))
-    (Decides-and _ _ (Decides-eqb a.hw_addr_type.0 b.hw_addr_type.0)
-    (Decides-and _ _ (Decides-eqb a.proto_addr_type.0 b.proto_addr_type.0)
-    (Decides-and _ _ (Decides-eqb a.operation.0 b.operation.0)
-    (Decides-and _ _ (same_address a.sender_hw_addr b.sender_hw_addr)
-    (Decides-and _ _ (same_address a.sender_protocol_addr b.sender_protocol_addr)
-    (Decides-and _ _ (same_address a.target_hw_addr b.target_hw_addr)
-    (same_address a.target_protocol_addr b.target_protocol_addr)))))))
+    let addresses = stored_same 255 (λ n. n) in
+    made_same
+    (λ (p : Arp). five p.hw_addr_type.0 p.proto_addr_type.0 p.operation.0 p.sender_hw_addr
+    (two p.sender_protocol_addr (two p.target_hw_addr p.target_protocol_addr)))
+    (λ p. record {
+      hw_addr_type = record { 0 = p.0 };
+      proto_addr_type = record { 0 = p.1 };
+      operation = record { 0 = p.2 };
+      sender_hw_addr = p.3;
+      sender_protocol_addr = p.4.0;
+      target_hw_addr = p.4.1.0;
+      target_protocol_addr = p.4.1.1;
+    }) (λ p. refl) (arp_of a) (arp_of b)
+    (five_same (Decides-eqb a.hw_addr_type.0 b.hw_addr_type.0) (Decides-eqb a.proto_addr_type.0 b.proto_addr_type.0)
+    (Decides-eqb a.operation.0 b.operation.0) (addresses a.sender_hw_addr b.sender_hw_addr (λ same. same))
+    (two_same (addresses a.sender_protocol_addr b.sender_protocol_addr (λ same. same))
+    (two_same (addresses a.target_hw_addr b.target_hw_addr (λ same. same))
+    (addresses a.target_protocol_addr b.target_protocol_addr (λ same. same)))))

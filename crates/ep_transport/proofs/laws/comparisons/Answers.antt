@@ -1,4 +1,4 @@
-use Rattle.std.proofs.Common.{◌≡◌, ℕ, ◌-◌, ◌&&◌, List, length, replicate, Option, refl, ap}
+use Rattle.std.proofs.Common.{◌≡◌, ◌&&◌, Option, refl, ap}
 use Rattle.std.specs.Bool.{Decides}
 use Rattle.std.specs.Option.{option_eq}
 use Rattle.std.specs.Prelude.{nat_eq}
@@ -6,9 +6,7 @@ use Rattle.std.specs.Cmp.{booleans_Decides}
 use Rattle.std.proofs.lemmas.Bool.{false≢true}
 use Rattle.std.proofs.lemmas.Bool.Decides.{Decides-and, Decides-eqb, Decides-like}
 use Rattle.std.proofs.lemmas.Slice.Eq.{slice_eq-Decides}
-use Rattle.ep_base.specs.Padding.{padded}
-use Rattle.ep_base.proofs.BytesLemmas.{same_parts}
-use Rattle.ep_base.proofs.ComparisonLemmas.{same_option, four_and}
+use Rattle.ep_base.proofs.ComparisonLemmas.{five, five_same, made_same, same_option, stored_same, two, two_same}
 use Rattle.ep_transport.specs.TcpOptionBytes.{Block}
 use Rattle.ep_transport.specs.declared.udp_header.UdpHeader.{UdpHeader}
 use Rattle.ep_transport.specs.declared.tcp_header.TcpHeader.{TcpHeader}
@@ -19,93 +17,53 @@ use Rattle.ep_transport.proofs.laws.comparisons.Goals as goal
 
 pub returns-clause-udp : goal.returns-clause-udp
 returns-clause-udp c a b =
-    Decides-like _ (λ all i. record {
-      source_port = all.0 i;
-      destination_port = all.1.0 i;
-      length = all.1.1.0 i;
-      checksum = all.1.1.1 i;
-    })
-    (λ same. (
-      ap (λ (h : UdpHeader). h.source_port) same,
-      (
-        ap (λ (h : UdpHeader). h.destination_port) same,
-        (ap (λ (h : UdpHeader). h.length) same, ap (λ (h : UdpHeader). h.checksum) same),
-      ),
-    ))
-    (Decides-and _ _ (Decides-eqb a.source_port b.source_port)
-    (Decides-and _ _ (Decides-eqb a.destination_port b.destination_port)
-    (Decides-and _ _ (Decides-eqb a.length b.length) (Decides-eqb a.checksum b.checksum))))
+    made_same (λ (h : UdpHeader). two h.source_port (two h.destination_port (two h.length h.checksum)))
+    (λ p. record { source_port = p.0; destination_port = p.1.0; length = p.1.1.0; checksum = p.1.1.1 }) (λ h. refl) a b
+    (two_same (Decides-eqb a.source_port b.source_port)
+    (two_same (Decides-eqb a.destination_port b.destination_port)
+    (two_same (Decides-eqb a.length b.length) (Decides-eqb a.checksum b.checksum))))
 
 -- options are compared by the array that they fill, and by their number of bytes
 pub returns-clause-options : goal.returns-clause-options
-returns-clause-options c a b =
-    Decides-like _
-    (λ both. (same_parts a b (replicate (40 - length a) 0) (replicate (40 - length b) 0) both.1 both.0).0)
-    (λ same. (ap (padded 40) same, ap (λ (s : List ℕ). length s) same))
-    (Decides-and _ _ (slice_eq-Decides Decides-eqb (padded 40 a) (padded 40 b) _ refl)
-    (Decides-eqb (length a) (length b)))
+returns-clause-options c a b = stored_same 40 (λ n. n) a b (λ same. same)
 
 pub returns-clause-tcp : goal.returns-clause-tcp
 returns-clause-tcp c a b =
-    Decides-like _ (λ all i. record {
-      source_port = all.0 i;
-      destination_port = all.1 i;
-      sequence_number = all.2 i;
-      acknowledgment_number = all.3 i;
-      ns = all.4.0 i;
-      fin = all.4.1 i;
-      syn = all.4.2 i;
-      rst = all.4.3 i;
-      psh = all.4.4.0 i;
-      ack = all.4.4.1 i;
-      urg = all.4.4.2 i;
-      ece = all.4.4.3 i;
-      cwr = all.4.4.4.0 i;
-      window_size = all.4.4.4.1 i;
-      checksum = all.4.4.4.2 i;
-      urgent_pointer = all.4.4.4.3 i;
-      options = all.4.4.4.4 i;
-    })
-    (λ same. (
-      ap (λ (h : TcpHeader). h.source_port) same,
-      ap (λ (h : TcpHeader). h.destination_port) same,
-      ap (λ (h : TcpHeader). h.sequence_number) same,
-      ap (λ (h : TcpHeader). h.acknowledgment_number) same,
-      (
-        ap (λ (h : TcpHeader). h.ns) same,
-        ap (λ (h : TcpHeader). h.fin) same,
-        ap (λ (h : TcpHeader). h.syn) same,
-        ap (λ (h : TcpHeader). h.rst) same,
-        (
-          ap (λ (h : TcpHeader). h.psh) same,
-          ap (λ (h : TcpHeader). h.ack) same,
-          ap (λ (h : TcpHeader). h.urg) same,
-          ap (λ (h : TcpHeader). h.ece) same,
-          (
-            ap (λ (h : TcpHeader). h.cwr) same,
-            ap (λ (h : TcpHeader). h.window_size) same,
-            ap (λ (h : TcpHeader). h.checksum) same,
-            ap (λ (h : TcpHeader). h.urgent_pointer) same,
-            ap (λ (h : TcpHeader). h.options) same,
-          ),
-        ),
-      ),
-    ))
-    (four_and (Decides-eqb a.source_port b.source_port) (Decides-eqb a.destination_port b.destination_port)
+    made_same
+    (λ (h : TcpHeader). five h.source_port h.destination_port h.sequence_number h.acknowledgment_number
+    (five h.ns h.fin h.syn h.rst (five h.psh h.ack h.urg h.ece
+    (five h.cwr h.window_size h.checksum h.urgent_pointer h.options))))
+    (λ p. record {
+      source_port = p.0;
+      destination_port = p.1;
+      sequence_number = p.2;
+      acknowledgment_number = p.3;
+      ns = p.4.0;
+      fin = p.4.1;
+      syn = p.4.2;
+      rst = p.4.3;
+      psh = p.4.4.0;
+      ack = p.4.4.1;
+      urg = p.4.4.2;
+      ece = p.4.4.3;
+      cwr = p.4.4.4.0;
+      window_size = p.4.4.4.1;
+      checksum = p.4.4.4.2;
+      urgent_pointer = p.4.4.4.3;
+      options = p.4.4.4.4;
+    }) (λ h. refl) a b
+    (five_same (Decides-eqb a.source_port b.source_port) (Decides-eqb a.destination_port b.destination_port)
     (Decides-eqb a.sequence_number b.sequence_number) (Decides-eqb a.acknowledgment_number b.acknowledgment_number)
-    (four_and (booleans_Decides a.ns b.ns) (booleans_Decides a.fin b.fin) (booleans_Decides a.syn b.syn)
+    (five_same (booleans_Decides a.ns b.ns) (booleans_Decides a.fin b.fin) (booleans_Decides a.syn b.syn)
     (booleans_Decides a.rst b.rst)
-    (four_and (booleans_Decides a.psh b.psh) (booleans_Decides a.ack b.ack) (booleans_Decides a.urg b.urg)
+    (five_same (booleans_Decides a.psh b.psh) (booleans_Decides a.ack b.ack) (booleans_Decides a.urg b.urg)
     (booleans_Decides a.ece b.ece)
-    (four_and (booleans_Decides a.cwr b.cwr) (Decides-eqb a.window_size b.window_size)
+    (five_same (booleans_Decides a.cwr b.cwr) (Decides-eqb a.window_size b.window_size)
     (Decides-eqb a.checksum b.checksum) (Decides-eqb a.urgent_pointer b.urgent_pointer)
     (returns-clause-options c a.options b.options)))))
 
 same_blocks : (a b : Block) → Decides (nat_eq a.0 b.0 && nat_eq a.1 b.1) (a ≡ b)
-same_blocks a b =
-    Decides-like _ (λ both i. (both.0 i, both.1 i))
-    (λ same. (ap (λ (block : Block). block.0) same, ap (λ (block : Block). block.1) same))
-    (Decides-and _ _ (Decides-eqb a.0 b.0) (Decides-eqb a.1 b.1))
+same_blocks a b = two_same (Decides-eqb a.0 b.0) (Decides-eqb a.1 b.1)
 
 same_places : (a b : Option Block)
     → Decides (option_eq (λ (x y : Block). nat_eq x.0 y.0 && nat_eq x.1 y.1) a b) (a ≡ b)

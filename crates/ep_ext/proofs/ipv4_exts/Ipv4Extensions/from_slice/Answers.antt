@@ -1,7 +1,7 @@
 use Rattle.std.proofs.Common.{◌≡◌, [], arith}
 use Rattle.std.proofs.lemmas.Result.{err_from_is_err_and}
 use Rattle.ep_base.specs.Bytes.{AreBytes}
-use Rattle.ep_base.specs.Layer.{headers}
+use Rattle.ep_base.specs.Readings.{headers}
 use Rattle.ep_ext.specs.Chains.{ipv4, chain_of}
 use Rattle.ep_ext.proofs.HeaderLawLemmas.{header_laws}
 use Rattle.ep_ext.proofs.ChainLemmas.{one_chain, refused_no_chain, auth_refused, ends_at_once, one_authentication, number_other, number_same}

@@ -1,6 +1,6 @@
 use Rattle.std.proofs.Common.{◌≡◌, ◌∙◌, arith}
 use Rattle.ep_base.specs.Bytes.{AreBytes}
-use Rattle.ep_base.specs.Layer.{headers}
+use Rattle.ep_base.specs.Readings.{headers}
 use Rattle.ep_ext.specs.Chains.{ipv6, chain_of}
 use Rattle.ep_ext.specs.Ipv6Chains.{extensions_of}
 use Rattle.ep_ext.proofs.HeaderLawLemmas.{header_laws}

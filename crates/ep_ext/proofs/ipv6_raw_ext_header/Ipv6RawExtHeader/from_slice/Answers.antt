@@ -1,8 +1,6 @@
-use Rattle.std.proofs.Common.{◌≡◌, ◌-◌, length, take, drop, sym, subst, ap, arith}
-use Rattle.std.proofs.lemmas.List.{length-append}
-use Rattle.ep_base.proofs.BytesLemmas.{rest_of}
-use Rattle.ep_base.proofs.TableLemmas.{one_value}
-use Rattle.ep_ext.specs.RawExtension.{IsRawExtension}
+use Rattle.std.proofs.Common.{arith}
+use Rattle.ep_base.proofs.BytesLemmas.{front_within}
+use Rattle.ep_base.proofs.TableLemmas.{value_shown}
 use Rattle.ep_ext.specs.RawExtensionSlices.{raw_extension_slice_bytes}
 use Rattle.ep_ext.proofs.RawExtensionLemmas.{raw_extension_is_read}
 use Rattle.ep_ext.proofs.ipv6_raw_ext_header.Ipv6RawExtHeader.from_slice.Goals as goal
@@ -10,30 +8,16 @@ use Rattle.ep_ext.proofs.ipv6_raw_ext_header.Ipv6RawExtHeader.from_slice.Goals a
 pub slice_bounds-result-count : goal.slice_bounds-result-count
 slice_bounds-result-count c =
     let ok = c.in_ok-header.ensures.ok in
-    let front = raw_extension_slice_bytes c.in_ok-header.header in
-    omega (arith, ap length ok.1, length-append front ok.0, c.header_len.ensures.bytes)
+    omega (arith, front_within c.args.slice.now (raw_extension_slice_bytes c.in_ok-header.header) ok.0 _ ok.1 c.header_len.ensures.bytes)
 
 pub slice_bounds-result-start : goal.slice_bounds-result-start
 slice_bounds-result-start c =
     let ok = c.in_ok-header.ensures.ok in
-    let front = raw_extension_slice_bytes c.in_ok-header.header in
-    omega (arith, ap length ok.1, length-append front ok.0, c.header_len.ensures.bytes)
+    omega (arith, front_within c.args.slice.now (raw_extension_slice_bytes c.in_ok-header.header) ok.0 _ ok.1 c.header_len.ensures.bytes)
 
 pub returns : goal.returns
 returns c =
-    let bytes = c.args.slice.now in
-    let n = c.header_len.result in
     let ok = c.in_ok-header.ensures.ok in
-    let front = raw_extension_slice_bytes c.in_ok-header.header in
-    let behind = take (length bytes - n) (drop n bytes) in
-    let rest : behind ≡ ok.0 = rest_of bytes front ok.0 n ok.1 c.header_len.ensures.bytes in
-    let header = sym c.to_header.ensures in
-    let is : IsRawExtension bytes (c.to_header.result, behind) =
-    subst (IsRawExtension bytes) (λ i. (header i, sym rest i)) ok.2 in
-    record {
-      ok = is;
-      only = λ h r other.
-          let same = one_value raw_extension_is_read bytes (c.to_header.result, behind) (h, r) is other in
-          (λ i. (same i).0, λ i. (same i).1);
-      err = tt;
-    }
+    let read = value_shown raw_extension_is_read c.args.slice.now (raw_extension_slice_bytes c.in_ok-header.header) ok.0 c.header_len.result _
+    c.to_header.result ok.1 c.header_len.ensures.bytes c.to_header.ensures ok.2 in
+    record { ok = read.ok; only = read.only; err = tt }

@@ -2,7 +2,7 @@ use Rattle.std.proofs.Common.{refl, ap, rules}
 use Rattle.std.proofs.lemmas.Bool.{false≢true}
 use Rattle.std.proofs.lemmas.Bool.Decides.{Decides-and, Decides-eqb, Decides-like}
 use Rattle.std.proofs.lemmas.Slice.Eq.{slice_eq-Decides}
-use Rattle.ep_base.proofs.ComparisonLemmas.{four_and}
+use Rattle.ep_base.proofs.ComparisonLemmas.{five, five_same, made_same, two, two_same}
 use Rattle.ep_transport.specs.declared.icmpv4.timestamp_message.TimestampMessage.{TimestampMessage}
 use Rattle.ep_transport.specs.declared.icmpv4_header.Icmpv4Header.{Icmpv4Header}
 use Rattle.ep_transport.specs.declared.icmpv4_type.Icmpv4Type.TheVariants as v4
@@ -13,27 +13,21 @@ use Rattle.ep_transport.proofs.laws.icmp.comparisons.Goals as goal
 
 pub returns-clause-echoes : goal.returns-clause-echoes
 returns-clause-echoes c a b =
-    Decides-like _ (λ both i. record { id = both.0 i; seq = both.1 i })
-    (λ same. (ap (λ (e : IcmpEchoHeader). e.id) same, ap (λ (e : IcmpEchoHeader). e.seq) same))
-    (Decides-and _ _ (Decides-eqb a.id b.id) (Decides-eqb a.seq b.seq))
+    made_same (λ (e : IcmpEchoHeader). two e.id e.seq) (λ p. record { id = p.0; seq = p.1 }) (λ e. refl) a b
+    (two_same (Decides-eqb a.id b.id) (Decides-eqb a.seq b.seq))
 
 pub returns-clause-timestamps : goal.returns-clause-timestamps
 returns-clause-timestamps c a b =
-    Decides-like _ (λ all i. record {
-      id = all.0 i;
-      seq = all.1 i;
-      originate_timestamp = all.2 i;
-      receive_timestamp = all.3 i;
-      transmit_timestamp = all.4 i;
-    })
-    (λ same. (
-      ap (λ (t : TimestampMessage). t.id) same,
-      ap (λ (t : TimestampMessage). t.seq) same,
-      ap (λ (t : TimestampMessage). t.originate_timestamp) same,
-      ap (λ (t : TimestampMessage). t.receive_timestamp) same,
-      ap (λ (t : TimestampMessage). t.transmit_timestamp) same,
-    ))
-    (four_and (Decides-eqb a.id b.id) (Decides-eqb a.seq b.seq)
+    made_same
+    (λ (t : TimestampMessage). five t.id t.seq t.originate_timestamp t.receive_timestamp t.transmit_timestamp)
+    (λ p. record {
+      id = p.0;
+      seq = p.1;
+      originate_timestamp = p.2;
+      receive_timestamp = p.3;
+      transmit_timestamp = p.4;
+    }) (λ t. refl) a b
+    (five_same (Decides-eqb a.id b.id) (Decides-eqb a.seq b.seq)
     (Decides-eqb a.originate_timestamp b.originate_timestamp) (Decides-eqb a.receive_timestamp b.receive_timestamp)
     (Decides-eqb a.transmit_timestamp b.transmit_timestamp))
 
@@ -68,9 +62,9 @@ returns-clause-icmpv4_types c a b = (λ equal. absurd (false≢true equal), λ s
 
 pub returns-clause-icmpv4 : goal.returns-clause-icmpv4
 returns-clause-icmpv4 c a b =
-    Decides-like _ (λ both i. record { icmp_type = both.0 i; checksum = both.1 i })
-    (λ same. (ap (λ (h : Icmpv4Header). h.icmp_type) same, ap (λ (h : Icmpv4Header). h.checksum) same))
-    (Decides-and _ _ (returns-clause-icmpv4_types c a.icmp_type b.icmp_type) (Decides-eqb a.checksum b.checksum))
+    made_same (λ (h : Icmpv4Header). two h.icmp_type h.checksum) (λ p. record { icmp_type = p.0; checksum = p.1 })
+    (λ h. refl) a b
+    (two_same (returns-clause-icmpv4_types c a.icmp_type b.icmp_type) (Decides-eqb a.checksum b.checksum))
 
 pub returns-clause-icmpv6_exceeded : goal.returns-clause-icmpv6_exceeded
 returns-clause-icmpv6_exceeded c = search rules
@@ -97,6 +91,6 @@ returns-clause-icmpv6_types c a b = (λ equal. absurd (false≢true equal), λ s
 
 pub returns-clause-icmpv6 : goal.returns-clause-icmpv6
 returns-clause-icmpv6 c a b =
-    Decides-like _ (λ both i. record { icmp_type = both.0 i; checksum = both.1 i })
-    (λ same. (ap (λ (h : Icmpv6Header). h.icmp_type) same, ap (λ (h : Icmpv6Header). h.checksum) same))
-    (Decides-and _ _ (returns-clause-icmpv6_types c a.icmp_type b.icmp_type) (Decides-eqb a.checksum b.checksum))
+    made_same (λ (h : Icmpv6Header). two h.icmp_type h.checksum) (λ p. record { icmp_type = p.0; checksum = p.1 })
+    (λ h. refl) a b
+    (two_same (returns-clause-icmpv6_types c a.icmp_type b.icmp_type) (Decides-eqb a.checksum b.checksum))

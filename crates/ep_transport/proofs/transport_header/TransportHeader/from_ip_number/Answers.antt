@@ -1,6 +1,6 @@
 use Rattle.std.proofs.Common.{arith}
 use Rattle.std.specs.Option.{option_map}
-use Rattle.ep_base.specs.Layer.{headers}
+use Rattle.ep_base.specs.Readings.{headers}
 use Rattle.ep_base.proofs.DecidedLemmas.{only_of}
 use Rattle.ep_base.proofs.TableLemmas.{decided}
 use Rattle.ep_transport.specs.TransportParts.{transport_layer}

@@ -1,5 +1,5 @@
 use Rattle.std.proofs.Common.{rules}
-use Rattle.ep_base.specs.Layer.{slices}
+use Rattle.ep_base.specs.Readings.{slices}
 use Rattle.ep_transport.proofs.TransportLemmas.{icmpv4_refused}
 use Rattle.ep_transport.proofs.transport_slice.TransportSlice.part_of.Goals as goal
 
