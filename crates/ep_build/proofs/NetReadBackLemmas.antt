@@ -4,7 +4,7 @@ use Rattle.std.proofs.Common.{length, Option, Some, None, refl, sym, ap, ◌∙�
 use Rattle.std.specs.Option.{option_and_then, option_map}
 use Rattle.ep_base.specs.IpNumbers.{fragment_number}
 use Rattle.ep_base.specs.IpPayload.{IpPayload}
-use Rattle.ep_base.specs.Layer.{Reading, slices, headers as by_value}
+use Rattle.ep_base.specs.Readings.{Reading, slices, headers as by_value}
 use Rattle.ep_base.specs.declared.ip_number.IpNumber.{IpNumber}
 use Rattle.ep_ext.specs.declared.ip_auth_header.IpAuthHeader.{IpAuthHeader}
 use Rattle.ep_ext.specs.declared.ipv4_exts.Ipv4Extensions.{Ipv4Extensions}

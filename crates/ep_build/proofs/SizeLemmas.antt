@@ -10,8 +10,6 @@ use Rattle.ep_packet.specs.IpHeaders.{headers_for, ip_extensions_len, ip_header_
 use Rattle.ep_packet.specs.IpHeaders.{ip_headers_parts, with_checksum, written_headers}
 use Rattle.ep_packet.specs.declared.ip_headers.IpHeaders.{IpHeaders}
 use Rattle.ep_packet.specs.declared.ip_headers.IpHeaders.TheVariants as version
-use Rattle.ep_transport.specs.Tcp.{tcp_bytes, tcp_header_len}
-use Rattle.ep_transport.specs.declared.tcp_header.TcpHeader.{TcpHeader}
 use Rattle.ep_transport.specs.TransportHeaders.{transport_bytes, transport_header_len}
 use Rattle.ep_transport.specs.declared.transport_header.TransportHeader.{TransportHeader}
 use Rattle.ep_transport.specs.declared.transport_header.TransportHeader.TheVariants as transport
@@ -82,10 +80,6 @@ between_bytes (version.Ipv6 ip extensions) payload (transport.Udp header) len = 
 between_bytes (version.Ipv6 ip extensions) payload (transport.Tcp header) len = len
 between_bytes (version.Ipv6 ip extensions) payload (transport.Icmpv4 header) len = len
 between_bytes (version.Ipv6 ip extensions) payload (transport.Icmpv6 header) len = len
-
--- a TCP header has as many bytes as it says
-pub tcp_bytes_len : (header : TcpHeader) → length (tcp_bytes header) ≡ tcp_header_len header
-tcp_bytes_len header = grind (arith, common_steps)
 
 -- ---- whole frames
 

@@ -6,7 +6,7 @@ use Rattle.std.proofs.lemmas.List.{append-nil, length-append}
 use Rattle.ep_base.specs.Bytes.{AreBytes}
 use Rattle.ep_base.specs.Checksum.{checksum_of}
 use Rattle.ep_base.specs.IpNumbers.{tcp_number}
-use Rattle.ep_base.specs.Layer.{Reading, slices, headers as by_value}
+use Rattle.ep_base.specs.Readings.{Reading, slices, headers as by_value}
 use Rattle.ep_base.specs.Tables.{first_row, parts_of}
 use Rattle.ep_packet.specs.declared.ip_headers.IpHeaders.{IpHeaders}
 use Rattle.ep_packet.specs.declared.ip_headers.IpHeaders.TheVariants as version

@@ -17,8 +17,6 @@ use Rattle.ep_base.specs.declared.err.value_too_big.ValueTooBigError.{ValueTooBi
 use Rattle.ep_base.specs.declared.ether_type.EtherType.{EtherType}
 use Rattle.ep_base.specs.declared.ip_number.IpNumber.{IpNumber}
 use Rattle.ep_base.proofs.TableLemmas.{first_row-append_none, first_row-append_some, first_row-as_none, first_row-as_some}
-use Rattle.ep_ext.specs.declared.ipv4_exts.Ipv4Extensions.{Ipv4Extensions}
-use Rattle.ep_ip.specs.declared.ipv4_header.Ipv4Header.{Ipv4Header}
 use Rattle.ep_packet.specs.IpHeaders.{FitIpHeaders, LeadThrough, RefusesLeading, ip_headers_len, of_walk_error}
 use Rattle.ep_packet.specs.declared.err.headers_write_error.HeadersWriteError.{HeadersWriteError}
 use Rattle.ep_packet.specs.declared.err.headers_write_error.HeadersWriteError.TheVariants as write_error
@@ -27,14 +25,14 @@ use Rattle.ep_packet.specs.IpHeaders.{headers_for, ip_extensions_len, ip_headers
 use Rattle.ep_packet.specs.IpHeaders.{most_behind_header, payload_len_rows, too_long, written_headers}
 use Rattle.ep_packet.specs.declared.ip_headers.IpHeaders.{IpHeaders}
 use Rattle.ep_packet.specs.declared.ip_headers.IpHeaders.TheVariants as version
-use Rattle.ep_transport.specs.TransportHeaders.{checksum_rows_ipv4, checksum_rows_ipv6, transport_bytes}
+use Rattle.ep_transport.specs.TransportHeaders.{transport_bytes}
 use Rattle.ep_transport.specs.TransportHeaders.{transport_header_len}
 use Rattle.ep_transport.specs.declared.transport_checksum_error.TransportChecksumError.TheVariants as checksum_error
 use Rattle.ep_transport.specs.declared.transport_header.TransportHeader.{TransportHeader}
 use Rattle.ep_transport.specs.declared.transport_header.TransportHeader.TheVariants as transport
 use Rattle.ep_build.specs.BuildErrors.{IsBuildable, IsBuildError, is_icmpv6_in_ipv4}
 use Rattle.ep_build.specs.BuiltFragments.{IsFragmentReadBack}
-use Rattle.ep_build.specs.BuiltFrames.{Held, as_ether_type, built_frame, held_ip, held_transport}
+use Rattle.ep_build.specs.BuiltFrames.{Held, as_ether_type, built_frame, held_transport}
 use Rattle.ep_build.specs.BuiltFrames.{link_before, link_part_bytes, transport_between, transport_number}
 use Rattle.ep_build.specs.BuiltFrames.{with_checksum_behind, with_length}
 use Rattle.ep_build.specs.declared.err.build_write_error.BuildWriteError.{BuildWriteError}
@@ -181,27 +179,12 @@ too_long_alone headers len error alone small long is =
 
 -- ---- the table of the builder
 
-pub ip_passes : (link : LinkPart) (headers : IpHeaders) (last : IpNumber) (len : ℕ)
-    → first_row (payload_len_rows headers len) ≡ None
-    → IsBuildable (held_ip link headers last) len
-ip_passes link headers last len none = first_row-as_none error.PayloadLen (payload_len_rows headers len) none
-
-pub ip_refuses : (link : LinkPart) (headers : IpHeaders) (last : IpNumber) (len : ℕ) (refusal : ValueTooBigError ℕ)
-    → Refuses (payload_len_rows headers len) refusal
-    → IsBuildError (held_ip link headers last) len (error.PayloadLen refusal)
-ip_refuses link headers last len refusal refused =
-    inl (first_row-as_some error.PayloadLen (payload_len_rows headers len) refusal refused)
-
 abbrev icmpv6_rows : Bool → List (Bool × BuildWriteError)
 icmpv6_rows b = (b, error.Icmpv6InIpv4) ∷ []
 
 icmpv6_row_none : (b : Bool) → b ≡ false → first_row (icmpv6_rows b) ≡ None
 icmpv6_row_none true is = absurd (cc)
 icmpv6_row_none false is = refl
-
-icmpv6_row_some : (b : Bool) → b ≡ true → first_row (icmpv6_rows b) ≡ Some error.Icmpv6InIpv4
-icmpv6_row_some true is = refl
-icmpv6_row_some false is = absurd (cc)
 
 pub transport_passes : (link : LinkPart) (headers : IpHeaders) (behind : TransportHeader) (len : ℕ)
     → first_row (payload_len_rows headers (transport_header_len behind + len)) ≡ None
@@ -221,53 +204,7 @@ transport_too_long link headers behind len refusal refused =
     inl (first_row-append_some (rows_as error.PayloadLen rows) (icmpv6_rows (is_icmpv6_in_ipv4 headers behind)) _
     (first_row-as_some error.PayloadLen rows refusal refused))
 
-pub transport_not_carried : (link : LinkPart) (headers : IpHeaders) (behind : TransportHeader) (len : ℕ)
-    (answer : BuildWriteError) → first_row (payload_len_rows headers (transport_header_len behind + len)) ≡ None
-    → is_icmpv6_in_ipv4 headers behind ≡ true → answer ≡ error.Icmpv6InIpv4
-    → IsBuildError (held_transport link headers behind) len answer
-transport_not_carried link headers behind len answer none carried same =
-    let rows = payload_len_rows headers (transport_header_len behind + len) in
-    inl (first_row-append_none (rows_as error.PayloadLen rows) (icmpv6_rows (is_icmpv6_in_ipv4 headers behind))
-    (first_row-as_none error.PayloadLen rows none)
-    ∙ icmpv6_row_some (is_icmpv6_in_ipv4 headers behind) carried ∙ ap (λ (e : BuildWriteError). Some e) (sym same))
-
 -- ---- checksums
-
--- behind IPv4 a length of 16 bits is never refused
-pub summed_ipv4 : (behind : TransportHeader) (payload : List ℕ) (refusal : ValueTooBigError ℕ)
-    → transport_header_len behind + length payload ≤ 65535
-    → Refuses (checksum_rows_ipv4 behind payload) (checksum_error.PayloadLen refusal) → ⊥
-summed_ipv4 (transport.Udp header) payload refusal fits refused = grind (arith, common_steps)
-summed_ipv4 (transport.Tcp header) payload refusal fits refused = grind (arith, common_steps)
-summed_ipv4 (transport.Icmpv4 header) payload refusal fits refused = absurd (cc)
-summed_ipv4 (transport.Icmpv6 header) payload refusal fits refused = absurd (cc)
-
--- nor behind IPv6
-pub summed_ipv6 : (behind : TransportHeader) (payload : List ℕ) (refusal : ValueTooBigError ℕ)
-    → transport_header_len behind + length payload ≤ 65535
-    → Refuses (checksum_rows_ipv6 behind payload) refusal → ⊥
-summed_ipv6 (transport.Udp header) payload refusal fits refused = grind (arith, common_steps)
-summed_ipv6 (transport.Tcp header) payload refusal fits refused = grind (arith, common_steps)
-summed_ipv6 (transport.Icmpv4 header) payload refusal fits refused = absurd (cc)
-summed_ipv6 (transport.Icmpv6 header) payload refusal fits refused = grind (arith, common_steps)
-
--- what is summed behind IPv4 is none of ICMPv6
-pub carried_ipv4 : (headers : IpHeaders) (behind : TransportHeader) (payload : List ℕ)
-    → first_row (checksum_rows_ipv4 behind payload) ≡ None → is_icmpv6_in_ipv4 headers behind ≡ false
-carried_ipv4 (version.Ipv4 ip extensions) (transport.Udp header) payload none = refl
-carried_ipv4 (version.Ipv4 ip extensions) (transport.Tcp header) payload none = refl
-carried_ipv4 (version.Ipv4 ip extensions) (transport.Icmpv4 header) payload none = refl
-carried_ipv4 (version.Ipv4 ip extensions) (transport.Icmpv6 header) payload none = absurd (cc)
-carried_ipv4 (version.Ipv6 ip extensions) behind payload none = refl
-
--- what is refused so is ICMPv6 in IPv4
-pub not_carried : (ip : Ipv4Header) (extensions : Ipv4Extensions) (behind : TransportHeader) (payload : List ℕ)
-    → Refuses (checksum_rows_ipv4 behind payload) checksum_error.Icmpv6InIpv4
-    → is_icmpv6_in_ipv4 (version.Ipv4 ip extensions) behind ≡ true
-not_carried ip extensions (transport.Udp header) payload refused = grind (arith, common_steps)
-not_carried ip extensions (transport.Tcp header) payload refused = grind (arith, common_steps)
-not_carried ip extensions (transport.Icmpv4 header) payload refused = absurd (cc)
-not_carried ip extensions (transport.Icmpv6 header) payload refused = refl
 
 -- filling in the length makes no other header of it
 pub carried_with_length : (headers : IpHeaders) (len : ℕ) (behind : TransportHeader)
@@ -301,17 +238,6 @@ summed_linked (version.Ipv6 ip extensions) last len payload (transport.Icmpv4 he
 summed_linked (version.Ipv6 ip extensions) last len payload (transport.Icmpv6 header) = refl
 
 -- ---- the frame
-
--- linked headers and what they were linked for
-pub is_ip_frame : (link : LinkPart) (headers linked : IpHeaders) (last : IpNumber) (type : EtherType) (payload : List ℕ)
-    → linked ≡ headers_for headers last (length payload) → type.0 ≡ ip_headers_type headers
-    → link_part_bytes (link_before link type) ++ (written_headers linked (ip_headers_parts linked) ++ payload)
-    ≡ built_frame (held_ip link headers last) payload
-is_ip_frame link headers linked last type payload is typed =
-    ap (λ (n : ℕ). link_part_bytes (link_before link (as_ether_type n))
-    ++ (written_headers linked (ip_headers_parts linked) ++ payload)) typed
-    ∙ ap (λ (h : IpHeaders). link_part_bytes (link_before link (as_ether_type (ip_headers_type headers)))
-    ++ (written_headers h (ip_headers_parts h) ++ payload)) is
 
 -- the frame of content behind headers that lead to a transport header
 abbrev built_content : LinkPart → IpHeaders → TransportHeader → List ℕ → List ℕ

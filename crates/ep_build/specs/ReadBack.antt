@@ -2,7 +2,7 @@
 use Rattle.std.specs.Prelude.{◌≡◌, ◌⊎◌, ℕ, ◌≤◌, false, List, [], ◌++◌, Some, None}
 use Rattle.ep_base.specs.EtherTypes.{arp_type}
 use Rattle.ep_base.specs.IpPayload.{IpPayload}
-use Rattle.ep_base.specs.Layer.{Reading}
+use Rattle.ep_base.specs.Readings.{Reading}
 use Rattle.ep_base.specs.Tables.{first_row}
 use Rattle.ep_link.specs.Arp.{Arp}
 use Rattle.ep_packet.specs.Frame.{IsFrameIn}

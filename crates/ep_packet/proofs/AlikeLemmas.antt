@@ -3,7 +3,7 @@ use Rattle.std.proofs.Common.{◌≡◌, ◌⊎◌, ℕ, zero, suc, ◌+◌, Boo
 use Rattle.std.proofs.lemmas.Grind.{common_steps}
 use Rattle.ep_base.specs.Bytes.{AreBytes}
 use Rattle.ep_base.specs.IpPayload.{IpPayload}
-use Rattle.ep_base.specs.Layer.{Reading, slices, headers, cut_by}
+use Rattle.ep_base.specs.Readings.{Reading, slices, headers, cut_by}
 use Rattle.ep_base.specs.Tables.{Parts}
 use Rattle.ep_base.proofs.BytesLemmas.{AreBytes-payload}
 use Rattle.ep_base.specs.declared.ether_type.EtherType.{EtherType}

@@ -4,7 +4,7 @@ use Rattle.std.specs.Prelude.{◌&&◌, nat_le}
 use Rattle.std.proofs.lemmas.Grind.{common_steps}
 use Rattle.ep_base.specs.Bytes.{AreBytes}
 use Rattle.ep_base.specs.IpPayload.{IpPayload}
-use Rattle.ep_base.specs.Layer.{Reading, cut_by}
+use Rattle.ep_base.specs.Readings.{Reading, cut_by}
 use Rattle.ep_base.specs.Missing.{IsCutRefusal, IsCutShort, TellsCut, slice_end}
 use Rattle.ep_base.specs.Tables.{Parts, parts_of}
 use Rattle.ep_base.proofs.BytesLemmas.{AreBytes-payload}

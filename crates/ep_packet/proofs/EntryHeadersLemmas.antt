@@ -1,9 +1,9 @@
 -- What the entries fill in, and where the payload lies in a frame's bytes.
 use Rattle.std.proofs.Common.{◌≡◌, ℕ, ◌-◌, length, inr, List, [], ◌∷◌, ◌++◌, map, Option, Some, None, Result, Ok, Err, refl, sym, ap, subst, ◌∙◌, append_assoc}
-use Rattle.std.specs.Prelude.{IfOk, IfErr, IfSome, IsOkAnd, OnOk}
+use Rattle.std.specs.Prelude.{IfErr, IfSome, IsOkAnd, OnOk}
 use Rattle.std.specs.Option.{option_map}
 use Rattle.ep_base.specs.Bytes.{AreBytes}
-use Rattle.ep_base.specs.Layer.{headers}
+use Rattle.ep_base.specs.Readings.{headers}
 use Rattle.ep_base.specs.Tables.{IsDecided, Parts}
 use Rattle.ep_base.specs.declared.ether_type.EtherType.{EtherType}
 use Rattle.ep_base.specs.declared.len_source.LenSource.{LenSource}
@@ -47,14 +47,6 @@ use Rattle.ep_packet.proofs.HeadersLemmas.{net_innermost}
 pub headers_law : (entry : Entry) (bytes : List ℕ) → AreBytes bytes
     → IsDecided (IsFrameIn headers entry bytes) (RefusesFrameIn headers entry bytes)
 headers_law entry bytes fits = frames_decided layer_laws headers entry bytes fits
-
--- an answer shows an image of what there is where it is Ok, so it is Ok for what there is, and shows its image
-pub only_image : {A V W E : Type 0} {Is : V → Type 0} {Refuses : E → Type 0} (shown : A → W) (image : V → W)
-    → IsDecided Is Refuses → (answer : Result A E)
-    → IfOk answer (λ a. (value : V) × Is value × (shown a ≡ image value)) → IfErr answer Refuses
-    → (value : V) → Is value → IsOkAnd answer (λ a. shown a ≡ image value)
-only_image shown image decided (Ok a) ok err value is = ok.2 ∙ ap image (decided.one_value ok.0 value ok.1 is)
-only_image shown image decided (Err e) ok err value is = absurd (decided.not_both value e is err)
 
 -- ---- the bytes of the payload
 

@@ -1,10 +1,10 @@
 -- That bytes are a frame of one list of layers, or are refused with one error, from the same of each layer.
 use Rattle.std.proofs.Common.{◌≡◌, ℕ, List, [], Option, Some, None, refl, ap, ◌∙◌}
 use Rattle.ep_base.specs.Bytes.{AreBytes}
-use Rattle.ep_base.specs.Layer.{Reading}
+use Rattle.ep_base.specs.Readings.{Reading}
 use Rattle.ep_base.specs.Tables.{IsDecided, Parts}
 use Rattle.ep_base.proofs.BytesLemmas.{AreBytes-payload}
-use Rattle.ep_base.proofs.DecidedLemmas.{same_image, decided_as, refused_as, IsBoth, RefusesEither, decided_then}
+use Rattle.ep_base.proofs.DecidedLemmas.{same_image, decided_as, refused_as, RefusesEither, decided_then}
 use Rattle.ep_base.specs.declared.ether_type.EtherType.{EtherType}
 use Rattle.ep_base.specs.declared.len_source.LenSource.TheVariants as source
 use Rattle.ep_link.specs.Ethernet2.{ethernet2_bytes, ethernet2_header_len}
@@ -19,7 +19,7 @@ use Rattle.ep_packet.specs.Layers.{Layers}
 use Rattle.ep_packet.specs.Frame.{any_ip, IsInside, most_link_exts, IsFrameIn}
 use Rattle.ep_packet.specs.FrameRefusals.{RefusesInside, RefusesFrameIn, linux_sll_refusal}
 use Rattle.ep_packet.proofs.DeciderLemmas.{Deciders}
-use Rattle.ep_packet.proofs.InsideLemmas.{Inside, HoldsInside, inside_decided}
+use Rattle.ep_packet.proofs.InsideLemmas.{Inside, inside_decided}
 use Rattle.ep_packet.proofs.NetLemmas.{NetPart, net_decided}
 
 -- a header with its payload and what its cut leaves, and what the payload holds
@@ -44,10 +44,6 @@ abbrev IsFrameOf : {H : Type 0} → Reading → (Parts H → Type 0) → (H → 
 IsFrameOf {H = H} reading Is link type layers =
     (frame : Parts H) × Is frame × (layers.link ≡ Some (link_in link frame))
     × IsInside reading most_link_exts (type frame.header) frame.payload layers.link_exts layers.net layers.transport
-
--- the same of the parts that were read
-abbrev IsFramePart : {H : Type 0} → Reading → (Parts H → Type 0) → (H → Option EtherType) → FramePart H → Type 0
-IsFramePart reading Is type = IsBoth Is (λ frame. HoldsInside reading most_link_exts (type frame.header) frame.payload)
 
 -- why bytes have no link header of this kind, which is so long, or are refused behind it
 abbrev RefusesFrameOf : {H : Type 0} → Reading → (Parts H → Type 0) → (SliceError → Type 0) → (H → Option EtherType)

@@ -4,7 +4,7 @@ use Rattle.std.specs.Option.{option_map}
 use Rattle.std.proofs.Math.Dec.{eqb-suc-zero}
 use Rattle.std.proofs.lemmas.List.{append-nil}
 use Rattle.ep_base.specs.IpPayload.{IpPayload, ip_payload_of}
-use Rattle.ep_base.specs.Layer.{headers}
+use Rattle.ep_base.specs.Readings.{headers}
 use Rattle.ep_base.specs.Tables.{RefusesAs}
 use Rattle.ep_base.specs.declared.err.ip.HeadersError.{HeadersError}
 use Rattle.ep_base.specs.declared.err.ip.HeadersSliceError.{HeadersSliceError}
@@ -26,7 +26,7 @@ use Rattle.ep_transport.specs.TransportParts.{TransportLayer}
 use Rattle.ep_packet.specs.declared.err.slice_error.SliceError.{SliceError}
 use Rattle.ep_packet.specs.declared.net_headers.NetHeaders.{NetHeaders}
 use Rattle.ep_packet.specs.Layers.{NetLayer, arp, ip_layer, net_payload}
-use Rattle.ep_packet.specs.Frame.{NetKind, any_ip, only_arp, net_kind, IsNetLayer, IsNetPart, IsTransportBehind, IsTransportIn}
+use Rattle.ep_packet.specs.Frame.{NetKind, any_ip, only_arp, net_kind, IsNetLayer, IsTransportBehind, IsTransportIn}
 use Rattle.ep_packet.specs.IpHeaders.{ip_headers_of, ip_part_payload, of_slice_error}
 use Rattle.ep_packet.specs.NetHeaders.{net_headers_of}
 use Rattle.ep_packet.specs.PacketHeaders.{Headers, arp_packet, net_header_in, net_header_of, transport_header_in}
@@ -251,16 +251,6 @@ ip_content_refused bytes found error (slice_error.IpHeaders refusal, refused, sa
 
 -- ---- no net layer, and ARP
 
--- bytes of no kind are a payload that is left open
-pub fills_open : (kind : Option NetKind) (bytes : List ℕ) (unread : PayloadPart) (old new : Headers) → kind ≡ None
-    → new ≡ record old { net = None; transport = None; payload = unread } → FillsNet kind bytes unread old new
-fills_open kind bytes unread old new none filled = record {
-  net = None;
-  transport = None;
-  part = subst (λ (k : Option NetKind). IsNetPart headers k bytes None None) (sym none) (refl, refl);
-  filled = filled;
-}
-
 -- an ARP packet has no payload
 pub fills_arp : (bytes left : List ℕ) (packet : Arp) (old new : Headers) → IsArp bytes (packet, left)
     → new ≡ record old { net = Some (arp_packet packet); transport = None; payload = empty }
@@ -277,23 +267,6 @@ pub net_innermost : (layer : NetLayer) (transport : Option TransportLayer) (unre
     → innermost_part unread (Some layer) transport ≡ innermost_part other (Some layer) transport
 net_innermost layer None unread other = refl
 net_innermost layer (Some inside) unread other = refl
-
-pub fills_kind : (found : Option NetKind) (kind : NetKind) (bytes : List ℕ) (unread other : PayloadPart)
-    (old new : Headers)
-    → found ≡ Some kind → FillsNet (Some kind) bytes unread old new → FillsNet found bytes other old new
-fills_kind found kind bytes unread other old new same fills = record {
-  net = fills.net;
-  transport = fills.transport;
-  part = subst (λ (k : Option NetKind). IsNetPart headers k bytes fills.net fills.transport) (sym same) fills.part;
-  filled = fills.filled
-      ∙ ap (λ (p : PayloadPart). record old {
-        net = option_map net_header_in fills.net;
-        transport = option_map transport_header_in fills.transport;
-        payload = p;
-      }) (subst (λ (n : Option NetLayer). innermost_part unread n fills.transport
-      ≡ innermost_part other n fills.transport)
-      (sym fills.part.2) (net_innermost fills.part.0 fills.transport unread other));
-}
 
 -- ---- link extensions
 

@@ -2,7 +2,7 @@
 use Rattle.std.proofs.Common.{◌≡◌, ℕ, zero, suc, ◌+◌, ◌||◌, nat_lt, if◌then◌else◌, Bool, true, false, List, [], ◌∷◌, ◌++◌, map, Option, Some, None, refl, sym, ap, subst, ◌∙◌, inr, append_assoc, arith}
 use Rattle.std.specs.Option.{option_map}
 use Rattle.std.proofs.lemmas.Bool.{lt-ltb}
-use Rattle.ep_base.specs.Layer.{headers, cut_by}
+use Rattle.ep_base.specs.Readings.{headers, cut_by}
 use Rattle.ep_base.specs.declared.ether_type.EtherType.{EtherType}
 use Rattle.ep_base.specs.declared.len_source.LenSource.{LenSource}
 use Rattle.ep_base.specs.declared.len_source.LenSource.TheVariants as source
@@ -67,11 +67,6 @@ extension_source type bytes left (macsec tag (unmodified t found b)) is inside s
 extension_source type bytes left (macsec tag (modified b)) is inside same outer = absurd (cc same)
 
 -- ---- what is left open
-
--- a payload whose end another thing set
-ending_again : (first second : LenSource) (payload : EtherPayload)
-    → ending_by first payload ≡ ending_by first (ending_by second payload)
-ending_again first second payload = refl
 
 -- the payload of others behind the payload of an extension
 behind_again : (first second : LenSource) (payload : EtherPayload) (others : List LinkExtension)

@@ -2,7 +2,7 @@
 -- one error.
 use Rattle.std.proofs.Common.{◌≡◌, ℕ, zero, suc, ◌+◌, List, [], ◌∷◌, Option, Some, None, refl, ap, ◌∙◌, inl, inr}
 use Rattle.ep_base.specs.Bytes.{AreBytes}
-use Rattle.ep_base.specs.Layer.{Reading}
+use Rattle.ep_base.specs.Readings.{Reading}
 use Rattle.ep_base.specs.Tables.{IsDecided}
 use Rattle.ep_base.proofs.BytesLemmas.{AreBytes-payload}
 use Rattle.ep_base.proofs.DecidedLemmas.{same_image, refused_as, decided_by, decided_as, IsBoth, RefusesEither, decided_then}

@@ -1,14 +1,14 @@
 -- IP headers by value: what is read of a packet, and what is written and read back.
 use Rattle.std.proofs.Common.{◌≡◌, ◌⊎◌, ◌↔◌, ℕ, ◌+◌, ◌-◌, ◌^◌, ◌<◌, ◌==◌, ◌&&◌, ◌≤◌, false, if◌then◌else◌, List, []}
-use Rattle.std.proofs.Common.{◌∷◌, ◌++◌, length, take, drop, Option, Some, None, Result, Ok, Err, refl, sym, ap, subst}
+use Rattle.std.proofs.Common.{◌∷◌, ◌++◌, length, Option, Some, None, Result, Ok, Err, refl, sym, ap, subst}
 use Rattle.std.proofs.Common.{◌∙◌, inl, inr, arith}
 use Rattle.std.specs.Prelude.{IfOk, IfErr, IsOk, IsOkAnd, MatchResult, nat_lt}
 use Rattle.std.proofs.lemmas.Result.{MatchResult-weaker}
 use Rattle.std.proofs.lemmas.Bool.{cases_eq}
 use Rattle.std.proofs.lemmas.Grind.{common_steps}
-use Rattle.std.proofs.lemmas.List.{append-nil, append_assoc, length-append, length-take, take-append-drop}
+use Rattle.std.proofs.lemmas.List.{append-nil, append_assoc, length-append}
 use Rattle.ep_base.specs.Bytes.{AreBytes}
-use Rattle.ep_base.specs.Layer.{Reading, headers as by_value, slices, len_error}
+use Rattle.ep_base.specs.Readings.{Reading, headers as by_value, slices, len_error}
 use Rattle.ep_base.specs.Tables.{IsDecided, Refuses, RefusesAs, first_row, parts_of}
 use Rattle.ep_base.specs.declared.err.ip_exts.ExtsWalkError.{ExtsWalkError}
 use Rattle.ep_base.specs.declared.err.ip_exts.ExtsWalkError.TheVariants as walk_error
@@ -23,18 +23,16 @@ use Rattle.ep_base.specs.declared.err.value_too_big.ValueTooBigError.{ValueTooBi
 use Rattle.ep_base.specs.declared.err.value_type.ValueType.TheVariants as value_type
 use Rattle.ep_base.specs.declared.ip_payload_slice.IpPayloadSlice.{IpPayloadSlice}
 use Rattle.ep_base.specs.IpPayload.{IpPayload}
-use Rattle.ep_base.specs.declared.err.ipv4.SliceError.{SliceError as Ipv4SliceError}
 use Rattle.ep_base.specs.declared.err.layer.Layer.TheVariants as layer
-use Rattle.ep_base.specs.declared.err.ipv6_exts.HeaderSliceError.{HeaderSliceError as ExtsSliceError}
 use Rattle.ep_base.specs.declared.ip_number.IpNumber.{IpNumber}
 use Rattle.ep_base.specs.declared.len_source.LenSource.TheVariants as source
 use Rattle.ep_base.proofs.DecidedLemmas.{refused_as}
 use Rattle.ep_ext.specs.declared.ip_auth_header.IpAuthHeader.{IpAuthHeader}
 use Rattle.ep_ext.specs.declared.ipv4_exts.Ipv4Extensions.{Ipv4Extensions}
 use Rattle.ep_ext.specs.declared.ipv6_exts.Ipv6Extensions.{Ipv6Extensions}
-use Rattle.ep_ext.specs.Chains.{IsChainBehind, IsExtensionChain, RefusesChainBehind, FitParts, chain_of}
+use Rattle.ep_ext.specs.Chains.{IsChainBehind, IsExtensionChain, FitParts, chain_of}
 use Rattle.ep_ext.specs.Chains.{chain_fragments, ipv4, ipv6, is_ipv6_extension, parts_bytes}
-use Rattle.ep_ext.specs.ExtensionParts.{ExtensionPart, part_len, part_next}
+use Rattle.ep_ext.specs.ExtensionParts.{ExtensionPart, part_next}
 use Rattle.ep_ext.specs.Ipv4Chains.{ipv4_first, ipv4_linked, ipv4_parts, ipv4_walk}
 use Rattle.ep_ext.specs.Ipv6Chains.{RefusesWalk, ipv6_first, ipv6_linked, ipv6_parts}
 use Rattle.ep_ext.proofs.LinkLemmas.{linked_chain, linked_chain_4, linked_value, linked_walk, linked_walk_4}
@@ -42,11 +40,11 @@ use Rattle.ep_ext.proofs.WalkLemmas.{one_walk, one_walk_refusal, walks_not_refus
 use Rattle.ep_ext.proofs.WalkLengthLemmas.{walk_len}
 use Rattle.ep_ip.specs.declared.ipv4_header.Ipv4Header.{Ipv4Header}
 use Rattle.ep_ip.specs.declared.ipv6_header.Ipv6Header.{Ipv6Header}
-use Rattle.ep_ip.specs.IpPackets.{IpPacket, IpPart, ipv4_part, ipv6_part, IsIp, IsIpv4, IsIpv6, RefusesIp, RefusesIpv4}
+use Rattle.ep_ip.specs.IpPackets.{IpPacket, IpPart, ipv4_part, ipv6_part, IsIp, IsIpv4, IsIpv6, RefusesIp}
 use Rattle.ep_ip.specs.IpPackets.{ip_version_rows}
 use Rattle.ep_ip.specs.Ipv4.{FitsIpv4, ipv4_bytes, ipv4_checksum, ipv4_header_len}
 use Rattle.ep_ip.specs.Ip.{version_of}
-use Rattle.ep_ip.specs.Ipv6.{FitsIpv6, IsIpv6Header, IsIpv6Packet, ipv6_bytes, ipv6_payload_source}
+use Rattle.ep_ip.specs.Ipv6.{FitsIpv6, IsIpv6Packet, ipv6_bytes, ipv6_payload_source}
 use Rattle.ep_ip.proofs.PacketLemmas.{ip_decided, shown_packet}
 use Rattle.ep_packet.specs.declared.err.headers_write_error.HeadersWriteError.{HeadersWriteError}
 use Rattle.ep_packet.specs.declared.err.headers_write_error.HeadersWriteError.TheVariants as write_error
@@ -82,21 +80,6 @@ chain_in reading other taken number bytes (part ∷ parts) last rest is = (
   (is.1.0, is.1.1, chain_in reading other (number ∷ taken) (part_next part) is.1.0 parts last rest is.1.2),
 )
 
-refused_in : (reading other : Reading) (taken : List ℕ) (offset number : ℕ) (bytes : List ℕ)
-    (parts : List ExtensionPart) (error : ExtsSliceError)
-    → RefusesChainBehind ipv4 reading taken offset number bytes parts error
-    → RefusesChainBehind ipv4 other taken offset number bytes parts error
-refused_in reading other taken offset number bytes [] error refused = refused
-refused_in reading other taken offset number bytes (part ∷ parts) error refused = (
-  refused.0,
-  (
-    refused.1.0,
-    refused.1.1,
-    refused_in reading other (number ∷ taken) (offset + part_len part) (part_next part) refused.1.0 parts error
-        refused.1.2,
-  ),
-)
-
 pub ipv4_by_value : (bytes : List ℕ) (packet : IpPacket Ipv4Header) → IsIpv4 slices bytes packet
     → IsIpv4 by_value bytes packet
 ipv4_by_value bytes packet is = record {
@@ -108,25 +91,6 @@ ipv4_by_value bytes packet is = record {
   source = is.source;
 }
 
-pub ipv4_refused_by_value : (bytes : List ℕ) (error : Ipv4SliceError) → RefusesIpv4 slices bytes error
-    → RefusesIpv4 by_value bytes error
-ipv4_refused_by_value bytes error (inl row) = inl row
-ipv4_refused_by_value bytes error (inr refused) =
-    let cut = refused.0 in
-    let chain = refused.2 in
-    inr (
-      cut,
-      refused.1,
-      (
-        chain.0,
-        (
-          chain.1.0,
-          refused_in slices by_value [] 0 cut.header.protocol.0 cut.payload chain.1.0 _ chain.1.1,
-        ),
-        chain.2,
-      ),
-    )
-
 -- the value of an authentication header, where there is one, is that of the headers
 auth_value : (auth : Option IpAuthHeader)
     → ipv4_extensions_of (ipv4_parts (record { auth = auth })) ≡ record { auth = auth }
@@ -135,22 +99,6 @@ auth_value (Some header) = refl
 
 pub ipv4_value : (extensions : Ipv4Extensions) → ipv4_extensions_of (ipv4_parts extensions) ≡ extensions
 ipv4_value extensions = auth_value extensions.auth
-
--- ---- the cut of IPv6
-
--- a packet whose payload length cuts what is behind the header
-pub packet_cut : (bytes behind : List ℕ) (header : Ipv6Header) → IsIpv6Header bytes (header, behind)
-    → 0 < header.payload_length → header.payload_length ≤ length behind
-    → IsIpv6Packet bytes (parts_of header (take header.payload_length behind) (drop header.payload_length behind))
-packet_cut bytes behind header is some enough =
-    let n = header.payload_length in
-    let front = ipv6_bytes header in
-    record {
-      fits = is.fits;
-      parts = is.parts ∙ ap (λ (b : List ℕ). front ++ b) (sym (take-append-drop n behind))
-          ∙ sym (append_assoc front (take n behind) (drop n behind));
-      cut = inl (some, omega (arith, length-take n behind, enough));
-    }
 
 -- ---- numbers that lead from header to header
 
@@ -419,11 +367,6 @@ leads_4 headers header extensions last is walk =
     subst (λ (h : IpHeaders). LeadThrough h (ipv4_parts extensions) last.0) (sym is) (refl, walk)
 
 -- ---- when the length field cannot count a payload
-
-pub sum_passes : {E : Type 0} (len extensions most : ℕ) (first second : E) → 2 ^ 64 ≤ len + extensions
-    → first_row ((nat_lt (2 ^ 64 - 1) (len + extensions), first) ∷ (nat_lt most (len + extensions), second) ∷ [])
-    ≡ Some first
-sum_passes len extensions most first second passes = grind (arith, common_steps)
 
 pub sum_above : {E : Type 0} (len extensions most : ℕ) (first second : E) → len + extensions < 2 ^ 64
     → most < len + extensions

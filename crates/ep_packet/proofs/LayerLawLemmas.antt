@@ -1,7 +1,7 @@
 -- The laws of the layers, as the proofs of the walk cite them.
 use Rattle.std.proofs.Common.{ℕ, List}
 use Rattle.ep_base.specs.Bytes.{AreBytes}
-use Rattle.ep_base.specs.Layer.{slices}
+use Rattle.ep_base.specs.Readings.{slices}
 use Rattle.ep_base.specs.Tables.{IsDecided}
 use Rattle.ep_base.proofs.TableLemmas.{decided}
 use Rattle.ep_link.proofs.ArpLemmas.{arp_is_read}

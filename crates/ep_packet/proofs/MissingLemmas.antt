@@ -4,7 +4,7 @@ use Rattle.std.specs.Prelude.{⊤}
 use Rattle.std.specs.Int.{w16, to_be_bytes}
 use Rattle.ep_base.specs.Bytes.{AreBytes}
 use Rattle.ep_base.specs.IpPayload.{IpPayload}
-use Rattle.ep_base.specs.Layer.{Reading, cut_by}
+use Rattle.ep_base.specs.Readings.{Reading, cut_by}
 use Rattle.ep_base.specs.Missing.{CountsMissing, HasExactLength, IsOfBytesAtHand, that_row}
 use Rattle.ep_base.specs.Tables.{Parts, parts_of, rows_as}
 use Rattle.ep_base.proofs.BytesLemmas.{AreBytes-payload}

@@ -3,7 +3,7 @@ use Rattle.std.proofs.Common.{◌≡◌, ℕ, List, [], ◌++◌, length, Some, 
 use Rattle.std.specs.Prelude.{IfSome}
 use Rattle.std.proofs.lemmas.List.{append-nil}
 use Rattle.ep_base.specs.IpPayload.{IpPayload}
-use Rattle.ep_base.specs.Layer.{Reading}
+use Rattle.ep_base.specs.Readings.{Reading}
 use Rattle.ep_link.specs.Arp.{arp_bytes}
 use Rattle.ep_ip.specs.declared.ipv4_header.Ipv4Header.{Ipv4Header}
 use Rattle.ep_ip.specs.declared.ipv6_header.Ipv6Header.{Ipv6Header}

@@ -1,6 +1,6 @@
 -- IP headers that are read into room: what is read of a packet, and that it was filled in.
 use Rattle.std.proofs.Common.{◌≡◌, ℕ, ◌+◌, false, List, [], length, refl}
-use Rattle.ep_base.specs.Layer.{headers}
+use Rattle.ep_base.specs.Readings.{headers}
 use Rattle.ep_base.specs.Tables.{parts_of}
 use Rattle.ep_ext.specs.Chains.{IsExtensionChain, chain_fragments, chain_of, ipv6, is_ipv6_extension}
 use Rattle.ep_ext.specs.ExtensionParts.{ExtensionPart}

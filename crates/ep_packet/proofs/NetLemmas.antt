@@ -2,10 +2,10 @@
 use Rattle.std.proofs.Common.{◌≡◌, ℕ, ◌+◌, List, [], Option, Some, None, refl, ap, subst, ◌∙◌}
 use Rattle.ep_base.specs.Bytes.{AreBytes}
 use Rattle.ep_base.specs.IpPayload.{IpPayload}
-use Rattle.ep_base.specs.Layer.{Reading}
+use Rattle.ep_base.specs.Readings.{Reading}
 use Rattle.ep_base.specs.Tables.{IsDecided}
 use Rattle.ep_base.proofs.BytesLemmas.{AreBytes-payload}
-use Rattle.ep_base.proofs.DecidedLemmas.{same_image, decided_by, decided_as, refused_as, IsBoth, RefusesEither, decided_then}
+use Rattle.ep_base.proofs.DecidedLemmas.{same_image, decided_by, decided_as, refused_as, decided_then}
 use Rattle.ep_link.specs.Arp.{Arp}
 use Rattle.ep_transport.specs.TransportParts.{TransportLayer}
 use Rattle.ep_packet.specs.declared.err.slice_error.SliceError.{SliceError}
@@ -76,17 +76,6 @@ LayerPart = NetLayer × Option TransportLayer
 
 abbrev net_part : LayerPart → NetPart
 net_part part = (Some part.0, part.1)
-
--- the bytes are a net layer of a kind whose payload has this transport layer
-abbrev IsLayerPart : Reading → NetKind → List ℕ → LayerPart → Type 0
-IsLayerPart reading kind bytes =
-    IsBoth (IsNetLayer reading kind bytes) (λ layer. IsTransportBehind reading (net_payload layer))
-
--- the bytes are no such net layer, or its payload has no transport layer where it must
-abbrev RefusesLayerPart : Reading → NetKind → ℕ → List ℕ → SliceError → Type 0
-RefusesLayerPart reading kind offset bytes =
-    RefusesEither (IsNetLayer reading kind bytes) (RefusesNetLayer reading kind offset bytes)
-    (λ layer. RefusesTransportBehind reading (offset + net_header_len layer) (net_payload layer))
 
 -- where no net layer is read there is none
 no_net_only : (reading : Reading) (bytes : List ℕ) (part : NetPart) → IsNetPartOf reading None bytes part

@@ -2,7 +2,7 @@
 use Rattle.std.proofs.Common.{◌≡◌, ℕ, ◌+◌, List, ◌++◌, length, Option, Some, refl, sym, ap, subst, inr, arith, length-append}
 use Rattle.std.specs.Option.{option_map}
 use Rattle.ep_base.specs.IpPayload.{IpPayload}
-use Rattle.ep_base.specs.Layer.{slices}
+use Rattle.ep_base.specs.Readings.{slices}
 use Rattle.ep_ip.specs.declared.ip_slice.IpSlice.{IpSlice}
 use Rattle.ep_ip.specs.declared.ip_slice.IpSlice.TheVariants as ip_slice
 use Rattle.ep_ip.specs.declared.ipv4_slice.Ipv4Slice.{Ipv4Slice}

@@ -1,7 +1,7 @@
 -- That bytes which are a frame as slices are read are one as headers are read.
 use Rattle.std.proofs.Common.{◌≡◌, ℕ, zero, suc, Bool, List, [], ◌∷◌, ◌++◌, Option, Some, None, refl, sym, ap, subst, ◌∙◌, append_assoc}
 use Rattle.ep_base.specs.IpPayload.{IpPayload}
-use Rattle.ep_base.specs.Layer.{slices, headers}
+use Rattle.ep_base.specs.Readings.{slices, headers}
 use Rattle.ep_base.specs.declared.ether_type.EtherType.{EtherType}
 use Rattle.ep_ext.specs.Chains.{IpVersion, ipv4 as version_4, ipv6 as version_6, ExtensionChain, IsChainBehind, IsExtensionChain, NoKindTwice, chain_of}
 use Rattle.ep_ext.specs.ExtensionParts.{ExtensionPart}

@@ -3,7 +3,7 @@
 -- last layer, and what the cuts left, the innermost first.
 use Rattle.std.specs.Prelude.{◌≡◌, ◌==◌, if◌then◌else◌, ℕ, zero, suc, List, [], ◌∷◌, Option, Some, None}
 use Rattle.ep_base.specs.EtherTypes.{ipv4_type, ipv6_type, arp_type}
-use Rattle.ep_base.specs.Layer.{Reading, slices}
+use Rattle.ep_base.specs.Readings.{Reading, slices}
 use Rattle.ep_base.specs.Tables.{Parts}
 use Rattle.ep_base.specs.declared.ether_type.EtherType.{EtherType}
 use Rattle.ep_base.specs.declared.len_source.LenSource.TheVariants as source

@@ -1,6 +1,6 @@
 -- Why bytes are no frame: some layers stand, and the bytes of the next one meet a row of its refusal table.
 use Rattle.std.specs.Prelude.{ℕ, zero, suc, ◌+◌, ◌⊎◌, List, Option, Some, None}
-use Rattle.ep_base.specs.Layer.{Reading, slices, behind_header}
+use Rattle.ep_base.specs.Readings.{Reading, slices, behind_header}
 use Rattle.ep_base.specs.Tables.{Parts, RefusesAs}
 use Rattle.ep_base.specs.declared.ether_type.EtherType.{EtherType}
 use Rattle.ep_base.specs.declared.err.len_error.LenError.{LenError}

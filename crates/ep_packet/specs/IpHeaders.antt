@@ -4,7 +4,7 @@ use Rattle.std.specs.Prelude.{None, Ok, Err}
 use Rattle.ep_base.specs.EtherTypes.{ipv4_type, ipv6_type}
 use Rattle.ep_base.specs.IpNumbers.{authentication_number}
 use Rattle.ep_base.specs.IpPayload.{IpPayload, ip_payload_of}
-use Rattle.ep_base.specs.Layer.{headers as by_value}
+use Rattle.ep_base.specs.Readings.{headers as by_value}
 use Rattle.ep_base.specs.Tables.{RefusesAs}
 use Rattle.ep_base.specs.declared.ip_number.IpNumber.{IpNumber}
 use Rattle.ep_base.specs.declared.ip_payload_slice.IpPayloadSlice.{IpPayloadSlice}

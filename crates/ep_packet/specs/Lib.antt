@@ -22,7 +22,7 @@ pub mod PacketComparisons
 -- what the contracts name of the crates below
 pub use Rattle.ep_base.specs.Bytes
 pub use Rattle.ep_base.specs.IpPayload
-pub use Rattle.ep_base.specs.Layer
+pub use Rattle.ep_base.specs.Readings
 pub use Rattle.ep_base.specs.Missing
 pub use Rattle.ep_base.specs.Tables
 pub use Rattle.ep_link.specs.EtherPayloads

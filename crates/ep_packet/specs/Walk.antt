@@ -1,7 +1,7 @@
 -- What the walk over a frame has found, as the private calls of it say it.
 use Rattle.std.specs.Prelude.{◌≡◌, ◌≤◌, ℕ, ◌+◌, length, List, map, Option, Some}
 use Rattle.std.specs.Option.{option_and_then, option_map}
-use Rattle.ep_base.specs.Layer.{slices}
+use Rattle.ep_base.specs.Readings.{slices}
 use Rattle.ep_base.specs.declared.ether_type.EtherType.{EtherType}
 use Rattle.ep_link.specs.declared.link.link_slice.LinkSlice.{LinkSlice}
 use Rattle.ep_link.specs.declared.link_ext.link_ext_slice.LinkExtSlice.{LinkExtSlice}

@@ -1,7 +1,7 @@
 //! How IP headers are read from a slice.
 
 ghost use Rattle.std.specs.Prelude.{◌≡◌, ◌+◌, ◌≤◌, IfOk, IfErr, List, ℕ, length};
-ghost use Rattle.ep_base.specs.Layer.{headers};
+ghost use Rattle.ep_base.specs.Readings.{headers};
 ghost use Rattle.ep_base.specs.Tables.{parts_of, RefusesAs};
 ghost use Rattle.ep_base.specs.declared.err.ip.HeaderError.TheVariants as content;
 ghost use Rattle.ep_base.specs.declared.err.ip.HeadersError.TheVariants as headers_error;
@@ -12,7 +12,7 @@ ghost use Rattle.ep_ip.specs.IpPackets.{IpPacket, IpPart, IsIp, IsIpv4, IsIpv6, 
 ghost use Rattle.ep_ip.specs.IpPackets.{ipv4_part, ipv6_part, of_ipv4_error, of_ipv6_error};
 ghost use Rattle.ep_ip.specs.Ipv6.{IsIpv6Packet, RefusesIpv6Packet, ipv6_payload_source};
 ghost use Rattle.ep_base.specs.IpPayload.{ip_payload_of};
-ghost use Rattle.ep_base.specs.Layer.{len_error};
+ghost use Rattle.ep_base.specs.Readings.{len_error};
 ghost use Rattle.ep_base.specs.declared.err.layer.Layer.TheVariants as layer;
 ghost use Rattle.ep_base.specs.declared.len_source.LenSource.TheVariants as source;
 ghost use Rattle.ep_ext.specs.Chains.{is_ipv6_extension};
@@ -29,7 +29,7 @@ use ep_ip::{Ipv4Slice, Ipv6Header, Ipv6HeaderSlice};
 
 impl IpHeaders {
     ghost use Rattle.std.specs.Prelude.{◌≡◌, IfOk, IfErr, IsOkAnd};
-    ghost use Rattle.ep_base.specs.Layer.{headers};
+    ghost use Rattle.ep_base.specs.Readings.{headers};
     ghost use Rattle.ep_base.specs.Tables.{RefusesAs};
     ghost use Rattle.ep_ip.specs.declared.ipv4_header.Ipv4Header.{Ipv4Header};
     ghost use Rattle.ep_ip.specs.declared.ipv6_header.Ipv6Header.{Ipv6Header};

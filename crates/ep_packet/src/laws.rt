@@ -2,7 +2,7 @@
 
 ghost use Rattle.std.specs.Prelude.{◌≡◌, ◌↔◌, ◌+◌, ◌≤◌, ◌++◌, ℕ, List, Option, IsTrue, length};
 ghost use Rattle.ep_base.specs.Bytes.{AreBytes};
-ghost use Rattle.ep_base.specs.Layer.{Reading};
+ghost use Rattle.ep_base.specs.Readings.{Reading};
 ghost use Rattle.ep_base.specs.Missing.{CountsMissing, HasExactLength, IsOfBytesAtHand, TellsCut, that_row};
 ghost use Rattle.ep_base.specs.Tables.{IsDecided};
 ghost use Rattle.ep_base.specs.declared.err.len_error.LenError.{LenError};
@@ -32,44 +32,19 @@ use crate::{
     TransportSlice,
 };
 
-/// Bytes are a frame, of one list of layers, or are refused with one error, and never both, in each reading. It follows
-/// from the laws of the layers alone, which the body names.
+/// Bytes are a frame, of one list of layers, or are refused with one error, and never both, in each reading.
 pub fn frames()
     ensures slices { (entry : Entry) (bytes : List ℕ) → AreBytes bytes
         → IsDecided (IsFrame entry bytes) (RefusesFrame entry bytes) }
     ensures readings { (reading : Reading) (entry : Entry) (bytes : List ℕ) → AreBytes bytes
         → IsDecided (IsFrameIn reading entry bytes) (RefusesFrameIn reading entry bytes) }
-{
-    ep_link::laws::ethernet2();
-    ep_link::laws::linux_sll();
-    ep_link::laws::link_extension();
-    ep_link::laws::link_extension_bytes();
-    ep_link::laws::arp();
-    ep_ip::laws::ipv4();
-    ep_ip::laws::ipv6();
-    ep_ip::laws::ip();
-    ep_ip::laws::ip_bytes();
-    ep_transport::laws::transport();
-    ep_transport::laws::transport_bytes();
-}
+{}
 
 /// The bytes of a frame are its headers from the outside in, the payload of its last layer, and what the cuts left.
 pub fn frame_bytes()
     ensures { (reading : Reading) (entry : Entry) (bytes : List ℕ) (layers : Layers)
         → IsFrameIn reading entry bytes layers → AreInOrder bytes layers }
-{
-    ep_link::laws::ethernet2();
-    ep_link::laws::linux_sll();
-    ep_link::laws::link_extension();
-    ep_link::laws::link_extension_bytes();
-    ep_link::laws::arp();
-    ep_ip::laws::ipv4();
-    ep_ip::laws::ipv6();
-    ep_ip::laws::ip();
-    ep_ip::laws::ip_bytes();
-    ep_transport::laws::transport();
-    ep_transport::laws::transport_bytes();
-}
+{}
 
 /// Bytes that encode a header are as many as the header says: a link header, a link extension and some of them, the
 /// headers of a net layer, and a transport header. So each part of a frame begins where the summed lengths of those

@@ -4,7 +4,7 @@
 
 ghost use Rattle.std.specs.Prelude.{◌≡◌, IfOk, IfErr, List, ℕ, Some};
 ghost use Rattle.ep_base.specs.IpPayload.{ip_payload_of};
-ghost use Rattle.ep_base.specs.Layer.{headers};
+ghost use Rattle.ep_base.specs.Readings.{headers};
 ghost use Rattle.ep_base.specs.Tables.{RefusesAs};
 ghost use Rattle.ep_ext.specs.Ipv6Chains.{no_ipv6_extensions};
 ghost use Rattle.ep_ip.specs.declared.ipv4_header.Ipv4Header.{Ipv4Header};

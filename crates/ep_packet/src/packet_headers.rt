@@ -1,7 +1,7 @@
 //! A packet, decoded into its headers.
 
 ghost use Rattle.std.specs.Prelude.{◌≡◌, ◌+◌, ◌-◌, ◌<◌, ◌^◌, length, IfOk, IfErr, Some};
-ghost use Rattle.ep_base.specs.Layer.{headers};
+ghost use Rattle.ep_base.specs.Readings.{headers};
 ghost use Rattle.ep_base.specs.IpPayload.{ip_payload_of};
 ghost use Rattle.ep_link.specs.EtherPayloads.{ether_payload_of};
 ghost use Rattle.ep_link.specs.LinkSlices.{whole_ether_payload};

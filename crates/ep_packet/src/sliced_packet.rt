@@ -1,7 +1,7 @@
 //! A packet, sliced into its layers.
 
 ghost use Rattle.std.specs.Prelude.{◌≡◌, ◌+◌, ◌<◌, ◌^◌, length, IfOk, IfErr};
-ghost use Rattle.ep_base.specs.Layer.{slices};
+ghost use Rattle.ep_base.specs.Readings.{slices};
 ghost use Rattle.ep_packet.specs.Frame.{most_link_exts};
 ghost use Rattle.ep_packet.specs.FrameRefusals.{RefusesInside};
 ghost use Rattle.ep_packet.specs.Walk.{HoldsBehind};
@@ -34,7 +34,7 @@ impl<'a> SlicedPacket<'a> {
     ghost use Rattle.std.specs.Option.{option_copied, option_map};
     ghost use Rattle.ep_base.specs.IpPayload.{ip_payload_of};
     ghost use Rattle.ep_packet.specs.declared.entry.Entry.TheVariants.{Ethernet as ethernet, LinuxSll as linux_sll, EtherType as of_type, Ip as ip};
-    ghost use Rattle.ep_base.specs.Layer.{slices};
+    ghost use Rattle.ep_base.specs.Readings.{slices};
     ghost use Rattle.ep_packet.specs.Layers.{Layers, layers_of, no_layers, ip_payload_in, carries_fragment};
     ghost use Rattle.ep_link.specs.EtherPayloads.{ether_payload_of};
     ghost use Rattle.ep_packet.specs.Frame.{IsFrame, most_link_exts};
@@ -283,8 +283,10 @@ impl<'a> SlicedPacket<'a> {
         })
     }
 
-    /// What set the end of the bytes behind the link extensions.
-    fn extensions_len_source(&self) -> LenSource
+    /// What set the end of the bytes behind the link extensions: the short length of a MACsec tag among them, or else the
+    /// slice.
+    #[inline]
+    pub fn extensions_len_source(&self) -> LenSource
         ensures { result ≡ extensions_len_source (layers_of self.now).link_exts }
     {
         for extension in self.link_exts.iter() {

@@ -4,7 +4,6 @@ ghost use Rattle.std.specs.Prelude.{◌≡◌, ◌≤◌, ◌<◌, ◌+◌, ◌^
 ghost use Rattle.std.specs.Option.{option_map};
 ghost use Rattle.ep_link.specs.LinkExtensions.{link_extension_of};
 ghost use Rattle.ep_link.specs.LinkSlices.{link_layer_of};
-ghost use Rattle.ep_transport.specs.TransportHeaders.{transport_header_len};
 ghost use Rattle.ep_transport.specs.TransportParts.{transport_layer_of};
 ghost use Rattle.ep_packet.specs.FrameBytes.{AreInOrder, last_payload, link_payload, payload_behind};
 ghost use Rattle.ep_packet.specs.Offsets.{link_len, net_len, payload_offset, tag_len, tags_len, transport_len};
@@ -14,7 +13,7 @@ ghost use Rattle.ep_packet.specs.Layers.{layers_of, net_layer_of};
 use crate::net_slice::NetSlice;
 use crate::sliced_packet::SlicedPacket;
 use ep_link::{LinkExtSlice, LinkSlice};
-use ep_transport::{TcpHeader, TransportSlice};
+use ep_transport::TransportSlice;
 
 impl<'a> SlicedPacket<'a> {
     /// The bytes of the payload of the last layer; none behind an ARP packet.
@@ -109,21 +108,7 @@ fn transport_len(transport: &Option<TransportSlice<'_>>) -> usize
     ensures bound { result ≤ 60 }
 {
     match transport {
-        Some(layer) => transport_header_len(layer),
+        Some(layer) => layer.header_len(),
         None => 0,
-    }
-}
-
-/// The same of a layer that is there.
-fn transport_header_len(layer: &TransportSlice<'_>) -> usize
-    ensures value { result ≡ transport_header_len (transport_layer_of layer.now).header }
-    ensures bound { result ≤ 60 }
-{
-    match layer {
-        TransportSlice::Udp(datagram) => datagram.header_len(),
-        TransportSlice::Tcp(segment) => TcpHeader::MIN_LEN + segment.options().len(),
-        // Its bytes have a bound, which its length alone does not tell.
-        TransportSlice::Icmpv4(message) => message.to_header().to_bytes().len(),
-        TransportSlice::Icmpv6(message) => message.header_len(),
     }
 }

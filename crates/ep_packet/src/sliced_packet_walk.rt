@@ -5,7 +5,7 @@
 
 ghost use Rattle.std.specs.Prelude.{◌≡◌, ◌+◌, ◌<◌, ◌^◌, [], length, IfOk, IfErr, Some};
 ghost use Rattle.std.specs.Option.{option_map};
-ghost use Rattle.ep_base.specs.Layer.{slices};
+ghost use Rattle.ep_base.specs.Readings.{slices};
 ghost use Rattle.ep_base.specs.IpPayload.{ip_payload_of};
 ghost use Rattle.ep_ext.specs.Ipv4Chains.{ipv4_slice_bytes};
 ghost use Rattle.ep_transport.specs.TransportParts.{transport_layer_of};

@@ -2,7 +2,7 @@
 
 ghost use Rattle.std.specs.Prelude.{◌≡◌, ◌⊎◌, ℕ, List};
 ghost use Rattle.ep_base.specs.Bytes.{AreBytes};
-ghost use Rattle.ep_base.specs.Layer.{headers};
+ghost use Rattle.ep_base.specs.Readings.{headers};
 ghost use Rattle.ep_packet.specs.Frame.{IsFrame, IsFrameIn, most_link_exts};
 ghost use Rattle.ep_packet.specs.Layers.{Layers};
 ghost use Rattle.ep_packet.specs.FrameRefusals.{RefusesFrame, RefusesFrameIn};

@@ -1,5 +1,5 @@
 use Rattle.std.proofs.Common.{[], false, ap, sym, ◌∙◌, arith}
-use Rattle.ep_base.specs.Layer.{headers}
+use Rattle.ep_base.specs.Readings.{headers}
 use Rattle.ep_base.specs.declared.err.len_error.LenError.{LenError}
 use Rattle.ep_ext.specs.declared.ipv6_exts.Ipv6Extensions.{Ipv6Extensions}
 use Rattle.ep_ext.specs.Chains.{chain_fragments, chain_of}

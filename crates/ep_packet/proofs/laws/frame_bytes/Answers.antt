@@ -1,23 +1,6 @@
 use Rattle.ep_packet.proofs.FrameBytesLemmas.{frame_in_order}
+use Rattle.ep_packet.proofs.LayerLawLemmas.{layer_laws}
 use Rattle.ep_packet.proofs.laws.frame_bytes.Goals as goal
 
 pub returns : goal.returns
-returns c = frame_in_order (record {
-  ethernet2 = c.ethernet2.ensures;
-  linux_sll = c.linux_sll.ensures;
-  extension = record {
-    cases = c.link_extension.ensures.cases;
-    decided = c.link_extension.ensures.decided;
-    begins = c.link_extension.ensures.begins;
-    refused = c.link_extension.ensures.refused;
-    bytes = c.link_extension_bytes.ensures;
-  };
-  arp = c.arp.ensures;
-  ipv4 = c.ipv4.ensures;
-  ipv6 = c.ipv6.ensures;
-  ip = c.ip.ensures;
-  ipv4_bytes = c.ip_bytes.ensures.ipv4;
-  ipv6_bytes = c.ip_bytes.ensures.ipv6;
-  transport = c.transport.ensures;
-  transport_bytes = c.transport_bytes.ensures;
-})
+returns c = frame_in_order layer_laws

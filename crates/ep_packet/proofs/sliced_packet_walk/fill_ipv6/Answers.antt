@@ -1,6 +1,6 @@
 use Rattle.std.proofs.Common.{ap, sym, arith, inl, length, length-append}
 use Rattle.std.proofs.lemmas.Result.{err_from_is_err_and}
-use Rattle.ep_base.specs.Layer.{slices}
+use Rattle.ep_base.specs.Readings.{slices}
 use Rattle.ep_base.specs.declared.err.len_error.LenError.{LenError}
 use Rattle.ep_ip.proofs.RefusalPlaceLemmas.{ipv6_start, ipv6_within}
 use Rattle.ep_packet.specs.declared.net_slice.NetSlice.TheVariants as slice

@@ -3,7 +3,7 @@ use Rattle.std.proofs.Common.{◌∙◌, arith}
 use Rattle.std.specs.Option.{option_map}
 use Rattle.std.proofs.lemmas.Result.{IfOk-weaker, IfErr-weaker}
 use Rattle.ep_base.specs.IpPayload.{IpPayload, ip_payload_of}
-use Rattle.ep_base.specs.Layer.{slices}
+use Rattle.ep_base.specs.Readings.{slices}
 use Rattle.ep_ext.specs.Ipv4Chains.{ipv4_slice_bytes as extension_bytes}
 use Rattle.ep_ext.specs.Ipv6ExtensionSlices.{ipv6_slice_bytes as extensions_bytes}
 use Rattle.ep_ip.specs.declared.ipv4_slice.Ipv4Slice.{Ipv4Slice}

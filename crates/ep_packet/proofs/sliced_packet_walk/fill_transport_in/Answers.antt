@@ -1,5 +1,5 @@
 use Rattle.std.proofs.Common.{ap, arith}
-use Rattle.ep_base.specs.Layer.{slices}
+use Rattle.ep_base.specs.Readings.{slices}
 use Rattle.ep_base.specs.declared.err.len_error.LenError.{LenError}
 use Rattle.ep_transport.proofs.TransportPlaceLemmas.{at_start, transport_start}
 use Rattle.ep_packet.proofs.sliced_packet_walk.fill_transport_in.Goals as goal

@@ -1,6 +1,6 @@
 use Rattle.std.proofs.Common.{arith}
 use Rattle.ep_base.specs.Bytes.{AreBytes}
-use Rattle.ep_base.specs.Layer.{headers}
+use Rattle.ep_base.specs.Readings.{headers}
 use Rattle.ep_ip.specs.declared.ipv4_header.Ipv4Header.{Ipv4Header}
 use Rattle.ep_ip.specs.IpPackets.{IpPacket, ipv4_part}
 use Rattle.ep_ip.proofs.PacketLemmas.{ipv4_decided}

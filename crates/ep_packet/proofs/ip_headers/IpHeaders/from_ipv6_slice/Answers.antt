@@ -1,6 +1,6 @@
 use Rattle.std.proofs.Common.{arith}
 use Rattle.ep_base.specs.Bytes.{AreBytes}
-use Rattle.ep_base.specs.Layer.{headers}
+use Rattle.ep_base.specs.Readings.{headers}
 use Rattle.ep_ip.specs.declared.ipv6_header.Ipv6Header.{Ipv6Header}
 use Rattle.ep_ip.specs.IpPackets.{IpPacket, ipv6_part}
 use Rattle.ep_ip.proofs.PacketLemmas.{ipv6_decided}

@@ -1,6 +1,6 @@
 use Rattle.std.proofs.Common.{refl, ap, arith}
 use Rattle.std.proofs.lemmas.Result.{IfOk-weaker, IfErr-weaker}
-use Rattle.ep_base.specs.Layer.{headers}
+use Rattle.ep_base.specs.Readings.{headers}
 use Rattle.ep_base.specs.declared.err.len_error.LenError.{LenError}
 use Rattle.ep_ip.specs.IpPackets.{ipv6_part}
 use Rattle.ep_ip.proofs.RefusalPlaceLemmas.{ipv6_start, ipv6_within}

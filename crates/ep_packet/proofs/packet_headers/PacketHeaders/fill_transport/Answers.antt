@@ -1,5 +1,5 @@
 use Rattle.std.proofs.Common.{ap, arith}
-use Rattle.ep_base.specs.Layer.{headers}
+use Rattle.ep_base.specs.Readings.{headers}
 use Rattle.ep_base.specs.declared.err.len_error.LenError.{LenError}
 use Rattle.ep_transport.proofs.TransportPlaceLemmas.{at_start, transport_start}
 use Rattle.ep_packet.proofs.packet_headers.PacketHeaders.fill_transport.Goals as goal
