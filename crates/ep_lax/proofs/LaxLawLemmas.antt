@@ -1,0 +1,457 @@
+-- That bytes whose first header stands are read laxly in one way, and others are refused with one error.
+use Rattle.std.proofs.Common.{◌≡◌, ◌⊎◌, ◌==◌, if◌then◌else◌, ℕ, zero, suc, ◌+◌, ◌≤◌, Bool, true, false, List, [], ◌∷◌, ◌++◌, Option, Some, None, refl, sym, ap, subst, ◌∙◌, inl, inr, arith}
+use Rattle.ep_base.specs.Bytes.{AreBytes}
+use Rattle.ep_base.specs.EtherTypes.{ipv4_type, ipv6_type, arp_type}
+use Rattle.ep_base.specs.IpPayload.{IpPayload}
+use Rattle.ep_base.specs.LaxCut.{LaxCut, IsLaxCut}
+use Rattle.ep_base.specs.Readings.{headers, slices}
+use Rattle.ep_base.specs.Tables.{IsDecided, IsOne, Parts, RefusesAs, parts_of}
+use Rattle.ep_base.specs.declared.ether_type.EtherType.{EtherType}
+use Rattle.ep_base.specs.declared.len_source.LenSource.TheVariants as source
+use Rattle.ep_base.specs.declared.err.ipv6_exts.HeaderSliceError.{HeaderSliceError}
+use Rattle.ep_base.proofs.BytesLemmas.{AreBytes-back, AreBytes-payload}
+use Rattle.ep_base.proofs.DecidedLemmas.{IsBoth, decided_as, one_as, one_either, refused_as, same_image}
+use Rattle.ep_base.proofs.LaxCutLemmas.{lax_cut_is_one}
+use Rattle.ep_base.proofs.TableLemmas.{decided}
+use Rattle.ep_ext.specs.Chains.{IpVersion, ipv4, ipv6, ExtensionChain, IsChainBehind}
+use Rattle.ep_ext.specs.ExtensionParts.{ExtensionPart, part_next}
+use Rattle.ep_ext.specs.FrontChains.{AreInFront, IsFrontChain}
+use Rattle.ep_ext.proofs.PartLemmas.{part_behind_fits}
+use Rattle.ep_ip.specs.declared.ipv4_header.Ipv4Header.{Ipv4Header}
+use Rattle.ep_ip.specs.declared.ipv6_header.Ipv6Header.{Ipv6Header}
+use Rattle.ep_ip.specs.IpPackets.{IpPacket}
+use Rattle.ep_ip.specs.Ipv4.{RefusesIpv4Header, ipv4_header_len, of_header_error}
+use Rattle.ep_ip.specs.Ipv6.{RefusesIpv6Header, of_header_error as of_ipv6_header_error}
+use Rattle.ep_ip.proofs.Ipv4Lemmas.{ipv4_header_is_read}
+use Rattle.ep_ip.proofs.Ipv6Lemmas.{ipv6_header_is_read}
+use Rattle.ep_link.specs.declared.link_ext.macsec_header.MacsecHeader.{MacsecHeader}
+use Rattle.ep_link.specs.declared.link_ext.single_vlan_header.SingleVlanHeader.{SingleVlanHeader}
+use Rattle.ep_link.specs.Arp.{Arp, IsArp, RefusesArp}
+use Rattle.ep_link.specs.LinkExtensions.{LinkExtension, vlan, macsec, BeginsLinkExtension, IsVlanType, IsMacsecType, extension_header, extension_payload, extension_type, link_ext_header_len}
+use Rattle.ep_link.specs.Macsec.{RefusesMacsecHeader, macsec_header_len, macsec_payload_bytes}
+use Rattle.ep_link.specs.Vlan.{IsVlan, RefusesVlan, vlan_bytes}
+use Rattle.ep_link.proofs.ArpLemmas.{arp_is_read}
+use Rattle.ep_link.proofs.LinkExtensionLemmas.{cases_begins, vlan_not_macsec}
+use Rattle.ep_link.proofs.MacsecLemmas.{macsec_header_is_read}
+use Rattle.ep_link.proofs.VlanLemmas.{vlan_is_read}
+use Rattle.ep_transport.specs.declared.transport_header.TransportHeader.{TransportHeader}
+use Rattle.ep_transport.specs.declared.transport_header.TransportHeader.TheVariants as header
+use Rattle.ep_transport.specs.TransportParts.{TransportLayer, IsTransportPart, RefusesTransportPart}
+use Rattle.ep_packet.specs.declared.err.slice_error.SliceError.{SliceError}
+use Rattle.ep_packet.specs.Frame.{NetKind, only_ipv4, only_ipv6, only_arp, any_ip, net_kind}
+use Rattle.ep_packet.specs.FrameRefusals.{RefusesTransportIn, extension_refusal, ipv4_refusal, ipv6_refusal, len_refusal, net_header_len, transport_refusal}
+use Rattle.ep_packet.specs.Layers.{NetLayer, ipv4_layer, ipv6_layer}
+use Rattle.ep_packet.proofs.LayerLawLemmas.{layer_laws}
+use Rattle.ep_lax.specs.LaxIp.{LaxIp, IsLaxIpv4, IsLaxIpv4Behind, IsLaxIpv6, IsLaxIpv6Behind}
+use Rattle.ep_lax.specs.LaxLayers.{LaxTransport, LaxNet, layer_cut, net_with, no_transport, no_net, told}
+use Rattle.ep_lax.specs.LaxMacsec.{IsLaxMacsec, lax_macsec_payload, macsec_says}
+use Rattle.ep_lax.specs.Lax.{IsHeaderCutLaxly, IsCutLaxly, IsLaxTransport, IsInsideIp, IsIpLayer, IsIpv4Net, IsIpv6Net, IsNoNet, IsLaxNet, IsLaxExtension, RefusesLaxExtension, IsLaxInside, arp_net, chain_refusal}
+use Rattle.ep_lax.proofs.LaxIpLemmas.{behind_ipv4_fits, behind_ipv6_fits, cut_fits, ipv4_behind_is_one, ipv6_behind_is_one, one_lax_ipv4, one_lax_ipv6, refused_no_lax_ipv4, refused_no_lax_ipv6}
+use Rattle.ep_lax.proofs.LaxMacsecLemmas.{one_lax_macsec, payload_by_is, refused_no_lax_macsec}
+
+-- this value alone
+one_same : {V : Type 0} (value : V) → IsOne (λ (other : V). other ≡ value)
+one_same value = record { value = value; is = refl; only = λ other same. same }
+
+-- ---- the transport layer
+
+header_cut_is_one : (outer : Bool) (header : TransportHeader) (payload : List ℕ)
+    → IsOne (IsHeaderCutLaxly outer header payload)
+header_cut_is_one outer (header.Udp udp) payload =
+    one_as (λ (cut : LaxCut). layer_cut (header.Udp udp) cut.payload cut.incomplete)
+    (lax_cut_is_one 8 udp.length source.UdpHeaderLen outer 8 payload (omega arith))
+    (record { there = λ cut is. (cut, is, refl); back = λ lax is. is })
+header_cut_is_one outer (header.Tcp tcp) payload = one_same (layer_cut (header.Tcp tcp) payload outer)
+header_cut_is_one outer (header.Icmpv4 icmp) payload = one_same (layer_cut (header.Icmpv4 icmp) payload outer)
+header_cut_is_one outer (header.Icmpv6 icmp) payload = one_same (layer_cut (header.Icmpv6 icmp) payload outer)
+
+cut_is_one : (outer : Bool) (part : Option TransportLayer) → IsOne (IsCutLaxly outer part)
+cut_is_one outer None = one_same (no_transport outer None)
+cut_is_one outer (Some layer) = header_cut_is_one outer layer.header layer.payload
+
+pub transport_is_one : (offset : ℕ) (outer : Bool) (payload : IpPayload) → AreBytes payload.bytes
+    → IsOne (IsLaxTransport offset outer payload)
+transport_is_one offset outer payload fits =
+    one_either {Is = IsTransportPart headers payload.number payload.fragmented payload.bytes}
+    {Refuses = RefusesTransportIn headers offset payload} {There = IsCutLaxly outer}
+    {Instead = λ (error : SliceError) (lax : LaxTransport). lax ≡ no_transport outer (Some (told error))}
+    (refused_as (transport_refusal offset payload.source)
+    (layer_laws.transport headers payload.number payload.fragmented payload.bytes fits))
+    (λ part is. cut_is_one outer part)
+    (λ error refused. one_same (no_transport outer (Some (told error))))
+
+-- ---- the net layer
+
+inside_ip_is_one : (version : IpVersion) (offset len : ℕ) (incomplete : Bool) (payload : IpPayload)
+    (stop : Option HeaderSliceError) → AreBytes payload.bytes
+    → IsOne (IsInsideIp version offset len incomplete payload stop)
+inside_ip_is_one version offset len incomplete payload None fits =
+    transport_is_one (offset + len) incomplete payload fits
+inside_ip_is_one version offset len incomplete payload (Some refused) fits =
+    one_same (no_transport incomplete (Some (told (chain_refusal version offset refused))))
+
+pub ip_layer_is_one : {Header : Type 0} (version : IpVersion) (layer_of : IpPacket Header → NetLayer) (offset : ℕ)
+    (lax : LaxIp Header) → AreBytes lax.packet.payload.bytes → IsOne (IsIpLayer version layer_of offset lax)
+ip_layer_is_one version layer_of offset lax fits =
+    one_as (net_with (layer_of lax.packet) lax.incomplete)
+    (inside_ip_is_one version offset (net_header_len (layer_of lax.packet)) lax.incomplete lax.packet.payload lax.stop
+    fits)
+    (record { there = λ inside is. (inside, is, refl); back = λ net is. is })
+
+-- what stands behind a chain is bytes
+chain_rest_fits : (version : IpVersion) (taken : List ℕ) (number : ℕ) (bytes : List ℕ) (parts : List ExtensionPart)
+    (last : ℕ) (rest : List ℕ) → AreBytes bytes → IsChainBehind version slices taken number bytes parts last rest
+    → AreBytes rest
+chain_rest_fits version taken number bytes [] last rest fits is = subst AreBytes (sym is.2) fits
+chain_rest_fits version taken number bytes (part ∷ parts) last rest fits is =
+    chain_rest_fits version (number ∷ taken) (part_next part) is.1.0 parts last rest
+    (part_behind_fits number bytes part is.1.0 is.1.1 fits) is.1.2
+
+front_rest_fits : (number : ℕ) (bytes : List ℕ) (parts : List ExtensionPart) (last : ℕ) (rest : List ℕ)
+    → AreBytes bytes → AreInFront number bytes parts last rest → AreBytes rest
+front_rest_fits number bytes [] last rest fits is = subst AreBytes (sym is.1) fits
+front_rest_fits number bytes (part ∷ parts) last rest fits is =
+    front_rest_fits (part_next part) is.0 parts last rest (part_behind_fits number bytes part is.0 is.1 fits) is.2
+
+rest_fits : (version : IpVersion) (number : ℕ) (bytes : List ℕ) (chain : ExtensionChain)
+    (stop : Option HeaderSliceError) → AreBytes bytes → IsFrontChain version number bytes chain stop
+    → AreBytes chain.rest
+rest_fits version number bytes chain None fits is =
+    chain_rest_fits version [] number bytes chain.parts chain.last chain.rest fits is
+rest_fits version number bytes chain (Some error) fits is =
+    front_rest_fits number bytes chain.parts chain.last chain.rest fits is.1
+
+pub lax_ipv4_fits : (outer : Bool) (bytes : List ℕ) (lax : LaxIp Ipv4Header) → AreBytes bytes
+    → IsLaxIpv4 outer bytes lax → AreBytes lax.packet.payload.bytes
+lax_ipv4_fits outer bytes lax fits is =
+    let read = is.0 in
+    let behind = is.2 in
+    let len = ipv4_header_len read.0 in
+    let content = cut_fits len read.0.total_len source.Ipv4HeaderTotalLen outer len read.1 behind.cut
+    (behind_ipv4_fits bytes read fits is.1) behind.cuts in
+    subst (λ (l : LaxIp Ipv4Header). AreBytes l.packet.payload.bytes) (sym behind.is)
+    (rest_fits ipv4 read.0.protocol.0 behind.cut.payload behind.chain behind.refused content behind.front)
+
+pub lax_ipv6_fits : (outer : Bool) (bytes : List ℕ) (lax : LaxIp Ipv6Header) → AreBytes bytes
+    → IsLaxIpv6 outer bytes lax → AreBytes lax.packet.payload.bytes
+lax_ipv6_fits outer bytes lax fits is =
+    let read = is.0 in
+    let behind = is.2 in
+    let content = cut_fits 41 (40 + read.0.payload_length) source.Ipv6HeaderPayloadLen outer 40 read.1 behind.cut
+    (behind_ipv6_fits bytes read fits is.1) behind.cuts in
+    subst (λ (l : LaxIp Ipv6Header). AreBytes l.packet.payload.bytes) (sym behind.is)
+    (rest_fits ipv6 read.0.next_header.0 behind.cut.payload behind.chain behind.refused content behind.front)
+
+-- a packet of IPv4 stands or its header is refused
+pub lax_ipv4_decided : (outer : Bool) (bytes : List ℕ) → AreBytes bytes
+    → IsDecided (IsLaxIpv4 outer bytes) (RefusesIpv4Header bytes)
+lax_ipv4_decided outer bytes fits =
+    let law = decided ipv4_header_is_read bytes fits in
+    record {
+      some = elim law.some [
+        | inl found ↦
+            let one = ipv4_behind_is_one outer found.0 (behind_ipv4_fits bytes found.0 fits found.1) in
+            inl (one.value, (found.0, found.1, one.is))
+        | inr refused ↦ inr refused
+      ];
+      one_value = one_lax_ipv4 outer bytes fits;
+      one_error = law.one_error;
+      not_both = λ lax error is refused. refused_no_lax_ipv4 outer bytes error refused lax is;
+    }
+
+pub lax_ipv6_decided : (outer : Bool) (bytes : List ℕ) → AreBytes bytes
+    → IsDecided (IsLaxIpv6 outer bytes) (RefusesIpv6Header bytes)
+lax_ipv6_decided outer bytes fits =
+    let law = decided ipv6_header_is_read bytes fits in
+    record {
+      some = elim law.some [
+        | inl found ↦
+            let one = ipv6_behind_is_one outer found.0 (behind_ipv6_fits bytes found.0 fits found.1) in
+            inl (one.value, (found.0, found.1, one.is))
+        | inr refused ↦ inr refused
+      ];
+      one_value = one_lax_ipv6 outer bytes fits;
+      one_error = law.one_error;
+      not_both = λ lax error is refused. refused_no_lax_ipv6 outer bytes error refused lax is;
+    }
+
+-- no net layer, for one error
+no_net_is_one : (outer : Bool) (error : SliceError) → IsOne (λ (net : LaxNet). IsNoNet outer net error)
+no_net_is_one outer error = one_same (no_net outer (Some (told error)))
+
+-- an ether type names no net layer, or one of three
+kind_by : (is_ipv4 is_ipv6 is_arp : Bool)
+    → let kind = if is_ipv4 then Some only_ipv4 else if is_ipv6 then Some only_ipv6 else if is_arp then Some only_arp
+    else None in (kind ≡ None) ⊎ ((kind ≡ Some only_ipv4) ⊎ ((kind ≡ Some only_ipv6) ⊎ (kind ≡ Some only_arp)))
+kind_by true is_ipv6 is_arp = inr (inl refl)
+kind_by false true is_arp = inr (inr (inl refl))
+kind_by false false true = inr (inr (inr refl))
+kind_by false false false = inl refl
+
+pub kind_cases : (type : EtherType) → (net_kind type ≡ None) ⊎ ((net_kind type ≡ Some only_ipv4)
+    ⊎ ((net_kind type ≡ Some only_ipv6) ⊎ (net_kind type ≡ Some only_arp)))
+kind_cases type = kind_by (type.0 == ipv4_type) (type.0 == ipv6_type) (type.0 == arp_type)
+
+ipv4_is_one : (offset : ℕ) (outer : Bool) (bytes : List ℕ) → AreBytes bytes
+    → IsOne (IsLaxNet offset outer (Some only_ipv4) bytes)
+ipv4_is_one offset outer bytes fits =
+    one_either {Is = IsLaxIpv4 outer bytes}
+    {Refuses = RefusesAs (λ e. ipv4_refusal offset (of_header_error e)) (RefusesIpv4Header bytes)}
+    {There = IsIpLayer ipv4 ipv4_layer offset} {Instead = λ (error : SliceError) (net : LaxNet). IsNoNet outer net error}
+    (refused_as (λ e. ipv4_refusal offset (of_header_error e)) (lax_ipv4_decided outer bytes fits))
+    (λ lax is. ip_layer_is_one ipv4 ipv4_layer offset lax (lax_ipv4_fits outer bytes lax fits is))
+    (λ error refused. no_net_is_one outer error)
+
+ipv6_is_one : (offset : ℕ) (outer : Bool) (bytes : List ℕ) → AreBytes bytes
+    → IsOne (IsLaxNet offset outer (Some only_ipv6) bytes)
+ipv6_is_one offset outer bytes fits =
+    one_either {Is = IsLaxIpv6 outer bytes}
+    {Refuses = RefusesAs (λ e. ipv6_refusal offset (of_ipv6_header_error e)) (RefusesIpv6Header bytes)}
+    {There = IsIpLayer ipv6 ipv6_layer offset} {Instead = λ (error : SliceError) (net : LaxNet). IsNoNet outer net error}
+    (refused_as (λ e. ipv6_refusal offset (of_ipv6_header_error e)) (lax_ipv6_decided outer bytes fits))
+    (λ lax is. ip_layer_is_one ipv6 ipv6_layer offset lax (lax_ipv6_fits outer bytes lax fits is))
+    (λ error refused. no_net_is_one outer error)
+
+arp_is_one : (offset : ℕ) (outer : Bool) (bytes : List ℕ) → AreBytes bytes
+    → IsOne (IsLaxNet offset outer (Some only_arp) bytes)
+arp_is_one offset outer bytes fits =
+    one_either {Is = IsArp bytes} {Refuses = RefusesAs (len_refusal offset) (RefusesArp bytes)}
+    {There = λ (part : Arp × List ℕ) (net : LaxNet). net ≡ arp_net part.0}
+    {Instead = λ (error : SliceError) (net : LaxNet). IsNoNet outer net error}
+    (refused_as (len_refusal offset) (layer_laws.arp bytes fits))
+    (λ part is. one_same (arp_net part.0)) (λ error refused. no_net_is_one outer error)
+
+-- bytes of an ether type have one net layer with one inside, or none
+pub net_is_one : (offset : ℕ) (outer : Bool) (type : EtherType) (bytes : List ℕ) → AreBytes bytes
+    → IsOne (IsLaxNet offset outer (net_kind type) bytes)
+net_is_one offset outer type bytes fits =
+    let Net : Option NetKind → Type 0 = λ kind. IsOne (IsLaxNet offset outer kind bytes) in
+    elim (kind_cases type) [
+      | inl none ↦ subst Net (sym none) (one_same (no_net outer None))
+      | inr (inl is) ↦ subst Net (sym is) (ipv4_is_one offset outer bytes fits)
+      | inr (inr (inl is)) ↦ subst Net (sym is) (ipv6_is_one offset outer bytes fits)
+      | inr (inr (inr is)) ↦ subst Net (sym is) (arp_is_one offset outer bytes fits)
+    ]
+
+-- ---- link extensions
+
+-- an extension, with whether bytes of its payload are missing
+abbrev pub Tagged : Type 0
+Tagged = LinkExtension × Bool
+
+vlan_tagged : Bool → Parts SingleVlanHeader → Tagged
+vlan_tagged outer tagged = (vlan tagged.header tagged.payload, outer)
+
+vlan_there : (outer : Bool) (type : EtherType) (bytes : List ℕ) → IsVlanType type → (tagged : Parts SingleVlanHeader)
+    → IsVlan bytes tagged → IsLaxExtension outer type bytes (vlan_tagged outer tagged)
+unfolding vlan_tagged
+vlan_there outer type bytes is_vlan tagged is =
+    (is_vlan, subst (λ (l : List ℕ). IsVlan bytes (parts_of tagged.header tagged.payload l)) is.cut is, refl)
+
+vlan_back : (outer : Bool) (type : EtherType) (bytes : List ℕ) → IsVlanType type → (tagged : Tagged)
+    → IsLaxExtension outer type bytes tagged
+    → (parts : Parts SingleVlanHeader) × IsVlan bytes parts × (tagged ≡ vlan_tagged outer parts)
+unfolding vlan_tagged
+vlan_back outer type bytes is_vlan (vlan tag payload, incomplete) is =
+    (parts_of tag payload [], is.1, λ i. (vlan tag payload, is.2 i))
+vlan_back outer type bytes is_vlan (macsec tag payload, incomplete) is =
+    absurd (vlan_not_macsec type is_vlan is.0)
+
+vlan_refused_back : (offset : ℕ) (type : EtherType) (bytes : List ℕ) → IsVlanType type → (error : SliceError)
+    → RefusesLaxExtension offset type bytes error → RefusesAs (len_refusal offset) (RefusesVlan bytes) error
+vlan_refused_back offset type bytes is_vlan error (inl refused) = refused.1
+vlan_refused_back offset type bytes is_vlan error (inr refused) = absurd (vlan_not_macsec type is_vlan refused.0)
+
+-- a MACsec packet stands or its tag is refused
+pub lax_macsec_decided : (outer : Bool) (bytes : List ℕ) → AreBytes bytes
+    → IsDecided (IsLaxMacsec outer bytes) (RefusesMacsecHeader bytes)
+lax_macsec_decided outer bytes fits =
+    let law = decided macsec_header_is_read bytes fits in
+    record {
+      some = elim law.some [
+        | inl found ↦
+            let tag = found.0.0 in
+            let len = macsec_header_len tag in
+            let one = lax_cut_is_one len (macsec_says tag) source.MacsecShortLength outer len found.0.1 (omega arith) in
+            inl ((tag, one.value), record { behind = found.0.1; stands = found.1; cut = one.is })
+        | inr refused ↦ inr refused
+      ];
+      one_value = one_lax_macsec outer bytes;
+      one_error = law.one_error;
+      not_both = λ read error is refused. refused_no_lax_macsec outer bytes error refused read is;
+    }
+
+macsec_tagged : MacsecHeader × LaxCut → Tagged
+macsec_tagged read = (macsec read.0 (lax_macsec_payload read.0 read.1), read.1.incomplete)
+
+macsec_there : (outer : Bool) (type : EtherType) (bytes : List ℕ) → IsMacsecType type
+    → (read : MacsecHeader × LaxCut) → IsLaxMacsec outer bytes read
+    → IsLaxExtension outer type bytes (macsec_tagged read)
+unfolding macsec_tagged
+macsec_there outer type bytes is_macsec read is = (is_macsec, (read.1, is, refl, refl))
+
+macsec_back : (outer : Bool) (type : EtherType) (bytes : List ℕ) → IsMacsecType type → (tagged : Tagged)
+    → IsLaxExtension outer type bytes tagged
+    → (read : MacsecHeader × LaxCut) × IsLaxMacsec outer bytes read × (tagged ≡ macsec_tagged read)
+unfolding macsec_tagged
+macsec_back outer type bytes is_macsec (vlan tag payload, incomplete) is =
+    absurd (vlan_not_macsec type is.0 is_macsec)
+macsec_back outer type bytes is_macsec (macsec tag payload, incomplete) is =
+    ((tag, is.1.0), is.1.1, λ i. (macsec tag (is.1.2 i), is.1.3 i))
+
+macsec_refused_back : (offset : ℕ) (type : EtherType) (bytes : List ℕ) → IsMacsecType type → (error : SliceError)
+    → RefusesLaxExtension offset type bytes error
+    → RefusesAs (extension_refusal offset) (RefusesMacsecHeader bytes) error
+macsec_refused_back offset type bytes is_macsec error (inl refused) = absurd (vlan_not_macsec type refused.0 is_macsec)
+macsec_refused_back offset type bytes is_macsec error (inr refused) = refused.1
+
+-- bytes of a type that begins extensions begin with one, or are refused
+pub lax_extension_decided : (offset : ℕ) (outer : Bool) (type : EtherType) (bytes : List ℕ) → AreBytes bytes
+    → BeginsLinkExtension type → IsDecided (IsLaxExtension outer type bytes) (RefusesLaxExtension offset type bytes)
+lax_extension_decided offset outer type bytes fits (inl is_vlan) =
+    decided_as (vlan_tagged outer) (λ (error : SliceError). error)
+    (refused_as (len_refusal offset) (decided vlan_is_read bytes fits))
+    (record { there = vlan_there outer type bytes is_vlan; back = vlan_back outer type bytes is_vlan })
+    (same_image (λ error refused. inl (is_vlan, refused)) (vlan_refused_back offset type bytes is_vlan))
+lax_extension_decided offset outer type bytes fits (inr is_macsec) =
+    decided_as macsec_tagged (λ (error : SliceError). error)
+    (refused_as (extension_refusal offset) (lax_macsec_decided outer bytes fits))
+    (record { there = macsec_there outer type bytes is_macsec; back = macsec_back outer type bytes is_macsec })
+    (same_image (λ error refused. inr (is_macsec, refused)) (macsec_refused_back offset type bytes is_macsec))
+
+-- the type of an extension begins extensions
+pub lax_extension_begins : (outer : Bool) (type : EtherType) (bytes : List ℕ) (tagged : Tagged)
+    → IsLaxExtension outer type bytes tagged → BeginsLinkExtension type
+lax_extension_begins outer type bytes (vlan tag payload, incomplete) is = inl is.0
+lax_extension_begins outer type bytes (macsec tag payload, incomplete) is = inr is.0
+
+lax_refused_begins : (offset : ℕ) (type : EtherType) (bytes : List ℕ) (error : SliceError)
+    → RefusesLaxExtension offset type bytes error → BeginsLinkExtension type
+lax_refused_begins offset type bytes error (inl refused) = inl refused.0
+lax_refused_begins offset type bytes error (inr refused) = inr refused.0
+
+-- its payload is bytes
+pub lax_extension_fits : (outer : Bool) (type : EtherType) (bytes : List ℕ) (tagged : Tagged) → AreBytes bytes
+    → IsLaxExtension outer type bytes tagged → AreBytes (extension_payload tagged.0)
+lax_extension_fits outer type bytes (vlan tag payload, incomplete) fits is =
+    AreBytes-payload bytes (vlan_bytes tag) payload [] fits is.1.parts
+lax_extension_fits outer type bytes (macsec tag payload, incomplete) fits is =
+    let cut = is.1.0 in
+    let read = is.1.1 in
+    let behind = AreBytes-back read.stands.encoded read.behind (subst AreBytes read.stands.parts fits) in
+    let len = macsec_header_len tag in
+    let content = cut_fits len (macsec_says tag) source.MacsecShortLength outer len read.behind cut behind read.cut in
+    subst AreBytes (sym (ap macsec_payload_bytes is.1.2 ∙ payload_by_is tag.ptype cut.source cut.payload)) content
+
+-- ---- what bytes of a type hold
+
+-- the link extensions and what is behind them
+abbrev pub Inside : Type 0
+Inside = List Tagged × LaxNet
+
+-- bytes hold these
+abbrev pub HoldsLax : ℕ → ℕ → Bool → Option EtherType → List ℕ → Inside → Type 0
+HoldsLax room offset outer type bytes inside = IsLaxInside room offset outer type bytes inside.0 inside.1
+
+-- where the payload of an extension lies
+abbrev pub behind_tag : ℕ → Tagged → ℕ
+behind_tag offset tagged = offset + link_ext_header_len (extension_header tagged.0)
+
+-- an extension and what its payload holds
+abbrev HoldsTag : ℕ → ℕ → Tagged → Inside → Type 0
+HoldsTag room offset tagged inside =
+    (others : Inside)
+    × HoldsLax room (behind_tag offset tagged) tagged.1 (extension_type tagged.0) (extension_payload tagged.0) others
+    × (inside ≡ (tagged ∷ others.0, others.1))
+
+-- no extension stands, for this refusal
+abbrev HoldsNone : Bool → SliceError → Inside → Type 0
+HoldsNone outer error inside = inside ≡ ([], no_net outer (Some (told error)))
+
+-- either of these
+abbrev HoldsEither : ℕ → ℕ → Bool → EtherType → List ℕ → Inside → Type 0
+HoldsEither room offset outer type bytes inside =
+    ((error : SliceError) × RefusesLaxExtension offset type bytes error × HoldsNone outer error inside)
+    ⊎ ((tagged : Tagged) × IsLaxExtension outer type bytes tagged × HoldsTag room offset tagged inside)
+
+either_there : (room offset : ℕ) (outer : Bool) (type : EtherType) (bytes : List ℕ) (inside : Inside)
+    → HoldsEither room offset outer type bytes inside → HoldsLax (suc room) offset outer (Some type) bytes inside
+either_there room offset outer type bytes inside (inl refused) =
+    subst (HoldsLax (suc room) offset outer (Some type) bytes) (sym refused.2)
+    (inr (refused.0, refused.1, refl))
+either_there room offset outer type bytes inside (inr found) =
+    subst (HoldsLax (suc room) offset outer (Some type) bytes) (sym found.2.2) (found.1, found.2.1)
+
+either_back : (room offset : ℕ) (outer : Bool) (type : EtherType) (bytes : List ℕ) → BeginsLinkExtension type
+    → (inside : Inside) → HoldsLax (suc room) offset outer (Some type) bytes inside
+    → HoldsEither room offset outer type bytes inside
+either_back room offset outer type bytes begins ([], net) (inl none) = absurd (none.0 begins)
+either_back room offset outer type bytes begins ([], net) (inr refused) =
+    inl (refused.0, refused.1, λ i. ([], refused.2 i))
+either_back room offset outer type bytes begins (tagged ∷ others, net) is =
+    inr (tagged, is.0, ((others, net), is.1, refl))
+
+bare : LaxNet → Inside
+bare net = ([], net)
+
+bare_back : (offset : ℕ) (outer : Bool) (type : EtherType) (bytes : List ℕ) (inside : Inside)
+    → HoldsLax zero offset outer (Some type) bytes inside
+    → (net : LaxNet) × IsLaxNet offset outer (net_kind type) bytes net × (inside ≡ bare net)
+unfolding bare
+bare_back offset outer type bytes ([], net) is = (net, is, refl)
+bare_back offset outer type bytes (tagged ∷ others, net) is = absurd is
+
+none_back : (room offset : ℕ) (outer : Bool) (type : EtherType) (bytes : List ℕ) → (¬ BeginsLinkExtension type)
+    → (inside : Inside) → HoldsLax (suc room) offset outer (Some type) bytes inside
+    → (net : LaxNet) × IsLaxNet offset outer (net_kind type) bytes net × (inside ≡ bare net)
+unfolding bare
+none_back room offset outer type bytes none ([], net) (inl is) = (net, is.1, refl)
+none_back room offset outer type bytes none ([], net) (inr refused) =
+    absurd (none (lax_refused_begins offset type bytes refused.0 refused.1))
+none_back room offset outer type bytes none (tagged ∷ others, net) is =
+    absurd (none (lax_extension_begins outer type bytes tagged is.0))
+
+bare_there : (offset : ℕ) (outer : Bool) (type : EtherType) (bytes : List ℕ) (net : LaxNet)
+    → IsLaxNet offset outer (net_kind type) bytes net → HoldsLax zero offset outer (Some type) bytes (bare net)
+unfolding bare
+bare_there offset outer type bytes net is = is
+
+none_there : (room offset : ℕ) (outer : Bool) (type : EtherType) (bytes : List ℕ) → (¬ BeginsLinkExtension type)
+    → (net : LaxNet) → IsLaxNet offset outer (net_kind type) bytes net
+    → HoldsLax (suc room) offset outer (Some type) bytes (bare net)
+unfolding bare
+none_there room offset outer type bytes none net is = inl (none, is)
+
+-- bytes of a type hold one list of link extensions with one net layer
+pub inside_is_one : (room offset : ℕ) (outer : Bool) (type : Option EtherType) (bytes : List ℕ) → AreBytes bytes
+    → IsOne (HoldsLax room offset outer type bytes)
+inside_is_one room offset outer None bytes fits = record {
+  value = ([], no_net outer None);
+  is = (refl, refl);
+  only = λ other is. λ i. (is.0 i, is.1 i);
+}
+inside_is_one zero offset outer (Some type) bytes fits =
+    one_as bare (net_is_one offset outer type bytes fits)
+    (record { there = bare_there offset outer type bytes; back = bare_back offset outer type bytes })
+inside_is_one (suc room) offset outer (Some type) bytes fits =
+    elim (cases_begins type) [
+      | inl begins ↦
+          one_as {Is = HoldsEither room offset outer type bytes} (λ (inside : Inside). inside)
+          (one_either {Is = IsLaxExtension outer type bytes} {Refuses = RefusesLaxExtension offset type bytes}
+          {There = HoldsTag room offset} {Instead = HoldsNone outer}
+          (lax_extension_decided offset outer type bytes fits begins)
+          (λ tagged is. one_as {Is = HoldsLax room (behind_tag offset tagged) tagged.1 (extension_type tagged.0)
+          (extension_payload tagged.0)}
+          (λ (others : Inside). (tagged ∷ others.0, others.1))
+          (inside_is_one room (behind_tag offset tagged) tagged.1 (extension_type tagged.0) (extension_payload tagged.0)
+          (lax_extension_fits outer type bytes tagged fits is))
+          (record { there = λ others is. (others, is, refl); back = λ inside is. is }))
+          (λ error refused. one_same ([], no_net outer (Some (told error)))))
+          (same_image (either_there room offset outer type bytes) (either_back room offset outer type bytes begins))
+      | inr none ↦
+          one_as bare (net_is_one offset outer type bytes fits)
+          (record {
+            there = none_there room offset outer type bytes none;
+            back = none_back room offset outer type bytes none;
+          })
+    ]

@@ -1,0 +1,279 @@
+-- The net layer in the lax walk over a packet, from what the calls of its slices ensure.
+use Rattle.std.proofs.Common.{◌≡◌, ◌⊎◌, ℕ, ◌+◌, ◌≤◌, Bool, List, [], ◌∷◌, ◌++◌, length, Option, Some, None, refl, sym, ap, subst, ◌∙◌, arith, length-append}
+use Rattle.std.proofs.Math.Path.{transport}
+use Rattle.std.specs.Option.{option_map}
+use Rattle.std.proofs.lemmas.Grind.{common_steps}
+use Rattle.ep_base.specs.IpPayload.{IpPayload}
+use Rattle.ep_base.specs.declared.len_source.LenSource.{LenSource}
+use Rattle.ep_base.specs.declared.err.ip_auth.HeaderSliceError.{HeaderSliceError as AuthSliceError}
+use Rattle.ep_base.specs.declared.err.ipv6_exts.HeaderError.TheVariants as content
+use Rattle.ep_base.specs.declared.err.ipv6_exts.HeaderError.{HeaderError as ExtsContent}
+use Rattle.ep_base.specs.declared.err.ipv6_exts.HeaderSliceError.{HeaderSliceError}
+use Rattle.ep_base.specs.declared.err.ipv6_exts.HeaderSliceError.TheVariants as header_error
+use Rattle.ep_base.specs.declared.err.layer.Layer.{Layer}
+use Rattle.ep_base.specs.Readings.{slices}
+use Rattle.ep_ext.specs.ExtensionParts.{ExtensionPart, hop_by_hop, destination_options, routing, fragment, authentication, auth_refusal, part_bytes, part_len, part_next}
+use Rattle.ep_ext.specs.Chains.{IpVersion, ipv4, ipv6, ExtensionChain, offset_of, parts_bytes}
+use Rattle.ep_ext.specs.FrontChains.{AreInFront, IsFrontChain, chain_stop}
+use Rattle.ep_ext.proofs.ChainBytesLemmas.{chain_len}
+use Rattle.ep_ext.proofs.PartLemmas.{auth_len, part_lens}
+use Rattle.ep_ip.specs.declared.ipv4_header.Ipv4Header.{Ipv4Header}
+use Rattle.ep_ip.specs.declared.ipv6_header.Ipv6Header.{Ipv6Header}
+use Rattle.ep_ip.specs.Ipv4.{ipv4_header_len}
+use Rattle.ep_ip.specs.Ipv6.{ipv6_bytes}
+use Rattle.ep_ip.proofs.IpBytesLemmas.{encoded_len, ipv6_len}
+use Rattle.ep_transport.specs.declared.transport_slice.TransportSlice.{TransportSlice}
+use Rattle.ep_packet.specs.declared.err.slice_error.SliceError.{SliceError}
+use Rattle.ep_packet.specs.declared.err.slice_error.SliceError.TheVariants.{Ipv6Exts}
+use Rattle.ep_packet.specs.FrameRefusals.{net_header_len}
+use Rattle.ep_packet.specs.Layers.{ipv4_layer, ipv6_layer}
+use Rattle.ep_packet.specs.ShownBytes.{ShowsTransport}
+use Rattle.ep_lax.specs.declared.lax_ip_payload_slice.LaxIpPayloadSlice.{LaxIpPayloadSlice}
+use Rattle.ep_lax.specs.declared.lax_ipv4_slice.LaxIpv4Slice.{LaxIpv4Slice}
+use Rattle.ep_lax.specs.declared.lax_ipv6_slice.LaxIpv6Slice.{LaxIpv6Slice}
+use Rattle.ep_lax.specs.declared.lax_net_slice.LaxNetSlice.TheVariants as net
+use Rattle.ep_lax.specs.Lax.{IsInsideIp, IsIpv4Net, IsIpv6Net, chain_refusal}
+use Rattle.ep_lax.specs.LaxIp.{LaxIp, IsLaxIpv4, IsLaxIpv6, stop_behind}
+use Rattle.ep_lax.specs.LaxLayers.{LaxTransport}
+use Rattle.ep_lax.specs.LaxPackets.{ShowsLaxNet, inside_of, lax_net_of}
+use Rattle.ep_lax.specs.LaxSlices.{lax_ip_payload_of, lax_ipv4_of, lax_ipv4_slice_bytes, lax_ipv4_slice_incomplete, lax_ipv4_slice_payload, lax_ipv6_of, lax_ipv6_slice_bytes, lax_ipv6_slice_incomplete, lax_ipv6_slice_payload}
+use Rattle.ep_lax.specs.LaxWalk.{IsBehindIp}
+use Rattle.ep_lax.proofs.LaxIpLemmas.{stop_within}
+
+-- ---- how many bytes the headers have
+
+-- the bytes of a header as it is written
+part_bytes_len : (part : ExtensionPart) → length (part_bytes part) ≡ part_len part
+part_bytes_len (hop_by_hop header) = grind (arith, common_steps)
+part_bytes_len (destination_options header) = grind (arith, common_steps)
+part_bytes_len (routing header) = grind (arith, common_steps)
+part_bytes_len (fragment header) = refl
+part_bytes_len (authentication header) = auth_len 0 header
+
+-- those in front, and the rest
+in_front_len : (number : ℕ) (bytes : List ℕ) (parts : List ExtensionPart) (last : ℕ) (rest : List ℕ)
+    → AreInFront number bytes parts last rest → length bytes ≡ length (parts_bytes parts) + length rest
+in_front_len number bytes [] last rest is = omega (arith, ap length is.1)
+in_front_len number bytes (part ∷ parts) last rest is = omega (
+  arith,
+  (part_lens number bytes part is.0 is.1).0,
+  part_bytes_len part,
+  length-append (part_bytes part) (parts_bytes parts),
+  in_front_len (part_next part) is.0 parts last rest is.2,
+)
+
+front_chain_len : (version : IpVersion) (number : ℕ) (bytes : List ℕ) (chain : ExtensionChain)
+    (stop : Option HeaderSliceError) → IsFrontChain version number bytes chain stop
+    → length bytes ≡ length (parts_bytes chain.parts) + length chain.rest
+front_chain_len version number bytes chain None is = chain_len version slices number bytes chain is
+front_chain_len version number bytes chain (Some error) is =
+    in_front_len number bytes chain.parts chain.last chain.rest is.1
+
+-- a packet of IPv4
+lax_ipv4_lens : (outer : Bool) (bytes : List ℕ) (lax : LaxIp Ipv4Header) → IsLaxIpv4 outer bytes lax
+    → length bytes
+    ≡ net_header_len (ipv4_layer lax.packet) + length lax.packet.payload.bytes + length lax.packet.left
+lax_ipv4_lens outer bytes lax is =
+    let header = is.0.0 in
+    let rest = is.0.1 in
+    let stands = is.1 in
+    let behind = is.2 in
+    let cut = behind.cut in
+    subst (λ (l : LaxIp Ipv4Header). length bytes
+    ≡ net_header_len (ipv4_layer l.packet) + length l.packet.payload.bytes + length l.packet.left) (sym behind.is)
+    (omega (
+      arith,
+      ap length stands.parts,
+      length-append stands.encoded rest,
+      encoded_len stands.encoded header stands.encodes,
+      ap length behind.cuts.parts,
+      length-append cut.payload cut.left,
+      front_chain_len ipv4 header.protocol.0 cut.payload behind.chain behind.refused behind.front,
+    ))
+
+-- and of IPv6
+lax_ipv6_lens : (outer : Bool) (bytes : List ℕ) (lax : LaxIp Ipv6Header) → IsLaxIpv6 outer bytes lax
+    → length bytes
+    ≡ net_header_len (ipv6_layer lax.packet) + length lax.packet.payload.bytes + length lax.packet.left
+lax_ipv6_lens outer bytes lax is =
+    let header = is.0.0 in
+    let rest = is.0.1 in
+    let stands = is.1 in
+    let behind = is.2 in
+    let cut = behind.cut in
+    subst (λ (l : LaxIp Ipv6Header). length bytes
+    ≡ net_header_len (ipv6_layer l.packet) + length l.packet.payload.bytes + length l.packet.left) (sym behind.is)
+    (omega (
+      arith,
+      ap length stands.parts,
+      length-append (ipv6_bytes header) rest,
+      ipv6_len header stands.fits,
+      ap length behind.cuts.parts,
+      length-append cut.payload cut.left,
+      front_chain_len ipv6 header.next_header.0 cut.payload behind.chain behind.refused behind.front,
+    ))
+
+-- ---- where a refused extension header begins
+
+stop_start : (n : ℕ) (end : LenSource) (error : HeaderSliceError)
+    → offset_of (stop_behind n end error) ≤ offset_of error + n
+stop_start n end (header_error.Len error) = omega arith
+stop_start n end (header_error.Content error) = omega arith
+
+-- behind a header of so many bytes it lies within the content
+behind_within : (n : ℕ) (end : LenSource) (version : IpVersion) (number : ℕ) (content : List ℕ)
+    (chain : ExtensionChain) (refused : Option HeaderSliceError) → IsFrontChain version number content chain refused
+    → (error : HeaderSliceError) → option_map (stop_behind n end) refused ≡ Some error
+    → offset_of error ≤ n + length content
+behind_within n end version number content chain None front error same = absurd (cc same)
+behind_within n end version number content chain (Some refused) front error same =
+    let is : stop_behind n end refused ≡ error = cc in
+    omega (
+      arith,
+      ap offset_of is,
+      stop_start n end refused,
+      stop_within version number content chain (Some refused) front refused refl,
+    )
+
+pub ipv4_stop_within : (outer : Bool) (bytes : List ℕ) (lax : LaxIp Ipv4Header) → IsLaxIpv4 outer bytes lax
+    → (error : HeaderSliceError) → lax.stop ≡ Some error → offset_of error ≤ length bytes
+ipv4_stop_within outer bytes lax is error same =
+    let header = is.0.0 in
+    let stands = is.1 in
+    let behind = is.2 in
+    let cut = behind.cut in
+    let told = sym (ap (λ (l : LaxIp Ipv4Header). l.stop) behind.is) ∙ same in
+    omega (
+      arith,
+      behind_within (ipv4_header_len header) cut.source ipv4 header.protocol.0 cut.payload behind.chain behind.refused
+          behind.front error told,
+      ap length stands.parts,
+      length-append stands.encoded is.0.1,
+      encoded_len stands.encoded header stands.encodes,
+      ap length behind.cuts.parts,
+      length-append cut.payload cut.left,
+    )
+
+pub ipv6_stop_within : (outer : Bool) (bytes : List ℕ) (lax : LaxIp Ipv6Header) → IsLaxIpv6 outer bytes lax
+    → (error : HeaderSliceError) → lax.stop ≡ Some error → offset_of error ≤ length bytes
+ipv6_stop_within outer bytes lax is error same =
+    let header = is.0.0 in
+    let stands = is.1 in
+    let behind = is.2 in
+    let cut = behind.cut in
+    let told = sym (ap (λ (l : LaxIp Ipv6Header). l.stop) behind.is) ∙ same in
+    omega (
+      arith,
+      behind_within 40 lax.packet.payload.source ipv6 header.next_header.0 cut.payload behind.chain behind.refused
+          behind.front error
+          (ap (λ (e : LenSource). option_map (stop_behind 40 e) behind.refused)
+          (ap (λ (l : LaxIp Ipv6Header). l.packet.payload.source) behind.is) ∙ told),
+      ap length stands.parts,
+      length-append (ipv6_bytes header) is.0.1,
+      ipv6_len header stands.fits,
+      ap length behind.cuts.parts,
+      length-append cut.payload cut.left,
+    )
+
+-- ---- what is inside a packet
+
+behind_is_inside : (version : IpVersion) (offset len : ℕ) (incomplete : Bool) (payload : IpPayload)
+    (stop : Option HeaderSliceError) (inside : LaxTransport)
+    → IsBehindIp (offset + len) incomplete payload (option_map (chain_refusal version offset) stop) inside
+    → IsInsideIp version offset len incomplete payload stop inside
+behind_is_inside version offset len incomplete payload None inside is = is
+behind_is_inside version offset len incomplete payload (Some error) inside is = is
+
+-- as the calls say it
+inside_ip : (version : IpVersion) (offset len at : ℕ) (payload : IpPayload) (incomplete : Bool)
+    (shown : LaxIpPayloadSlice) (stop : Option HeaderSliceError) (found : Option SliceError)
+    (transport_slice : Option TransportSlice) (told : Option (SliceError × Layer))
+    → at ≡ offset + len → lax_ip_payload_of shown ≡ payload → shown.incomplete ≡ incomplete
+    → found ≡ option_map (chain_refusal version offset) stop
+    → IsBehindIp at shown.incomplete (lax_ip_payload_of shown) found (inside_of shown.incomplete transport_slice told)
+    → IsInsideIp version offset len incomplete payload stop (inside_of incomplete transport_slice told)
+inside_ip version offset len at payload incomplete shown stop found transport_slice told place same missing found_is is =
+    behind_is_inside version offset len incomplete payload stop (inside_of incomplete transport_slice told)
+    (transport (λ i. IsBehindIp (place i) (missing i) (same i) (found_is i)
+    (inside_of (missing i) transport_slice told)) is)
+
+-- a packet of IPv4, and what is inside it
+pub ipv4_filled : (offset len at : ℕ) (packet : LaxIpv4Slice) (refused : Option AuthSliceError)
+    (shown : LaxIpPayloadSlice) (found : Option SliceError) (transport_slice : Option TransportSlice)
+    (told : Option (SliceError × Layer))
+    → len + length (lax_ipv4_slice_payload packet).bytes ≡ length (lax_ipv4_slice_bytes packet) → at ≡ offset + len
+    → lax_ip_payload_of shown ≡ lax_ipv4_slice_payload packet → shown.incomplete ≡ lax_ipv4_slice_incomplete packet
+    → found ≡ option_map (chain_refusal ipv4 offset) (option_map auth_refusal refused)
+    → IsBehindIp at shown.incomplete (lax_ip_payload_of shown) found (inside_of shown.incomplete transport_slice told)
+    → ShowsTransport shown.payload.now transport_slice
+    → (outer : Bool) (bytes left : List ℕ) → bytes ≡ lax_ipv4_slice_bytes packet ++ left
+    → IsLaxIpv4 outer bytes (lax_ipv4_of packet left refused)
+    → IsIpv4Net offset outer bytes (lax_net_of outer (Some (net.Ipv4 packet)) transport_slice told)
+    × ShowsLaxNet bytes (Some (net.Ipv4 packet)) transport_slice
+ipv4_filled offset len at packet refused shown found transport_slice told lens place same missing found_is inside shows
+    outer bytes left parts is =
+    let lax = lax_ipv4_of packet left refused in
+    let headers = net_header_len (ipv4_layer lax.packet) in
+    let len_is : len ≡ headers = omega (
+      arith,
+      lens,
+      lax_ipv4_lens outer bytes lax is,
+      ap length parts,
+      length-append (lax_ipv4_slice_bytes packet) left,
+    ) in
+    let there : at ≡ offset + headers = omega (arith, place, len_is) in (
+      (
+        lax,
+        is,
+        (
+          inside_of lax.incomplete transport_slice told,
+          inside_ip ipv4 offset headers at lax.packet.payload lax.incomplete shown lax.stop found transport_slice told
+              there same missing found_is inside,
+          refl,
+        ),
+      ),
+      (
+        (left, parts),
+        subst (λ (p : IpPayload). ShowsTransport p.bytes transport_slice) same shows,
+      ),
+    )
+
+-- a packet of IPv6
+pub ipv6_filled : (offset len at : ℕ) (packet : LaxIpv6Slice) (shown : LaxIpPayloadSlice) (found : Option SliceError)
+    (transport_slice : Option TransportSlice) (told : Option (SliceError × Layer))
+    → len + length (lax_ipv6_slice_payload packet).bytes ≡ length (lax_ipv6_slice_bytes packet) → at ≡ offset + len
+    → lax_ip_payload_of shown ≡ lax_ipv6_slice_payload packet → shown.incomplete ≡ lax_ipv6_slice_incomplete packet
+    → IsBehindIp at shown.incomplete (lax_ip_payload_of shown) found (inside_of shown.incomplete transport_slice told)
+    → ShowsTransport shown.payload.now transport_slice
+    → (outer : Bool) (bytes left : List ℕ) (stop : Option HeaderSliceError)
+    → found ≡ option_map (chain_refusal ipv6 offset) stop → bytes ≡ lax_ipv6_slice_bytes packet ++ left
+    → IsLaxIpv6 outer bytes (lax_ipv6_of packet left stop)
+    → IsIpv6Net offset outer bytes (lax_net_of outer (Some (net.Ipv6 packet)) transport_slice told)
+    × ShowsLaxNet bytes (Some (net.Ipv6 packet)) transport_slice
+ipv6_filled offset len at packet shown found transport_slice told lens place same missing inside shows outer bytes left
+    stop found_is parts is =
+    let lax = lax_ipv6_of packet left stop in
+    let headers = net_header_len (ipv6_layer lax.packet) in
+    let len_is : len ≡ headers = omega (
+      arith,
+      lens,
+      lax_ipv6_lens outer bytes lax is,
+      ap length parts,
+      length-append (lax_ipv6_slice_bytes packet) left,
+    ) in
+    let there : at ≡ offset + headers = omega (arith, place, len_is) in (
+      (
+        lax,
+        is,
+        (
+          inside_of lax.incomplete transport_slice told,
+          inside_ip ipv6 offset headers at lax.packet.payload lax.incomplete shown lax.stop found transport_slice told
+              there same missing found_is inside,
+          refl,
+        ),
+      ),
+      (
+        (left, parts),
+        subst (λ (p : IpPayload). ShowsTransport p.bytes transport_slice) same shows,
+      ),
+    )

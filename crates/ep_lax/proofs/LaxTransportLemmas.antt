@@ -1,0 +1,126 @@
+-- What the call that reads the transport layer of a payload of IP laxly owes.
+use Rattle.std.proofs.Common.{◌≡◌, ◌≢◌, ◌⊎◌, ◌==◌, ◌&&◌, ◌||◌, not, nat_le, nat_lt, if◌then◌else◌, ℕ, ◌+◌, ◌≤◌, ◌<◌, Bool, true, false, List, ◌++◌, length, Option, Some, None, refl, sym, ap, subst, ◌∙◌, inl, inr, arith}
+use Rattle.std.specs.Prelude.{IfSome}
+use Rattle.std.specs.Option.{option_map}
+use Rattle.std.proofs.lemmas.Bool.{cases_lt, ne_eqb}
+use Rattle.std.proofs.lemmas.Grind.{common_steps}
+use Rattle.ep_base.specs.IpNumbers.{udp_number}
+use Rattle.ep_base.specs.LaxCut.{LaxCut, IsLaxCut, cuts, is_missing}
+use Rattle.ep_base.specs.Readings.{headers, slices}
+use Rattle.ep_base.specs.Tables.{first_row, rows_as}
+use Rattle.ep_base.specs.declared.err.len_error.LenError.{LenError}
+use Rattle.ep_base.specs.declared.err.tcp.HeaderSliceError.{HeaderSliceError}
+use Rattle.ep_base.specs.declared.err.tcp.HeaderSliceError.TheVariants.{Len}
+use Rattle.ep_base.specs.declared.len_source.LenSource.TheVariants as source
+use Rattle.ep_base.proofs.LaxCutLemmas.{cuts_not, cuts_there}
+use Rattle.ep_base.proofs.TableLemmas.{first_row-as_some}
+use Rattle.ep_transport.specs.declared.transport_header.TransportHeader.TheVariants as header
+use Rattle.ep_transport.specs.declared.transport_slice.TransportSlice.{TransportSlice}
+use Rattle.ep_transport.specs.declared.transport_slice.TransportSlice.TheVariants as slice
+use Rattle.ep_transport.specs.declared.udp_header.UdpHeader.{UdpHeader}
+use Rattle.ep_transport.specs.declared.udp_slice.UdpSlice.{UdpSlice}
+use Rattle.ep_transport.specs.TransportParts.{TransportLayer, transport_layer, IsTransportPart, RefusesTransportPart, transport_layer_of, transport_rows, transport_slice_bytes, udp_part_rows}
+use Rattle.ep_transport.specs.Udp.{IsLaxUdp, RefusesUdpHeader, udp_header_rows}
+use Rattle.ep_transport.specs.UdpSlices.{udp_slice_header, udp_slice_payload}
+use Rattle.ep_packet.specs.ShownBytes.{ShowsTransport}
+use Rattle.ep_lax.specs.Lax.{IsCutLaxly}
+use Rattle.ep_lax.specs.LaxLayers.{LaxTransport, layer_cut}
+use Rattle.ep_lax.specs.LaxPackets.{inside_of}
+
+-- why the length field of UDP has no say: the payload is a fragment, or of another number
+abbrev pub NotUdp : ℕ → Bool → Type 0
+NotUdp number fragmented = (fragmented ≡ true) ⊎ (number ≢ udp_number)
+
+-- a payload is read laxly in this way, as a call shows it
+abbrev pub IsReadLaxly : ℕ → Bool → List ℕ → Bool → Option TransportSlice → Type 0
+IsReadLaxly number fragmented bytes outer part =
+    (read : Option TransportLayer) × IsTransportPart headers number fragmented bytes read
+    × IsCutLaxly outer read (inside_of outer part None)
+
+-- there slices are read as headers are
+pub others_read : (number : ℕ) (fragmented : Bool) (bytes : List ℕ) (outer : Bool) → NotUdp number fragmented
+    → (part : Option TransportSlice)
+    → IsTransportPart slices number fragmented bytes (option_map transport_layer_of part)
+    → IsReadLaxly number fragmented bytes outer part
+others_read number fragmented bytes outer why None is = (None, is, refl)
+others_read number fragmented bytes outer (inl fragment) (Some (slice.Udp datagram)) is =
+    absurd (let no : false ≡ true = sym is.0 ∙ fragment in cc)
+others_read number fragmented bytes outer (inr other) (Some (slice.Udp datagram)) is = absurd (other is.1.0)
+others_read number fragmented bytes outer why (Some (slice.Tcp segment)) is =
+    (Some (transport_layer_of (slice.Tcp segment)), is, refl)
+others_read number fragmented bytes outer why (Some (slice.Icmpv4 message)) is =
+    (Some (transport_layer_of (slice.Icmpv4 message)), is, refl)
+others_read number fragmented bytes outer why (Some (slice.Icmpv6 message)) is =
+    (Some (transport_layer_of (slice.Icmpv6 message)), is, refl)
+
+-- of two choices by a condition that does not hold, the first is never taken
+other_rows : {A : Type 0} (condition : Bool) (first second others : A) → condition ≡ false
+    → (if condition then first else others) ≡ (if condition then second else others)
+other_rows true first second others untrue = absurd (cc untrue)
+other_rows false first second others untrue = refl
+
+-- and are refused as those are
+pub others_refused : (number : ℕ) (fragmented : Bool) (bytes : List ℕ) → NotUdp number fragmented
+    → (error : HeaderSliceError) → RefusesTransportPart slices number fragmented bytes error
+    → RefusesTransportPart headers number fragmented bytes error
+others_refused number true bytes why error refused = refused
+others_refused number false bytes (inl fragment) error refused = absurd (cc fragment)
+others_refused number false bytes (inr other) error refused =
+    let same : transport_rows headers number bytes ≡ transport_rows slices number bytes =
+    other_rows (number == udp_number) (rows_as Len (udp_part_rows headers bytes))
+    (rows_as Len (udp_part_rows slices bytes)) _ (ne_eqb number udp_number other) in
+    ap first_row same ∙ refused
+
+-- a slice, where there is one, shows the front of the bytes
+pub shown_or_none : (bytes : List ℕ) (part : Option TransportSlice)
+    → IfSome part (λ shown. (left : List ℕ) × (bytes ≡ transport_slice_bytes shown ++ left))
+    → ShowsTransport bytes part
+shown_or_none bytes None shown = tt
+shown_or_none bytes (Some part) shown = shown
+
+-- ---- UDP
+
+-- the payload that a length field leaves is as incomplete as the bytes in which it lies say
+missing_shown : (least says : ℕ) (outer : Bool) (there shown : ℕ)
+    → shown ≡ (if cuts least says there then says else there)
+    → is_missing least says outer shown ≡ is_missing least says outer there
+missing_shown least says outer there shown is =
+    elim (cases_lt says least) [
+      | inl short ↦
+          let no = cuts_not least says there (inl short) in
+          let whole : shown ≡ there = is ∙ (λ i. if no i then says else there) in
+          ap (is_missing least says outer) whole
+      | inr enough ↦ elim (cases_lt there says) [
+        | inl more ↦
+            let no = cuts_not least says there (inr more) in
+            let whole : shown ≡ there = is ∙ (λ i. if no i then says else there) in
+            ap (is_missing least says outer) whole
+        | inr within ↦
+            let yes = cuts_there least says there enough within in
+            let cut : shown ≡ says = is ∙ (λ i. if yes i then says else there) in
+            let itself = cuts_there least says says enough (omega arith) in
+            ap (is_missing least says outer) cut
+            ∙ (λ i. not (itself i) && (outer || nat_lt says says))
+            ∙ (λ i. not (sym yes i) && (outer || nat_lt there says))
+      ]
+    ]
+
+-- a datagram whose length field cuts where it can, in a payload of IP that is incomplete or not
+pub udp_read_laxly : (number : ℕ) (fragmented : Bool) (bytes : List ℕ) (outer : Bool) (datagram : UdpSlice)
+    (cut : LaxCut) → fragmented ≡ false → number ≡ udp_number
+    → IsLaxUdp false bytes (udp_slice_header datagram, cut) → udp_slice_payload datagram ≡ cut.payload
+    → IsReadLaxly number fragmented bytes outer (Some (slice.Udp datagram))
+udp_read_laxly number fragmented bytes outer datagram cut whole is_udp is payload_is =
+    let udp = udp_slice_header datagram in
+    let there = 8 + length is.behind in
+    let missing = is_missing 8 udp.length outer there in
+    let in_outer : LaxCut = record cut { incomplete = missing } in
+    let cuts_so : IsLaxCut 8 udp.length source.UdpHeaderLen outer 8 is.behind in_outer =
+    record { parts = is.cut.parts; ends = is.cut.ends; source = is.cut.source; incomplete = refl } in
+    let same : is_missing 8 udp.length outer (8 + length (udp_slice_payload datagram)) ≡ missing =
+    ap (λ (p : List ℕ). is_missing 8 udp.length outer (8 + length p)) payload_is
+    ∙ missing_shown 8 udp.length outer there (8 + length cut.payload) is.cut.ends in (
+      Some (transport_layer (header.Udp udp) is.behind),
+      (whole, (is_udp, is.stands)),
+      (in_outer, cuts_so, λ i. layer_cut (header.Udp udp) (payload_is i) (same i)),
+    )

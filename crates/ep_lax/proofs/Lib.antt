@@ -1,0 +1,11 @@
+pub mod LaxEntryLemmas
+pub mod LaxIpLemmas
+pub mod LaxLawLemmas
+pub mod LaxMacsecLemmas
+pub mod StrictLemmas
+pub mod LaxSliceLemmas
+pub mod LaxTransportLemmas
+pub mod LaxWalkLemmas
+pub mod LaxNetLemmas
+pub mod LaxLinkLemmas
+pub mod LaxPayloadLemmas

@@ -1,0 +1,526 @@
+-- That a frame is read laxly as the layers that it is, that none of its payloads is incomplete, and that the walk stops
+-- nowhere.
+use Rattle.std.proofs.Common.{◌≡◌, ◌⊎◌, ◌==◌, ◌&&◌, ◌||◌, not, nat_lt, nat_le, if◌then◌else◌, ℕ, zero, suc, ◌+◌, ◌≤◌, ◌<◌, Bool, true, false, List, [], ◌∷◌, ◌++◌, map, length, Option, Some, None, refl, sym, ap, subst, ◌∙◌, inl, inr, append_assoc, length-append, arith}
+use Rattle.std.proofs.lemmas.Bool.{ne_eqb}
+use Rattle.std.proofs.lemmas.Grind.{common_steps}
+use Rattle.ep_base.specs.IpPayload.{IpPayload}
+use Rattle.ep_base.specs.LaxCut.{LaxCut, IsLaxCut}
+use Rattle.ep_base.specs.Readings.{headers, slices}
+use Rattle.ep_base.specs.Tables.{Parts, parts_of}
+use Rattle.ep_base.specs.declared.ether_type.EtherType.{EtherType}
+use Rattle.ep_base.specs.declared.len_source.LenSource.{LenSource}
+use Rattle.ep_base.specs.declared.len_source.LenSource.TheVariants as source
+use Rattle.ep_base.proofs.LaxCutLemmas.{cut_there, cut_nowhere}
+use Rattle.ep_ext.specs.Chains.{ipv4, ipv6, chain_of}
+use Rattle.ep_ip.specs.declared.ipv4_header.Ipv4Header.{Ipv4Header}
+use Rattle.ep_ip.specs.declared.ipv6_header.Ipv6Header.{Ipv6Header}
+use Rattle.ep_ip.specs.IpPackets.{IpPacket, IpPart, ipv4_part, ipv6_part, IsIp, IsIpv4, IsIpv6}
+use Rattle.ep_ip.specs.Ipv4.{ipv4_header_len}
+use Rattle.ep_ip.specs.Ipv6.{IsIpv6Header, ipv6_bytes, ipv6_payload_source}
+use Rattle.ep_ip.proofs.IpBytesLemmas.{encoded_len}
+use Rattle.ep_link.specs.declared.link_ext.macsec_header.MacsecHeader.{MacsecHeader}
+use Rattle.ep_link.specs.Arp.{Arp, IsArp}
+use Rattle.ep_link.specs.LinkExtensions.{LinkExtension, vlan, macsec, IsLinkExtension, extension_header, extension_payload, extension_type, link_ext_header_len}
+use Rattle.ep_link.specs.Ethernet2.{ethernet2_header_len}
+use Rattle.ep_link.specs.LinkSlices.{LinkLayer}
+use Rattle.ep_link.specs.LinuxSll.{linux_sll_header_len, protocol_ether_type}
+use Rattle.ep_link.specs.Macsec.{IsMacsecHeader, MacsecPayload, macsec_header_len, macsec_len_source, macsec_payload, macsec_payload_bytes, payload_by, ptype_len, sci_len}
+use Rattle.ep_link.specs.Vlan.{IsVlan}
+use Rattle.ep_transport.specs.declared.transport_header.TransportHeader.{TransportHeader}
+use Rattle.ep_transport.specs.declared.transport_header.TransportHeader.TheVariants as header
+use Rattle.ep_transport.specs.TransportParts.{TransportLayer, transport_layer, IsTransportLayer}
+use Rattle.ep_transport.specs.Udp.{IsUdpHeader, udp_bytes}
+use Rattle.ep_packet.specs.declared.entry.Entry.{Entry}
+use Rattle.ep_packet.specs.declared.entry.Entry.TheVariants.{Ethernet as ethernet, LinuxSll as linux_sll, EtherType as ether_type, Ip as ip}
+use Rattle.ep_packet.specs.Frame.{NetKind, only_ipv4, only_ipv6, only_arp, any_ip, net_kind, most_link_exts, IsFrame, IsInside, IsNetPart, IsTransportBehind, IsTransportIn}
+use Rattle.ep_packet.specs.FrameRefusals.{net_header_len}
+use Rattle.ep_packet.specs.Layers.{Layers, NetLayer, ip_layer, ipv4_layer, ipv6_layer, net_payload}
+use Rattle.ep_lax.specs.LaxIp.{LaxIp, IsLaxIpv4, IsLaxIpv6, lax_ip_of, lax_ipv6_source}
+use Rattle.ep_lax.specs.LaxLayers.{LaxLayers, LaxNet, LaxTransport, net_with, no_net, no_transport}
+use Rattle.ep_lax.specs.LaxMacsec.{IsLaxMacsec, lax_macsec_payload, macsec_says}
+use Rattle.ep_lax.specs.Lax.{IsHeaderCutLaxly, IsLaxTransport, IsIpv4Net, IsIpv6Net, IsLaxNet, IsLaxExtension, IsLaxInside, IsLax, arp_net}
+use Rattle.ep_lax.specs.StrictFrames.{AreWhole, IsWhole, extension_in, layers_in}
+
+-- ---- the transport layer
+
+-- a transport layer, or none, of which nothing is missing
+abbrev whole_transport : Option TransportLayer → LaxTransport
+whole_transport layer = record { layer = layer; incomplete = false; stop = None }
+
+-- no field that says 0 says more than is there
+none_more : (n : ℕ) → nat_lt n 0 ≡ false
+none_more n = grind (arith, common_steps)
+
+layer_is_cut : (number : ℕ) (bytes : List ℕ) (h : TransportHeader) (payload : List ℕ)
+    → IsTransportLayer slices number bytes h payload
+    → (all : List ℕ) × IsTransportLayer headers number bytes h all
+    × IsHeaderCutLaxly false h all (whole_transport (Some (transport_layer h payload)))
+layer_is_cut number bytes (header.Udp udp) payload is =
+    let left = is.1.0 in
+    let datagram = is.1.1 in
+    let stands : IsUdpHeader bytes (udp, payload ++ left) = record {
+      fits = datagram.fits;
+      parts = datagram.parts ∙ append_assoc (udp_bytes udp) payload left;
+    } in
+    elim datagram.cut [
+      | inl says ↦ (
+        payload ++ left,
+        (is.0, stands),
+        (
+          record { payload = payload; left = left; source = source.UdpHeaderLen; incomplete = false },
+          cut_there 8 udp.length source.UdpHeaderLen false 8 payload left (omega arith)
+              (omega (arith, length-append payload left)) (sym says),
+          refl,
+        ),
+      )
+      | inr whole ↦
+          let more = nat_lt (8 + length (payload ++ left)) udp.length in
+          let none : more ≡ false =
+          ap (nat_lt (8 + length (payload ++ left))) whole.0 ∙ none_more (8 + length (payload ++ left)) in (
+            payload ++ left,
+            (is.0, stands),
+            (
+              record { payload = payload; left = left; source = source.Slice; incomplete = more },
+              cut_nowhere 8 udp.length source.UdpHeaderLen false 8 payload left (inl (omega (arith, whole.0)))
+                  (ap length whole.1),
+              λ i. record {
+                layer = Some (transport_layer (header.Udp udp) payload);
+                incomplete = sym none i;
+                stop = None;
+              },
+            ),
+          )
+    ]
+layer_is_cut number bytes (header.Tcp tcp) payload is = (payload, is, refl)
+layer_is_cut number bytes (header.Icmpv4 icmp) payload is = (payload, is, refl)
+layer_is_cut number bytes (header.Icmpv6 icmp) payload is = (payload, is, refl)
+
+transport_is_whole : (offset : ℕ) (payload : IpPayload) (transport : Option TransportLayer)
+    → IsTransportIn slices payload transport → IsLaxTransport offset false payload (whole_transport transport)
+transport_is_whole offset payload None is = inr (None, is, refl)
+transport_is_whole offset payload (Some layer) is =
+    let cut = layer_is_cut payload.number payload.bytes layer.header layer.payload is.1 in
+    inr (Some (transport_layer layer.header cut.0), (is.0, cut.1), cut.2)
+
+-- ---- the net layer
+
+-- a packet of which nothing is missing
+abbrev whole_ip : {Header : Type 0} → IpPacket Header → LaxIp Header
+whole_ip packet = record { packet = packet; incomplete = false; stop = None }
+
+ipv4_is_whole : (bytes : List ℕ) (packet : IpPacket Ipv4Header) → IsIpv4 slices bytes packet
+    → IsLaxIpv4 false bytes (whole_ip packet)
+ipv4_is_whole bytes packet is =
+    let encoded = is.cut.encoded in
+    let n = ipv4_header_len packet.header in
+    let len = encoded_len encoded packet.header is.cut.encodes in
+    let says : n + length is.content ≡ packet.header.total_len = omega (arith, is.cut.cut, len) in (
+      (packet.header, is.content ++ packet.left),
+      record {
+        encoded = encoded;
+        encodes = is.cut.encodes;
+        parts = is.cut.parts ∙ append_assoc encoded is.content packet.left;
+      },
+      record {
+        cut = record {
+          payload = is.content;
+          left = packet.left;
+          source = source.Ipv4HeaderTotalLen;
+          incomplete = false;
+        };
+        chain = chain_of packet.extensions packet.payload.number packet.payload.bytes;
+        refused = None;
+        cuts = cut_there n packet.header.total_len source.Ipv4HeaderTotalLen false n is.content packet.left
+            (omega (arith, says)) (omega (arith, says, length-append is.content packet.left)) says;
+        front = is.chain;
+        is = λ i. record {
+          packet = record packet {
+            payload = record packet.payload { fragmented = is.fragmented i; source = is.source i };
+          };
+          incomplete = false;
+          stop = None;
+        };
+      },
+    )
+
+-- what sets the end of a payload whose length is told
+told_source : (length_is_0 : Bool) (some : Bool) (named : LenSource) → length_is_0 ≡ false → (end : LenSource)
+    → end ≡ (if length_is_0 && some then source.Slice else named)
+    → end ≡ (if length_is_0 then (if length_is_0 && some then source.Slice else named) else named)
+told_source true some named untrue end same = cc untrue
+told_source false some named untrue end same = same
+
+-- and of one whose length is not
+untold_source : (length_is_0 : Bool) (same other end : LenSource) → length_is_0 ≡ true → end ≡ same
+    → end ≡ (if length_is_0 then same else other)
+untold_source true same other end true_is is = is
+untold_source false same other end true_is is = cc true_is
+
+ipv6_is_whole : (bytes : List ℕ) (packet : IpPacket Ipv6Header) → IsIpv6 slices bytes packet
+    → IsLaxIpv6 false bytes (whole_ip packet)
+ipv6_is_whole bytes packet is =
+    let h = packet.header in
+    let behind = is.content ++ packet.left in
+    let stands : IsIpv6Header bytes (h, behind) = record {
+      fits = is.cut.fits;
+      parts = is.cut.parts ∙ append_assoc (ipv6_bytes h) is.content packet.left;
+    } in
+    let chain = chain_of packet.extensions packet.payload.number packet.payload.bytes in
+    let all = length-append is.content packet.left in
+    elim is.cut.cut [
+      | inl some ↦
+          let cut : LaxCut = record {
+            payload = is.content;
+            left = packet.left;
+            source = source.Ipv6HeaderPayloadLen;
+            incomplete = false;
+          } in
+          let not_0 : (h.payload_length == 0) ≡ false = grind (arith, common_steps) in
+          let end : packet.payload.source ≡ lax_ipv6_source h cut =
+          told_source (h.payload_length == 0) (nat_lt 0 (length is.content)) source.Ipv6HeaderPayloadLen not_0
+          packet.payload.source is.source in (
+            (h, behind),
+            stands,
+            record {
+              cut = cut;
+              chain = chain;
+              refused = None;
+              cuts = cut_there 41 (40 + h.payload_length) source.Ipv6HeaderPayloadLen false 40 is.content packet.left
+                  (omega arith) (omega (arith, all)) (omega arith);
+              front = is.chain;
+              is = λ i. record {
+                packet = record packet {
+                  payload = record packet.payload { fragmented = is.fragmented i; source = end i };
+                };
+                incomplete = false;
+                stop = None;
+              };
+            },
+          )
+      | inr none ↦
+          let more = nat_lt (40 + length behind) (40 + h.payload_length) in
+          let no_more : more ≡ false =
+          ap (λ (n : ℕ). nat_lt (40 + length behind) (40 + n)) none.0 ∙ past_header (length behind) in
+          let cut : LaxCut = record {
+            payload = is.content;
+            left = packet.left;
+            source = source.Slice;
+            incomplete = more;
+          } in
+          let is_0 : (h.payload_length == 0) ≡ true = ap (λ (n : ℕ). n == 0) none.0 in
+          let end : packet.payload.source ≡ lax_ipv6_source h cut =
+          untold_source (h.payload_length == 0) (ipv6_payload_source h is.content) source.Slice packet.payload.source
+          is_0 is.source in (
+            (h, behind),
+            stands,
+            record {
+              cut = cut;
+              chain = chain;
+              refused = None;
+              cuts = cut_nowhere 41 (40 + h.payload_length) source.Ipv6HeaderPayloadLen false 40 is.content packet.left
+                  (inl (omega (arith, none.0))) (ap length none.1);
+              front = is.chain;
+              is = λ i. record {
+                packet = record packet {
+                  payload = record packet.payload { fragmented = is.fragmented i; source = end i };
+                };
+                incomplete = sym no_more i;
+                stop = None;
+              };
+            },
+          )
+    ]
+  where
+    past_header : (n : ℕ) → nat_lt (40 + n) (40 + 0) ≡ false
+    past_header n = grind (arith, common_steps)
+
+-- a net layer of which nothing is missing, with a transport layer or none
+abbrev whole_net : NetLayer → Option TransportLayer → LaxNet
+whole_net layer transport = net_with layer false (whole_transport transport)
+
+ipv4_net : (offset : ℕ) (bytes : List ℕ) (packet : IpPacket Ipv4Header) (transport : Option TransportLayer)
+    → IsIpv4 slices bytes packet → IsTransportIn slices packet.payload transport
+    → IsIpv4Net offset false bytes (whole_net (ipv4_layer packet) transport)
+ipv4_net offset bytes packet transport is inside = (
+  whole_ip packet,
+  ipv4_is_whole bytes packet is,
+  (
+    whole_transport transport,
+    transport_is_whole (offset + net_header_len (ipv4_layer packet)) packet.payload transport inside,
+    refl,
+  ),
+)
+
+ipv6_net : (offset : ℕ) (bytes : List ℕ) (packet : IpPacket Ipv6Header) (transport : Option TransportLayer)
+    → IsIpv6 slices bytes packet → IsTransportIn slices packet.payload transport
+    → IsIpv6Net offset false bytes (whole_net (ipv6_layer packet) transport)
+ipv6_net offset bytes packet transport is inside = (
+  whole_ip packet,
+  ipv6_is_whole bytes packet is,
+  (
+    whole_transport transport,
+    transport_is_whole (offset + net_header_len (ipv6_layer packet)) packet.payload transport inside,
+    refl,
+  ),
+)
+
+-- what is known of a net layer that is read laxly
+record IsWholeNet (offset : ℕ) (kind : Option NetKind) (bytes : List ℕ) (net : Option NetLayer)
+    (transport : Option TransportLayer) : Type 0 where
+  read : LaxNet
+  is : IsLaxNet offset false kind bytes read
+  layer : read.layer ≡ net
+  inside : read.inside ≡ whole_transport transport
+  whole : read.incomplete ≡ false
+
+net_is_whole : (offset : ℕ) (kind : Option NetKind) (bytes : List ℕ) (net : Option NetLayer)
+    (transport : Option TransportLayer) → IsNetPart slices kind bytes net transport
+    → IsWholeNet offset kind bytes net transport
+net_is_whole offset None bytes net transport part = record {
+  read = no_net false None;
+  is = refl;
+  layer = sym part.0;
+  inside = λ i. whole_transport (sym part.1 i);
+  whole = refl;
+}
+net_is_whole offset (Some only_ipv4) bytes net transport part =
+    let packet = part.1.0 in
+    let behind = subst (λ (l : NetLayer). IsTransportBehind slices (net_payload l) transport) part.1.2 part.3 in
+    record {
+      read = whole_net (ipv4_layer packet) transport;
+      is = inr (ipv4_net offset bytes packet transport part.1.1 behind);
+      layer = ap Some (sym part.1.2) ∙ sym part.2;
+      inside = refl;
+      whole = refl;
+    }
+net_is_whole offset (Some only_ipv6) bytes net transport part =
+    let packet = part.1.0 in
+    let behind = subst (λ (l : NetLayer). IsTransportBehind slices (net_payload l) transport) part.1.2 part.3 in
+    record {
+      read = whole_net (ipv6_layer packet) transport;
+      is = inr (ipv6_net offset bytes packet transport part.1.1 behind);
+      layer = ap Some (sym part.1.2) ∙ sym part.2;
+      inside = refl;
+      whole = refl;
+    }
+net_is_whole offset (Some only_arp) bytes net transport part =
+    let behind = subst (λ (l : NetLayer). IsTransportBehind slices (net_payload l) transport) part.1.2 part.3 in
+    record {
+      read = arp_net part.1.0.0;
+      is = inr (part.1.0, part.1.1, refl);
+      layer = ap Some (sym part.1.2) ∙ sym part.2;
+      inside = λ i. whole_transport (sym behind i);
+      whole = refl;
+    }
+net_is_whole offset (Some any_ip) bytes net transport part = open_version part.1.0 part.1.1 part.1.2
+  where
+    open_version : (found : IpPart) → IsIp slices bytes found → part.0 ≡ ip_layer found
+        → IsWholeNet offset (Some any_ip) bytes net transport
+    open_version (ipv4_part packet) is same =
+        let behind = subst (λ (l : NetLayer). IsTransportBehind slices (net_payload l) transport) same part.3 in
+        record {
+          read = whole_net (ipv4_layer packet) transport;
+          is = inl (ipv4_net offset bytes packet transport is behind);
+          layer = ap Some (sym same) ∙ sym part.2;
+          inside = refl;
+          whole = refl;
+        }
+    open_version (ipv6_part packet) is same =
+        let behind = subst (λ (l : NetLayer). IsTransportBehind slices (net_payload l) transport) same part.3 in
+        record {
+          read = whole_net (ipv6_layer packet) transport;
+          is = inr (ipv6_net offset bytes packet transport is behind);
+          layer = ap Some (sym same) ∙ sym part.2;
+          inside = refl;
+          whole = refl;
+        }
+
+-- ---- link extensions
+
+-- an extension of which nothing is missing
+abbrev whole_extension : LinkExtension → LinkExtension × Bool
+whole_extension extension = (extension, false)
+
+-- what a short length other than 0 says
+says_some : (short more : ℕ) → 0 < short → (if short == 0 then 0 else more + short) ≡ more + short
+says_some short more some i = if ne_eqb short 0 (λ none. omega arith) i then 0 else more + short
+
+-- and what sets the end of a payload then
+short_source : (short : ℕ) → 0 < short → macsec_len_source short ≡ source.MacsecShortLength
+short_source zero some = absurd (omega arith)
+short_source (suc short) some = refl
+
+extension_is_whole : (type : EtherType) (bytes : List ℕ) (extension : LinkExtension) (left : List ℕ)
+    → IsLinkExtension type bytes (extension, left) → IsLaxExtension false type bytes (whole_extension extension)
+extension_is_whole type bytes (vlan tag payload) left is =
+    (is.0, subst (λ (l : List ℕ). IsVlan bytes (parts_of tag payload l)) is.1.cut is.1, refl)
+extension_is_whole type bytes (macsec tag payload) left is =
+    let packet = is.1 in
+    let inside = macsec_payload_bytes payload in
+    let n = macsec_header_len tag in
+    let short = tag.short_len in
+    let stands : IsMacsecHeader bytes (tag, inside ++ left) = record {
+      encoded = packet.encoded;
+      encodes = packet.encodes;
+      parts = packet.parts ∙ append_assoc packet.encoded inside left;
+    } in
+    elim packet.cut [
+      | inl some ↦
+          let says : macsec_says tag ≡ 6 + sci_len tag.sci + short = says_some short (6 + sci_len tag.sci) some.0 in
+          let cut : LaxCut =
+          record { payload = inside; left = left; source = source.MacsecShortLength; incomplete = false } in (
+            is.0,
+            (
+              cut,
+              record {
+                behind = inside ++ left;
+                stands = stands;
+                cut = cut_there n (macsec_says tag) source.MacsecShortLength false n inside left
+                    (omega (arith, says, some.1)) (omega (arith, says, some.1, length-append inside left))
+                    (omega (arith, says, some.1));
+              },
+              is.2 ∙ (λ i. payload_by tag.ptype (short_source short some.0 i) inside),
+              refl,
+            ),
+          )
+      | inr none ↦
+          let says : macsec_says tag ≡ 0 =
+          ap (λ (s : ℕ). if s == 0 then 0 else 6 + sci_len tag.sci + s) none.0 in
+          let more = nat_lt (n + length (inside ++ left)) (macsec_says tag) in
+          let no_more : more ≡ false =
+          ap (nat_lt (n + length (inside ++ left))) says ∙ none_more (n + length (inside ++ left)) in
+          let cut : LaxCut = record { payload = inside; left = left; source = source.Slice; incomplete = more } in (
+            is.0,
+            (
+              cut,
+              record {
+                behind = inside ++ left;
+                stands = stands;
+                cut = cut_nowhere n (macsec_says tag) source.MacsecShortLength false n inside left
+                    (inl (omega (arith, says))) (ap length none.1);
+              },
+              is.2 ∙ (λ i. payload_by tag.ptype (macsec_len_source (none.0 i)) inside),
+              sym no_more,
+            ),
+          )
+    ]
+
+-- extensions of which nothing is missing are those that they are
+same_extensions : (extensions : List LinkExtension) → map extension_in (map whole_extension extensions) ≡ extensions
+same_extensions [] = refl
+same_extensions (extension ∷ others) = ap (λ (more : List LinkExtension). extension ∷ more) (same_extensions others)
+
+all_whole : (extensions : List LinkExtension) → AreWhole (map whole_extension extensions)
+all_whole [] = tt
+all_whole (extension ∷ others) = (refl, all_whole others)
+
+-- what is known of what bytes of a type hold
+record IsWholeInside (room offset : ℕ) (type : Option EtherType) (bytes : List ℕ) (extensions : List LinkExtension)
+    (net : Option NetLayer) (transport : Option TransportLayer) : Type 0 where
+  read : LaxNet
+  is : IsLaxInside room offset false type bytes (map whole_extension extensions) read
+  layer : read.layer ≡ net
+  inside : read.inside ≡ whole_transport transport
+  whole : read.incomplete ≡ false
+
+inside_is_whole : (room offset : ℕ) (type : Option EtherType) (bytes : List ℕ) (extensions : List LinkExtension)
+    (net : Option NetLayer) (transport : Option TransportLayer)
+    → IsInside slices room type bytes extensions net transport
+    → IsWholeInside room offset type bytes extensions net transport
+inside_is_whole room offset None bytes extensions net transport part = record {
+  read = no_net false None;
+  is = (ap (map whole_extension) part.0, refl);
+  layer = sym part.1;
+  inside = λ i. whole_transport (sym part.2 i);
+  whole = refl;
+}
+inside_is_whole zero offset (Some type) bytes [] net transport part =
+    let found = net_is_whole offset (net_kind type) bytes net transport part in
+    record { read = found.read; is = found.is; layer = found.layer; inside = found.inside; whole = found.whole }
+inside_is_whole zero offset (Some type) bytes (extension ∷ others) net transport part = absurd part
+inside_is_whole (suc room) offset (Some type) bytes [] net transport part =
+    let found = net_is_whole offset (net_kind type) bytes net transport part.1 in
+    record {
+      read = found.read;
+      is = inl (part.0, found.is);
+      layer = found.layer;
+      inside = found.inside;
+      whole = found.whole;
+    }
+inside_is_whole (suc room) offset (Some type) bytes (extension ∷ others) net transport part =
+    let here = extension_is_whole type bytes extension part.0.0 part.0.1 in
+    let more = inside_is_whole room (offset + link_ext_header_len (extension_header extension))
+    (extension_type extension) (extension_payload extension) others net transport part.1 in
+    record { read = more.read; is = (here, more.is); layer = more.layer; inside = more.inside; whole = more.whole }
+
+-- ---- the whole
+
+-- the layers of a frame, of which nothing is missing
+abbrev whole_layers : Option LinkLayer → List LinkExtension → LaxNet → LaxLayers
+whole_layers link extensions net = record { link = link; link_exts = map whole_extension extensions; net = net }
+
+-- these are the frame's, nothing is missing, and the walk stopped nowhere
+same_as_frame : (layers : Layers) (room offset : ℕ) (type : Option EtherType) (bytes : List ℕ)
+    → (found : IsWholeInside room offset type bytes layers.link_exts layers.net layers.transport)
+    → (layers_in (whole_layers layers.link layers.link_exts found.read) ≡ layers)
+    × IsWhole (whole_layers layers.link layers.link_exts found.read)
+same_as_frame layers room offset type bytes found = (
+  λ i. record {
+    link = layers.link;
+    link_exts = same_extensions layers.link_exts i;
+    net = found.layer i;
+    transport = (found.inside i).layer;
+  },
+  record {
+    extensions = all_whole layers.link_exts;
+    net = found.whole;
+    inside = λ i. (found.inside i).incomplete;
+    stop = λ i. (found.inside i).stop;
+  },
+)
+
+-- a frame is read laxly as its layers
+pub frame_is_whole : (entry : Entry) (bytes : List ℕ) (layers : Layers) → IsFrame entry bytes layers
+    → (read : LaxLayers) × IsLax entry bytes read × (layers_in read ≡ layers) × IsWhole read
+frame_is_whole ethernet bytes layers is =
+    let frame = is.0 in
+    let type = Some frame.header.ether_type in
+    let found = inside_is_whole most_link_exts ethernet2_header_len type frame.payload layers.link_exts
+    layers.net layers.transport is.3 in
+    let same = same_as_frame layers most_link_exts ethernet2_header_len type frame.payload found in (
+      whole_layers layers.link layers.link_exts found.read,
+      (frame, is.1, is.2, found.is),
+      same.0,
+      same.1,
+    )
+frame_is_whole linux_sll bytes layers is =
+    let frame = is.0 in
+    let type = protocol_ether_type frame.header.protocol_type in
+    let found = inside_is_whole most_link_exts linux_sll_header_len type frame.payload layers.link_exts
+    layers.net layers.transport is.3 in
+    let same = same_as_frame layers most_link_exts linux_sll_header_len type frame.payload found in (
+      whole_layers layers.link layers.link_exts found.read,
+      (frame, is.1, is.2, found.is),
+      same.0,
+      same.1,
+    )
+frame_is_whole (ether_type type) bytes layers is =
+    let found = inside_is_whole most_link_exts 0 (Some type) bytes layers.link_exts layers.net layers.transport is.1 in
+    let same = same_as_frame layers most_link_exts 0 (Some type) bytes found in (
+      whole_layers layers.link layers.link_exts found.read,
+      (is.0, found.is),
+      same.0,
+      same.1,
+    )
+frame_is_whole ip bytes layers is =
+    let found = net_is_whole 0 (Some any_ip) bytes layers.net layers.transport is.2 in (
+      record { link = layers.link; link_exts = []; net = found.read },
+      (is.0, refl, found.is),
+      λ i. record { link = layers.link; link_exts = sym is.1 i; net = found.layer i; transport = (found.inside i).layer },
+      record {
+        extensions = tt;
+        net = found.whole;
+        inside = λ i. (found.inside i).incomplete;
+        stop = λ i. (found.inside i).stop;
+      },
+    )

@@ -1,0 +1,17 @@
+use Rattle.std.proofs.Common.{ap, arith}
+use Rattle.ep_base.specs.Readings.{headers}
+use Rattle.ep_base.specs.declared.err.len_error.LenError.{LenError}
+use Rattle.ep_transport.proofs.TransportPlaceLemmas.{at_start, transport_start}
+use Rattle.ep_lax.proofs.lax_transport.fill_transport.Goals as goal
+
+pub behind_header-requires : goal.behind_header-requires
+behind_header-requires c =
+    let error = c.in-Err-Len in
+    let payload = c.args.payload.now in
+    omega (
+      arith,
+      at_start headers payload.ip_number.0 payload.fragmented payload.payload.now error.field-0 error.ensures.err,
+      ap transport_start error.field-0-is,
+      ap (λ (e : LenError). e.layer_start_offset) error.error-is,
+      c.ranges.offset.fits,
+    )

@@ -1,0 +1,64 @@
+-- Why nothing of bytes is read, not even laxly: their first header is refused.
+use Rattle.std.specs.Prelude.{ℕ, Bool, ◌==◌, ◌||◌, not, if◌then◌else◌, List, [], ◌∷◌, ◌++◌, length}
+use Rattle.ep_base.specs.Readings.{len_error}
+use Rattle.ep_base.specs.Tables.{Refuses, RefusesAs, rows_as}
+use Rattle.ep_base.specs.declared.err.layer.Layer.TheVariants as layer
+use Rattle.ep_base.specs.declared.len_source.LenSource.TheVariants as source
+use Rattle.ep_base.specs.declared.err.ip.HeaderError.TheVariants as content
+use Rattle.ep_base.specs.declared.err.ip.LaxHeaderSliceError.{LaxHeaderSliceError}
+use Rattle.ep_base.specs.declared.err.ip.LaxHeaderSliceError.TheVariants as header_error
+use Rattle.ep_base.specs.declared.err.ipv4.HeaderError.TheVariants as ipv4_content
+use Rattle.ep_base.specs.declared.err.ipv4.HeaderSliceError.{HeaderSliceError as Ipv4HeaderError}
+use Rattle.ep_base.specs.declared.err.ipv4.HeaderSliceError.TheVariants as ipv4_error
+use Rattle.ep_base.specs.declared.err.ipv6.HeaderError.TheVariants as ipv6_content
+use Rattle.ep_base.specs.declared.err.ipv6.HeaderSliceError.{HeaderSliceError as Ipv6HeaderError}
+use Rattle.ep_base.specs.declared.err.ipv6.HeaderSliceError.TheVariants as ipv6_error
+use Rattle.ep_ip.specs.Ip.{version_of}
+use Rattle.ep_ip.specs.Ipv4.{ipv4_header_rows}
+use Rattle.ep_ip.specs.Ipv6.{ipv6_header_rows}
+use Rattle.ep_link.specs.Ethernet2.{RefusesEthernet2}
+use Rattle.ep_link.specs.LinuxSll.{RefusesLinuxSll}
+use Rattle.ep_packet.specs.declared.entry.Entry.{Entry}
+use Rattle.ep_packet.specs.declared.entry.Entry.TheVariants.{Ethernet as ethernet, LinuxSll as linux_sll, EtherType as ether_type, Ip as ip}
+use Rattle.ep_packet.specs.declared.err.slice_error.SliceError.{SliceError}
+use Rattle.ep_packet.specs.declared.err.slice_error.SliceError.TheVariants.{Len, Ip}
+use Rattle.ep_packet.specs.FrameRefusals.{linux_sll_refusal}
+
+-- a refusal of a header of IPv4 among those of either version
+abbrev pub of_ipv4_header : Ipv4HeaderError → LaxHeaderSliceError
+of_ipv4_header (ipv4_error.Len error) = header_error.Len error
+of_ipv4_header (ipv4_error.Content (ipv4_content.UnexpectedVersion version)) =
+    header_error.Content (content.UnsupportedIpVersion version)
+of_ipv4_header (ipv4_error.Content (ipv4_content.HeaderLengthSmallerThanHeader ihl)) =
+    header_error.Content (content.Ipv4HeaderLengthSmallerThanHeader ihl)
+
+-- a refusal of a header of IPv6 among those of either version
+abbrev pub of_ipv6_header : Ipv6HeaderError → LaxHeaderSliceError
+of_ipv6_header (ipv6_error.Len error) = header_error.Len error
+of_ipv6_header (ipv6_error.Content (ipv6_content.UnexpectedVersion version)) =
+    header_error.Content (content.UnsupportedIpVersion version)
+
+-- when bytes begin with no IP header: they are of neither version, or the header of their version is refused
+abbrev pub ip_header_rows : List ℕ → List (Bool × LaxHeaderSliceError)
+ip_header_rows bytes =
+    let version = version_of bytes in
+    (length bytes == 0, header_error.Len (len_error 1 0 source.Slice layer.IpHeader))
+    ∷ (not (version == 4 || version == 6), header_error.Content (content.UnsupportedIpVersion version))
+    ∷ (if version == 4 then rows_as of_ipv4_header (ipv4_header_rows bytes)
+    else rows_as of_ipv6_header (ipv6_header_rows bytes))
+
+-- the error of the first row that holds
+abbrev pub RefusesIpHeader : List ℕ → LaxHeaderSliceError → Type 0
+RefusesIpHeader bytes = Refuses (ip_header_rows bytes)
+
+-- the same among the refusals of a packet
+abbrev pub ip_header_refusal : LaxHeaderSliceError → SliceError
+ip_header_refusal (header_error.Len error) = Len error
+ip_header_refusal (header_error.Content error) = Ip error
+
+-- why nothing of the bytes is read: a payload of a known type is always read
+abbrev pub RefusesLax : Entry → List ℕ → SliceError → Type 0
+RefusesLax ethernet bytes = RefusesAs Len (RefusesEthernet2 bytes)
+RefusesLax linux_sll bytes = RefusesAs linux_sll_refusal (RefusesLinuxSll bytes)
+RefusesLax (ether_type type) bytes = λ error. ⊥
+RefusesLax ip bytes = RefusesAs ip_header_refusal (RefusesIpHeader bytes)

@@ -1,0 +1,11 @@
+pub mod LaxIp
+pub mod LaxMacsec
+pub mod LaxSlices
+pub mod LaxLayers
+pub mod Lax
+pub mod LaxRefusals
+pub mod LaxViews
+pub mod LaxPackets
+pub mod LaxPayloads
+pub mod LaxWalk
+pub mod StrictFrames

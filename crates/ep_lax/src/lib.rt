@@ -1,0 +1,29 @@
+//! Packets as captures have them: cut by a snapshot length, or with a length field that says less or more than is there.
+//! What stands is read, and the rest is told as missing.
+#![tactic(auto)]
+
+pub mod laws;
+mod lax_cut;
+mod lax_ether_payload_slice;
+mod lax_ip_payload_slice;
+mod lax_ipv4_slice;
+mod lax_ipv6_slice;
+mod lax_link_ext_slice;
+mod lax_macsec_payload_slice;
+mod lax_macsec_slice;
+mod lax_net_slice;
+mod lax_sliced_packet;
+mod lax_sliced_packet_payload;
+mod lax_sliced_packet_walk;
+mod lax_stop;
+mod lax_transport;
+
+pub use lax_ether_payload_slice::LaxEtherPayloadSlice;
+pub use lax_ip_payload_slice::LaxIpPayloadSlice;
+pub use lax_ipv4_slice::LaxIpv4Slice;
+pub use lax_ipv6_slice::LaxIpv6Slice;
+pub use lax_link_ext_slice::LaxLinkExtSlice;
+pub use lax_macsec_payload_slice::LaxMacsecPayloadSlice;
+pub use lax_macsec_slice::LaxMacsecSlice;
+pub use lax_net_slice::LaxNetSlice;
+pub use lax_sliced_packet::LaxSlicedPacket;
