@@ -1,10 +1,11 @@
 -- The streams that a map's entries are, by name: what a name finds, and what it finds after a change of the map.
-use Rattle.std.proofs.Common.{◌≡◌, ℕ, Bool, true, false, cond, List, [], ◌∷◌, map, Option, Some, None, refl, ap, sym, ◌∙◌, subst, arith, inl, inr}
+use Rattle.std.proofs.Common.{◌≡◌, ℕ, ◌+◌, Bool, true, false, cond, Bor, List, [], ◌∷◌, map, length, Option, Some, None, refl, ap, sym, ◌∙◌, subst, arith, inl, inr}
 use Rattle.std.specs.Cmp.{IsEquivalence}
 use Rattle.std.specs.Option.{MatchOption}
-use Rattle.std.specs.List.{find, count_by, AllByRecursion, IsDistinct}
+use Rattle.std.specs.List.{find, count_by, sum_by, AllByRecursion, IsDistinct}
 use Rattle.std.specs.List.Sorted.{IsPermutation}
-use Rattle.std.specs.Map.{keys_of, lookup, set_value, remove_entry}
+use Rattle.std.specs.Map.{keys_of, values_of, lookup, set_value, remove_entry}
+use Rattle.std.specs.Map.Iter.{deref}
 use Rattle.std.proofs.lemmas.Bool.{cases_Bool}
 use Rattle.std.proofs.lemmas.List.Sums.{sum_by-cons}
 use Rattle.std.proofs.lemmas.List.Sorted.{IsPermutation-map}
@@ -13,6 +14,7 @@ use Rattle.ep_defrag.specs.declared.ip_frag_id.IpFragId.{IpFragId}
 use Rattle.ep_defrag.specs.declared.ip_defrag_pool.OpenStream.{OpenStream}
 use Rattle.ep_defrag.specs.declared.ip_defrag_pool.IpDefragPool.{IpDefragPool}
 use Rattle.ep_defrag.specs.Streams.{same_stream}
+use Rattle.ep_defrag.specs.Buffers.{data_of}
 use Rattle.ep_defrag.specs.Pools.{Stream, stream_at, streams_of, stream_named, NamesDiffer, ChangesStream}
 use Rattle.ep_defrag.proofs.LookupLemmas.{counted, find_permuted}
 use Rattle.ep_defrag.proofs.StreamLemmas.{same_stream_laws}
@@ -29,6 +31,22 @@ module _ {C : Type 0} (eq : C → C → Bool) (laws : IsEquivalence eq) where
 
 abbrev Entries : Type 0 → Type 0 → Type 0
 Entries T C = List (IpFragId C × OpenStream T)
+
+-- ---- the bytes that streams hold
+sum_by-map : {X Y : Type 0} (f : Y → ℕ) (g : X → Y) (xs : List X) → sum_by f (map g xs) ≡ sum_by (λ x. f (g x)) xs
+sum_by-map f g [] = refl
+sum_by-map f g (x ∷ xs) =
+    sum_by-cons f (g x) (map g xs) ∙ ap (λ n. f (g x) + n) (sum_by-map f g xs)
+    ∙ sym (sum_by-cons (λ x. f (g x)) x xs)
+
+pub held_by_values : {T C : Type 0} (es : Entries T C) (shown : List (Bor (OpenStream T)))
+    → map deref shown ≡ values_of es
+    → sum_by (λ stream. length (data_of stream.now.buffer)) shown
+    ≡ sum_by (λ stream. length (data_of stream.buffer)) (map stream_at es)
+held_by_values es shown all =
+    let held = λ (stream : OpenStream _). length (data_of stream.buffer) in
+    sym (sum_by-map held deref shown) ∙ ap (sum_by held) all ∙ sum_by-map held (λ e. e.1) es
+    ∙ sym (sum_by-map (λ stream. length (data_of stream.buffer)) stream_at es)
 
 module _ {T C : Type 0} (eq : C → C → Bool) (laws : IsEquivalence eq) where
   -- the test of a name

@@ -17,9 +17,12 @@ use Rattle.ep_defrag.specs.declared.frame_run.FrameCall.{FrameCall}
 use Rattle.ep_defrag.specs.declared.frame_run.FrameCall.TheVariants as frame
 use Rattle.ep_defrag.specs.declared.frame_run.FrameAnswer.{FrameAnswer}
 use Rattle.ep_defrag.specs.declared.ip_frag_id.IpFragId.{IpFragId}
+use Rattle.ep_defrag.specs.declared.pool_run.PoolAnswer.{PoolAnswer}
+use Rattle.ep_defrag.specs.declared.pool_run.PoolCall.{PoolCall}
 use Rattle.ep_defrag.specs.Streams.{packet_fragment}
 use Rattle.ep_defrag.specs.PayloadCuts.{IsCut}
-use Rattle.ep_defrag.specs.Calls.{Call, gives_frame, drops_streams, returns_buffer, table_after, answers_after, answer_to, accepted_at}
+use Rattle.ep_defrag.specs.Calls.{Call, gives_frame, drops_streams, returns_buffer, table_after, answers_after, answers_to, answer_to, accepted_at}
+use Rattle.ep_defrag.specs.Pools.{plain_call, plain_answer}
 use Rattle.ep_defrag.specs.FrameCalls.{ReadCall, calls_pool, refuses_frame, IsReadAs, IsOnlyRead, HasBytes, AreReadAs, pool_calls, ReadAnswer, not_sliced, pool_answers, read_answer_to, frame_answers_after, frame_answers_to, pool_answers_in, IfPoolHandsOut, read_answer, table_with_read}
 use Rattle.ep_defrag.proofs.CallLemmas.{table_after-push}
 use Rattle.ep_defrag.proofs.AloneLemmas.{handed_at}
@@ -175,3 +178,32 @@ module _ {T C V : Type 0} (limit : ℕ) (eq : C → C → Bool) (keep : V → T 
       rw (read_at [] reads at brought (read_answer answer) is_call answer_is)
       (handed_at payload limit (table_after limit eq keep (pool_calls (take at reads))) brought
       (recursion_from_All (IsCut payload) _ cuts))
+
+-- ---- calls of the pool, read as what they are
+module _ {T C V : Type 0} where
+  -- a call is read as the one that it is
+  abbrev pub IsCalled : PoolCall T C V → ReadCall T C V → Type 0
+  IsCalled call read = read ≡ calls_pool (plain_call call)
+
+  pub calls_read : (calls : List (PoolCall T C V)) (reads : List (ReadCall T C V)) → AllZip IsCalled calls reads
+      → pool_calls reads ≡ map plain_call calls
+  calls_read [] [] all = refl
+  calls_read [] (read ∷ reads) all = absurd all
+  calls_read (call ∷ calls) [] all = absurd all
+  calls_read (call ∷ calls) (read ∷ reads) all =
+      rw all.0 (ap (λ brought. plain_call call ∷ brought) (calls_read calls reads all.1))
+
+-- the answer to one
+abbrev pub pool_says : PoolAnswer → ReadAnswer
+pool_says answer = pool_answers (plain_answer answer)
+
+pool_answers_said : (answers : List PoolAnswer) → pool_answers_in (map pool_says answers) ≡ map plain_answer answers
+pool_answers_said [] = refl
+pool_answers_said (answer ∷ answers) = ap (λ said. plain_answer answer ∷ said) (pool_answers_said answers)
+
+pub calls_answered : {T C V : Type 0} (limit : ℕ) (eq : C → C → Bool) (keep : V → T → Bool)
+    (reads : List (ReadCall T C V)) (answers : List PoolAnswer)
+    → map pool_says answers ≡ frame_answers_to limit eq keep reads
+    → map plain_answer answers ≡ answers_to limit eq keep (pool_calls reads)
+calls_answered limit eq keep reads answers same =
+    sym (pool_answers_said answers) ∙ ap pool_answers_in same ∙ answers_in limit eq keep [] reads

@@ -1,5 +1,5 @@
 -- What a pool holds, after one stream changed, went or began, and after a drop.
-use Rattle.std.proofs.Common.{◌≡◌, ℕ, ◌≤◌, Bool, true, false, List, [], ◌∷◌, map, Bor, Option, Some, None, is_some, cond, sym, refl, ap, ◌∙◌, subst, arith, inl, inr}
+use Rattle.std.proofs.Common.{◌≡◌, ℕ, ◌≤◌, Bool, true, false, List, [], ◌∷◌, map, Bor, Option, Some, None, is_some, cond, if◌then◌else◌, sym, refl, ap, ◌∙◌, subst, arith, inl, inr}
 use Rattle.std.specs.List.{filter, find, count_by, items_where_true}
 use Rattle.std.specs.Cmp.{IsEquivalence}
 use Rattle.std.specs.Fn.{Shared, FnReturnsAt}
@@ -14,7 +14,6 @@ use Rattle.ep_defrag.specs.Calls.{Kept, kept_by}
 use Rattle.ep_defrag.specs.Pools.{Stream, stream_at, limit_of, streams_of, stream_named, HoldsEntry, HoldsTable, ChangesStream, AnswersEach, LeavesAnswered, HoldsAnswered, IsAnsweredBy}
 use Rattle.ep_defrag.proofs.LookupLemmas.{counted, find_none, count_filter, stays_if, find_filter}
 use Rattle.ep_defrag.proofs.EntryLemmas.{same_name}
-use Rattle.ep_defrag.proofs.StreamLemmas.{same_stream_laws}
 
 abbrev Table : Type 0 → Type 0 → Type 0
 Table T C = IpFragId C → Option (Kept T)
@@ -33,10 +32,6 @@ no_entry : {T : Type 0} (C : Type 0) (limit : ℕ) (kept : Option (Kept T))
 no_entry C limit None entry = refl
 no_entry C limit (Some kept) entry = absurd entry
 
-pub same_itself : {C : Type 0} (eq : C → C → Bool) → IsEquivalence eq → (name : IpFragId C)
-    → same_stream eq name name ≡ true
-same_itself eq laws name = (same_stream_laws eq laws).refl name
-
 module _ {T C : Type 0} (eq : C → C → Bool) (laws : IsEquivalence eq) where
   -- One stream has changed, begun or gone: the pool holds each table in which what is kept of its name is what it has
   -- now, and all else as it was.
@@ -52,6 +47,13 @@ module _ {T C : Type 0} (eq : C → C → Bool) (laws : IsEquivalence eq) where
       | inr other ↦ rw (changed.limit, changed.others name other, there name other) (held.each name)
     ];
   }
+
+  -- One stream has gone.
+  pub HoldsTable-removed : (old new : IpDefragPool T C) (id : IpFragId C) → ChangesStream eq old new id None
+      → (table : Table T C) → HoldsTable eq old table
+      → HoldsTable eq new (λ name. if same_stream eq id name then None else table name)
+  HoldsTable-removed old new id changed table held =
+      HoldsTable-changed old new table _ id None changed held (λ name other. rw other refl) (λ name alike. rw alike tt)
 
   module _ (pool : IpDefragPool T C) (table : Table T C) (held : HoldsTable eq pool table) (id : IpFragId C) where
     -- what is kept of a stream that isn't there

@@ -22,5 +22,6 @@ mod OpenLemmas
 mod AloneLemmas
 mod BuiltCutLemmas
 mod FrameLemmas
+mod LoopLemmas
 mod FramesCompleteLemmas
 mod SectionCountLemmas

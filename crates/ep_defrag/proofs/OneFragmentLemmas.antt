@@ -37,11 +37,6 @@ module _ (limit : ℕ) (accepted : List IpFragment) (fragment : IpFragment) (err
       absurd (false≢true (sym (no_memory limit (end_of accepted) (reach_of accepted) fragment error refused) ∙ wants))
   wanting_only wants (inr wanting) = wanting
 
--- a first fragment is not in place
-pub first_may_need_memory : (limit : ℕ) (fragment : IpFragment) → FitsWithin limit [] fragment
-    → MayNeedMemoryWithin limit [] fragment
-first_may_need_memory limit fragment fits = (fits, λ placed. false≢true placed.touching.2)
-
 -- ---- the answer, and what is kept
 module _ {T : Type 0} (limit : ℕ) (kept : Option (Kept T)) (fragment : IpFragment) (timestamp : T) where
   abbrev after : List IpFragment

@@ -12,9 +12,6 @@ and_congr a b c d e f first second both =
     let parts = and_parts a d both in
     rw (first parts.0, second parts.1) refl
 
-numbers_congr : (a b c : List ℕ) → same_numbers a b ≡ true → same_numbers a c ≡ same_numbers b c
-numbers_congr a b c = nat_list_eq_equiv.congr a b c
-
 version_refl : (a : IpFragVersionSpecId) → same_version a a ≡ true
 version_refl (Ipv4 source destination number) =
     rw (nat_list_eq_equiv.refl source, nat_list_eq_equiv.refl destination, nat_eq_equiv.refl number) refl

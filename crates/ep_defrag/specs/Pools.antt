@@ -1,7 +1,7 @@
 -- What a pool holds of each stream, and what its calls bring and are answered, as plain data.
-use Rattle.std.specs.Prelude.{◌≡◌, ◌⊎◌, ℕ, ◌≤◌, ◌<◌, Bool, false, IsTrue, IsFalse, if◌then◌else◌, Option, Some, None, Result, Ok, Err, List, [], ◌∷◌, ◌++◌, length, map}
+use Rattle.std.specs.Prelude.{◌≡◌, ◌⊎◌, ℕ, ◌≤◌, ◌<◌, Bool, false, IsTrue, IsFalse, if◌then◌else◌, Option, Some, None, Result, Ok, Err, IfOk, IfErr, Vec, List, [], ◌∷◌, ◌++◌, length, take, map, slice_get}
 use Rattle.std.specs.Option.{option_map}
-use Rattle.std.specs.List.{find, count_by, items_where_true}
+use Rattle.std.specs.List.{All, HoldsAt, find, count_by, sum_by, items_where_true}
 use Rattle.std.specs.List.Sorted.{IsPermutation}
 use Rattle.std.specs.Fn.{Shared, FnReturnsAt}
 use Rattle.std.proofs.Common.{Bor}
@@ -21,12 +21,14 @@ use Rattle.ep_defrag.specs.declared.pool_run.PoolCall.{PoolCall}
 use Rattle.ep_defrag.specs.declared.pool_run.PoolCall.TheVariants as call
 use Rattle.ep_defrag.specs.declared.pool_run.PoolAnswer.{PoolAnswer}
 use Rattle.ep_defrag.specs.declared.pool_run.PoolAnswer.TheVariants as answer
+use Rattle.ep_defrag.specs.declared.run.RunStop.{RunStop}
 use Rattle.ep_defrag.specs.IpFragments.{IpFragment, fragment_end, range_of, is_complete}
 use Rattle.ep_defrag.specs.FragmentRefusals.{FitsWithin, FitInTurnWithin, RefusesWithin, MayNeedMemoryWithin, is_want_of_memory}
 use Rattle.ep_defrag.specs.Buffers.{HoldsFragments, IsUnchanged, ip_number_of, data_of, sections_of, known_end_of, data_after, sections_after, end_after}
 use Rattle.ep_defrag.specs.Rooms.{LacksRoom}
 use Rattle.ep_defrag.specs.Streams.{PacketFragment, packet_fragment, name_of, same_stream, source_of}
-use Rattle.ep_defrag.specs.Calls.{Kept, accepted_in, answer_with, table_with_fragment, Call, gives_frame, drops_streams, returns_buffer, Payload, Answer, fragment_refused, payload_handed_out, nothing_handed_out, streams_dropped, buffer_returned}
+use Rattle.ep_defrag.specs.PayloadCuts.{IsCut}
+use Rattle.ep_defrag.specs.Calls.{Kept, accepted_in, accepted_at, answer_with, answers_to, table_after, table_with_fragment, CallMayNeedMemory, IfHandedOut, Call, gives_frame, drops_streams, returns_buffer, Payload, Answer, fragment_refused, payload_handed_out, nothing_handed_out, streams_dropped, buffer_returned}
 
 -- ---- what a pool holds
 
@@ -51,6 +53,10 @@ streams_of pool = map stream_at pool.1
 -- the stream of a name
 abbrev pub stream_named : {T C : Type 0} → (C → C → Bool) → IpFragId C → IpDefragPool T C → Option (Stream T C)
 stream_named eq name pool = find (λ stream. same_stream eq stream.id name) (streams_of pool)
+
+-- how many bytes the streams hold, each those from 0 to its greatest end
+abbrev pub held_bytes_of : {T C : Type 0} → IpDefragPool T C → ℕ
+held_bytes_of pool = sum_by (λ stream. length (data_of stream.buffer)) (streams_of pool)
 
 -- no two streams of the pool have one name
 abbrev pub NamesDiffer : {T C : Type 0} → (C → C → Bool) → IpDefragPool T C → Type 0
@@ -291,3 +297,30 @@ payload_in name stream = record {
   len_source = source_of name.ip;
   bytes = data_of stream.buffer;
 }
+
+-- ---- a list of calls
+
+-- What a run of calls on a new pool of a limit answers, where keep answers drops.
+pub record RunsCalls {F T C V A : Type 0} (asks : Shared F (Bor V × (Bor T × Unit {0})) Bool) (keep : F)
+    (eq : C → C → Bool) (max : ℕ) (calls : List (PoolCall T C V))
+    (result : Result (Vec PoolAnswer A × IpDefragPool T C) RunStop) : Type 0 where
+  -- The answers, and what the pool holds, where those of drops are a function of value and timestamp.
+  pub answers : IfOk result (λ run. (decide : V → T → Bool) → IsDecidedBy asks keep decide
+      → map plain_answer run.0.items ≡ answers_to max eq decide (map plain_call calls))
+  pub holds : IfOk result (λ run. (decide : V → T → Bool) → IsDecidedBy asks keep decide
+      → HoldsTable eq run.1 (table_after max eq decide (map plain_call calls)))
+  pub limit : IfOk result (λ run. limit_of run.1 ≡ max)
+  -- Where the fragments of a stream since it last began are cuts of a payload, what is handed out is the payload.
+  pub cuts : IfOk result (λ run. (decide : V → T → Bool) → IsDecidedBy asks keep decide
+      → (at : ℕ) (call : PoolCall T C V) (answer : PoolAnswer)
+      → slice_get calls at ≡ Some call → slice_get run.0.items at ≡ Some answer
+      → (payload : List ℕ) → All (IsCut payload)
+      (accepted_at (table_after max eq decide (map plain_call (take at calls))) (plain_call call))
+      → IfHandedOut (plain_answer answer) (λ handed. handed.bytes ≡ payload))
+  -- No answer is one of memory, and a run that stops past the first call stops at a frame whose fragment fits and is
+  -- not in place.
+  pub no_memory : IfOk result (λ run. All (λ answer. IsFalse (answer_wants_memory answer)) run.0.items)
+  pub within : IfErr result (λ stop. stop.at < length calls)
+  pub stopped : IfErr result (λ stop. 0 < stop.at → (decide : V → T → Bool) → IsDecidedBy asks keep decide
+      → HoldsAt (λ call. CallMayNeedMemory max (table_after max eq decide (map plain_call (take stop.at calls)))
+      (plain_call call)) calls stop.at)

@@ -1,12 +1,12 @@
 //! The pool that puts many payloads together at a time.
 
-ghost use Rattle.std.specs.Prelude.{◌≡◌, ◌<◌, ◌↔◌, [], Bool, Option, None, IsTrue, IfOk, IfErr, OnOk};
+ghost use Rattle.std.specs.Prelude.{◌≡◌, ◌<◌, ◌↔◌, [], length, min, if◌then◌else◌, Bool, Option, None, IsTrue, IfOk, IfErr, OnOk};
 ghost use Rattle.std.specs.Fn.{FnReturnsAt};
-ghost use Rattle.std.specs.Option.{option_map};
+ghost use Rattle.std.specs.Option.{option_copied, option_map};
 ghost use Rattle.ep_defrag.specs.IpFragments.{fragment_end};
-ghost use Rattle.ep_defrag.specs.Streams.{source_of};
+ghost use Rattle.ep_defrag.specs.Streams.{same_stream, source_of};
 ghost use Rattle.ep_defrag.specs.Calls.{Kept, kept_by};
-ghost use Rattle.ep_defrag.specs.Pools.{limit_of, streams_of, stream_named, HoldsTable, LeavesAnswered, HoldsAnswered, IsAnsweredBy, TakesFragment, TakesFrame, fragment_in, plain_payload, payload_in, BufferTakes, BufferRefuses, IsWhole, ChangesStream};
+ghost use Rattle.ep_defrag.specs.Pools.{limit_of, streams_of, stream_named, held_bytes_of, HoldsTable, LeavesAnswered, HoldsAnswered, IsAnsweredBy, TakesFragment, TakesFrame, fragment_in, plain_payload, payload_in, BufferTakes, BufferRefuses, IsWhole, ChangesStream};
 
 use crate::MAX_IP_DEFRAG_LEN_U16;
 use crate::carried_fragment::carried_fragment;
@@ -35,12 +35,13 @@ struct OpenStream<Timestamp> {
 /// Puts the fragmented payloads of many streams together, each as if it were alone.
 ///
 /// A stream is named by an [`IpFragId`]. It begins with the first fragment that is accepted, and ends when its payload
-/// is handed out or when [`retain`](IpDefragPool::retain) drops it.
+/// is handed out or when [`retain`](IpDefragPool::retain) or [`remove`](IpDefragPool::remove) drops it.
 ///
 /// A pool has a limit of bytes for each stream: no fragment is accepted that ends behind it, so no stream's data is
 /// longer ([`data_within_limit`](crate::laws::data_within_limit)), and none has more sections than the limit / 8 + 1
 /// ([`sections_within_limit`](crate::laws::sections_within_limit)). It is what bounds the cost of a stream of hostile
-/// traffic; the number of streams is bounded by [`retain`](IpDefragPool::retain) alone.
+/// traffic; the number of streams is bounded by [`retain`](IpDefragPool::retain) and [`remove`](IpDefragPool::remove)
+/// alone.
 ///
 /// Streams are found by their names in a hash map. Its hash has a fixed seed, so whoever chooses the names can choose
 /// ones that hash alike, and a look-up takes time in proportion to their number. What a stream took is used again by
@@ -89,6 +90,39 @@ impl<Timestamp: Drop, CustomChannelId: Eq + Hash + Drop> IpDefragPool<Timestamp,
             limit: max,
             streams: HashMap::new(alloc),
             spare: SpareBuffers::new(alloc),
+        }
+    }
+
+    /// How many streams are open.
+    #[inline]
+    pub fn stream_count(&self) -> usize
+        ensures { result ≡ length (streams_of self.now) }
+    {
+        self.streams.len()
+    }
+
+    /// How many bytes of payloads the open streams hold: of each those from 0 to its greatest end, where gaps count too.
+    /// It looks at each stream. A payload that was handed out is its caller's, and not counted.
+    pub fn held_bytes(&self) -> usize
+        ensures { result ≡ min (held_bytes_of self.now) usize.MAX }
+    {
+        let mut held: usize = 0;
+        for stream in self.streams.values() {
+            held = held.saturating_add(stream.buffer.data().len());
+        }
+        held
+    }
+
+    /// The timestamp of a stream's last accepted fragment, if the stream is open.
+    pub fn timestamp(&self, id: &IpFragId<CustomChannelId>) -> Option<&Timestamp>
+        ensures { option_copied result
+            ≡ option_map (λ stream. stream.timestamp) (stream_named CustomChannelId.eq id.now self.now) }
+    {
+        // Keys are equal where they name one stream.
+        names::<CustomChannelId>();
+        match self.streams.get(id) {
+            Some(stream) => Some(&stream.timestamp),
+            None => None,
         }
     }
 
@@ -232,6 +266,22 @@ impl<Timestamp: Drop, CustomChannelId: Eq + Hash + Drop> IpDefragPool<Timestamp,
                 false
             },
         );
+    }
+
+    /// Drops one stream, if it is open, and answers its timestamp. All others stay as they are.
+    pub fn remove(&mut self, id: &IpFragId<CustomChannelId>) -> Option<Timestamp>
+        ensures timestamp { result
+            ≡ option_map (λ stream. stream.timestamp) (stream_named CustomChannelId.eq id.now self.old) }
+        ensures holds { (table : IpFragId CustomChannelId → Option (Kept Timestamp)) →
+            HoldsTable CustomChannelId.eq self.old table → HoldsTable CustomChannelId.eq self.new
+            (λ name. if same_stream CustomChannelId.eq id.now name then None else table name) }
+        ensures ends { ChangesStream CustomChannelId.eq self.old self.new id.now None }
+    {
+        // Keys are equal where they name one stream.
+        names::<CustomChannelId>();
+        let stream = self.streams.remove(id)?;
+        self.spare.keep(stream.buffer);
+        Some(stream.timestamp)
     }
 
     /// Takes a payload's memory back, for a stream that begins later. The streams stay as they are.

@@ -1,10 +1,14 @@
 //! What names the stream of a fragment.
 
 ghost use Rattle.std.specs.Prelude.{◌≡◌};
-ghost use Rattle.ep_defrag.specs.Streams.{source_of};
+ghost use Rattle.std.specs.Option.{option_map};
+ghost use Rattle.ep_defrag.specs.Pools.{fragment_in};
+ghost use Rattle.ep_defrag.specs.Streams.{name_of, source_of};
 
+use crate::carried_fragment::carried_fragment;
 use arrayvec::ArrayVec;
 use ep_base::{IpNumber, LenSource, VlanId};
+use ep_packet::SlicedPacket;
 
 /// What the IP header of a fragment says of its stream: the version, the addresses and the identification (RFC 791, 3.1
 /// and RFC 8200, 4.5).
@@ -53,4 +57,23 @@ pub struct IpFragId<CustomChannelId> {
     pub payload_ip_number: IpNumber,
     /// What the user tells streams apart by, as a device's number.
     pub channel_id: CustomChannelId,
+}
+
+impl<CustomChannelId: Drop> IpFragId<CustomChannelId> {
+    /// The name of the stream whose fragment a packet carries, if it carries one: that by which
+    /// [`process_sliced_packet`](crate::IpDefragPool::process_sliced_packet) finds the stream.
+    pub fn of_packet(
+        packet: &SlicedPacket<'_>,
+        channel_id: CustomChannelId,
+    ) -> Option<IpFragId<CustomChannelId>>
+        ensures { result ≡ option_map (λ carried. name_of carried channel_id) (fragment_in packet.now) }
+    {
+        let carried = carried_fragment(packet)?;
+        Some(IpFragId {
+            vlan_ids: carried.vlan_ids,
+            ip: carried.ip,
+            payload_ip_number: carried.payload_ip_number,
+            channel_id,
+        })
+    }
 }

@@ -1,10 +1,8 @@
 //! A list of calls on a pool, in one call.
 
-ghost use Rattle.std.specs.Prelude.{◌≡◌, ◌<◌, ℕ, Bool, List, take, map, length, slice_get, Option, Some, IsFalse, IfOk, IfErr, OnOk, OnErr};
-ghost use Rattle.std.specs.List.{All, HoldsAt};
-ghost use Rattle.ep_defrag.specs.PayloadCuts.{IsCut};
-ghost use Rattle.ep_defrag.specs.Calls.{Kept, table_after, table_with, answer_to, answers_to, CallMayNeedMemory, accepted_at, IfHandedOut};
-ghost use Rattle.ep_defrag.specs.Pools.{limit_of, HoldsTable, IsDecidedBy, plain_call, plain_answer, wants_memory, answer_wants_memory};
+ghost use Rattle.std.specs.Prelude.{◌≡◌, Bool, Option, IsFalse, IfOk, OnOk, OnErr};
+ghost use Rattle.ep_defrag.specs.Calls.{Kept, table_with, answer_to, CallMayNeedMemory};
+ghost use Rattle.ep_defrag.specs.Pools.{limit_of, HoldsTable, IsDecidedBy, RunsCalls, plain_call, plain_answer, wants_memory, answer_wants_memory};
 
 use crate::MAX_IP_DEFRAG_LEN_U16;
 use crate::ip_defrag_error::IpDefragError;
@@ -62,31 +60,7 @@ pub fn run_calls<
     keep: F,
 ) -> Result<(Vec<PoolAnswer>, IpDefragPool<Timestamp, CustomChannelId>), RunStop>
     requires { F.IsAlwaysCallable keep }
-    // The answers, and what the pool holds, where those of drops are a function of value and timestamp.
-    ensures answers { IfOk result (λ run. (decide : V → Timestamp → Bool) → IsDecidedBy F.Fn keep decide →
-        map plain_answer run.0.items ≡ answers_to 65535 CustomChannelId.eq decide (map plain_call calls.entry.items)) }
-    ensures limit { IfOk result (λ run. limit_of run.1 ≡ 65535) }
-    ensures holds { IfOk result (λ run. (decide : V → Timestamp → Bool) → IsDecidedBy F.Fn keep decide →
-        HoldsTable CustomChannelId.eq run.1
-        (table_after 65535 CustomChannelId.eq decide (map plain_call calls.entry.items))) }
-
-    // Where the fragments of a stream since it last began are cuts of a payload, what is handed out is the payload.
-    ensures cuts { IfOk result (λ run. (decide : V → Timestamp → Bool) → IsDecidedBy F.Fn keep decide →
-        (at : ℕ) (call : PoolCall Timestamp CustomChannelId V) (answer : PoolAnswer) →
-        slice_get calls.entry.items at ≡ Some call → slice_get run.0.items at ≡ Some answer →
-        (payload : List ℕ) → All (IsCut payload) (accepted_at
-        (table_after 65535 CustomChannelId.eq decide (map plain_call (take at calls.entry.items))) (plain_call call)) →
-        IfHandedOut (plain_answer answer) (λ handed. handed.bytes ≡ payload)) }
-
-    // No answer is one of memory, and a run that stops past the first call stops at a frame whose fragment fits and is
-    // not in place.
-    ensures no_memory { IfOk result (λ run. All (λ answer. IsFalse (answer_wants_memory answer)) run.0.items) }
-    ensures within { IfErr result (λ stop. stop.at < length calls.entry.items) }
-    ensures stopped { IfErr result (λ stop. 0 < stop.at →
-        (decide : V → Timestamp → Bool) → IsDecidedBy F.Fn keep decide →
-        HoldsAt (λ call. CallMayNeedMemory 65535
-        (table_after 65535 CustomChannelId.eq decide (map plain_call (take stop.at calls.entry.items)))
-        (plain_call call)) calls.entry.items stop.at) }
+    ensures { RunsCalls F.Fn keep CustomChannelId.eq 65535 calls.entry.items result }
 {
     run_calls_with_limit(alloc, MAX_IP_DEFRAG_LEN_U16, calls, keep)
 }
@@ -105,31 +79,7 @@ pub fn run_calls_with_limit<
     keep: F,
 ) -> Result<(Vec<PoolAnswer>, IpDefragPool<Timestamp, CustomChannelId>), RunStop>
     requires { F.IsAlwaysCallable keep }
-    // The answers, and what the pool holds, where those of drops are a function of value and timestamp.
-    ensures answers { IfOk result (λ run. (decide : V → Timestamp → Bool) → IsDecidedBy F.Fn keep decide →
-        map plain_answer run.0.items ≡ answers_to max CustomChannelId.eq decide (map plain_call calls.entry.items)) }
-    ensures limit { IfOk result (λ run. limit_of run.1 ≡ max) }
-    ensures holds { IfOk result (λ run. (decide : V → Timestamp → Bool) → IsDecidedBy F.Fn keep decide →
-        HoldsTable CustomChannelId.eq run.1
-        (table_after max CustomChannelId.eq decide (map plain_call calls.entry.items))) }
-
-    // Where the fragments of a stream since it last began are cuts of a payload, what is handed out is the payload.
-    ensures cuts { IfOk result (λ run. (decide : V → Timestamp → Bool) → IsDecidedBy F.Fn keep decide →
-        (at : ℕ) (call : PoolCall Timestamp CustomChannelId V) (answer : PoolAnswer) →
-        slice_get calls.entry.items at ≡ Some call → slice_get run.0.items at ≡ Some answer →
-        (payload : List ℕ) → All (IsCut payload) (accepted_at
-        (table_after max CustomChannelId.eq decide (map plain_call (take at calls.entry.items))) (plain_call call)) →
-        IfHandedOut (plain_answer answer) (λ handed. handed.bytes ≡ payload)) }
-
-    // No answer is one of memory, and a run that stops past the first call stops at a frame whose fragment fits and is
-    // not in place.
-    ensures no_memory { IfOk result (λ run. All (λ answer. IsFalse (answer_wants_memory answer)) run.0.items) }
-    ensures within { IfErr result (λ stop. stop.at < length calls.entry.items) }
-    ensures stopped { IfErr result (λ stop. 0 < stop.at →
-        (decide : V → Timestamp → Bool) → IsDecidedBy F.Fn keep decide →
-        HoldsAt (λ call. CallMayNeedMemory max
-        (table_after max CustomChannelId.eq decide (map plain_call (take stop.at calls.entry.items))) (plain_call call))
-        calls.entry.items stop.at) }
+    ensures { RunsCalls F.Fn keep CustomChannelId.eq max calls.entry.items result }
 {
     let Ok(mut answers) = Vec::with_capacity(alloc, calls.len()) else {
         return Err(RunStop { at: 0 });

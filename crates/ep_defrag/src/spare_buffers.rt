@@ -8,6 +8,9 @@ use crate::ip_frag_range::IpFragRange;
 use ep_base::IpNumber;
 use std::alloc::{AllocError, Global};
 
+/// How many places a list has at least, once it has any.
+const FEWEST_PLACES: usize = 4;
+
 /// Vectors whose memory is used again. What they hold has no meaning.
 ///
 /// Only [`reserve`](SpareBuffers::reserve) takes memory. A vector that finds no place is freed.
@@ -38,9 +41,8 @@ impl SpareBuffers {
         ensures full { OnErr result
             ((vec_capacity self.old.bytes < count) ⊎ (vec_capacity self.old.sections < count)) }
     {
-        self.bytes.reserve(count.saturating_sub(self.bytes.len()))?;
-        self.sections
-            .reserve(count.saturating_sub(self.sections.len()))
+        reserve_places(self.alloc, &mut self.bytes, count)?;
+        reserve_places(self.alloc, &mut self.sections, count)
     }
 
     /// An empty buffer, which uses memory that lies here, if any.
@@ -87,4 +89,24 @@ impl SpareBuffers {
             let _ = self.sections.push(sections);
         }
     }
+}
+
+/// Room in a list for so many vectors, with those that lie there. An empty list is made anew: to let it grow would copy
+/// its places, none of which was used, and so make them take memory.
+fn reserve_places<T: Drop>(
+    alloc: Global,
+    list: &mut Vec<Vec<T>>,
+    count: usize,
+) -> Result<(), AllocError>
+    ensures items { list.new.items ≡ list.old.items }
+    ensures room { OnOk result (count ≤ vec_capacity list.new) }
+    ensures full { OnErr result (vec_capacity list.old < count) }
+{
+    let room = list.capacity();
+    if room < count && list.is_empty() {
+        let places = count.max(room.saturating_mul(2)).max(FEWEST_PLACES);
+        *list = Vec::with_capacity(alloc, places)?;
+        return Ok(());
+    }
+    list.reserve(count.saturating_sub(list.len()))
 }

@@ -41,10 +41,21 @@ AUTHENTICATED = joined(
     *("001504d200100000", "0102030405060708"),
 )
 OPTIONS = joined("46000018000040001400e39dc0a80101c0a80102", "01010100")
+# Both at once, in front of four bytes of the number 59.
+OPTIONS_AND_AUTHENTICATION = joined(
+    *("460000280000000040330000c0a80101c0a80102", "01010101"),
+    *("3b01000000000002", "00000003", "01020304"),
+)
 # Hop by hop options, a routing header of 16 bytes, a fragment header, an authentication header and destination options.
 EXTENSIONS = joined(
     *("2b00000000000000", "2c01000000000000", "0000000000000000", "3300000000000001"),
     *("3c02000000000001", "0000000000000002", "1100000000000000", "001504d200080000"),
+)
+# Hop by hop options of 16 bytes, destination options, a routing header, a fragment header, an authentication header
+# with a check value, the final destination options, and a datagram without payload.
+MORE_EXTENSIONS = joined(
+    *("3c01000000000000", "0000000000000000", "2b00000000000000", "2c00000000000000", "3300000000000001"),
+    *("3c02000000000002", "00000003aabbccdd", "1100000000000000", "001504d200080000"),
 )
 TCP_OPTIONS = joined("0015000c0000303900000000", "70000fa0dc7a0000", "0101010101010100")
 TIMES = "000000010000000200000003"
@@ -59,6 +70,11 @@ def macsec(*parts):
     return joined(ADDRESSES, "88e5", *parts)
 
 
+def message(number, kind):
+    """A message of 20 bytes of this type behind an IPv6 header of payload length 0."""
+    return open_packet(number, joined(f"{kind:02x}", bytes(19)))
+
+
 ETHERNET = (14, 14, "Slice", "Ethernet2Header", 0)
 VERSION = (1, 1, "Slice", "IpHeader", 0)
 IPV4 = (20, 20, "Slice", "Ipv4Header", 0)
@@ -70,6 +86,12 @@ TAG_AND_TYPE = (22, 8, "Slice", "MacsecHeader", 14)
 def behind_ipv6(required, layer):
     """Of what a payload length of 0 says nothing is there."""
     return [VERSION, IPV6, (41, required, "Ipv6HeaderPayloadLen", layer, 40)]
+
+
+def messages(number, kinds, layer):
+    """Messages with a header of eight bytes."""
+    table = [*behind_ipv6(8, layer), (48, 8, "Slice", layer, 40)]
+    return [("ip", message(number, kind), table) for kind in kinds]
 
 
 CUTS = [
@@ -175,20 +197,100 @@ CUTS = [
         macsec("2c0300000001", "0000000000000002", "aabbcc"),
         [ETHERNET, TAG, (28, 14, "Slice", "MacsecHeader", 14), (31, 17, "Slice", "MacsecPacket", 14)],
     ),
+    (
+        "eth",
+        macsec("280300000001", "0000000000000002", "aabbcc"),
+        [ETHERNET, TAG, (28, 14, "Slice", "MacsecHeader", 14), (31, 17, "Slice", "MacsecPacket", 14)],
+    ),
     ("eth", macsec("0c0000000001"), [ETHERNET, TAG]),
+    # Replies, unreachable destinations, source quenches, redirects, times exceeded, problems with parameters and a
+    # type that is not known, of ICMPv4; errors, echoes, the messages of neighbours and routers, and a type that is not
+    # known, of ICMPv6.
+    *messages(1, [0, 3, 4, 5, 11, 12, 42], "Icmpv4"),
+    *messages(58, [1, 2, 3, 4, 129, 133, 134, 135, 136, 137, 200], "Icmpv6"),
+    # By an ether type, where the version is that of the type.
+    (
+        "eth",
+        joined(ADDRESSES, "0800", OPTIONS_AND_AUTHENTICATION),
+        [
+            ETHERNET,
+            (34, 20, "Slice", "Ipv4Header", 14),
+            (38, 24, "Slice", "Ipv4Header", 14),
+            (54, 40, "Slice", "Ipv4Packet", 14),
+        ],
+    ),
+    (
+        "ip",
+        OPTIONS_AND_AUTHENTICATION,
+        [VERSION, IPV4, (24, 24, "Slice", "Ipv4Header", 0), (40, 40, "Slice", "Ipv4Packet", 0)],
+    ),
+    (
+        "eth",
+        joined(ADDRESSES, "86dd", FRAGMENT),
+        [ETHERNET, (54, 40, "Slice", "Ipv6Header", 14), (78, 64, "Slice", "Ipv6Packet", 14)],
+    ),
+    (
+        "eth",
+        joined(ADDRESSES, "86dd", open_packet(0, MORE_EXTENSIONS)),
+        [
+            ETHERNET,
+            (54, 40, "Slice", "Ipv6Header", 14),
+            (55, 8, "Ipv6HeaderPayloadLen", "Ipv6ExtHeader", 54),
+            (62, 8, "Slice", "Ipv6ExtHeader", 54),
+            (70, 16, "Slice", "Ipv6ExtHeader", 54),
+            (78, 8, "Slice", "Ipv6ExtHeader", 70),
+            (86, 8, "Slice", "Ipv6ExtHeader", 78),
+            (94, 8, "Slice", "Ipv6FragHeader", 86),
+            (106, 12, "Slice", "IpAuthHeader", 94),
+            (110, 16, "Slice", "IpAuthHeader", 94),
+            (118, 8, "Slice", "Ipv6ExtHeader", 110),
+            (126, 8, "Slice", "UdpHeader", 118),
+        ],
+    ),
 ]
 
-# A frame, a place in it, the bytes that are put there, and the answer.
-LYING = [
-    (DATAGRAM, 16, "0013", "err len 20 19 Ipv4HeaderTotalLen Ipv4Packet 14"),
-    (DATAGRAM, 16, "001b", "err len 8 7 Ipv4HeaderTotalLen UdpHeader 34"),
-    (DATAGRAM, 16, "ffff", "err len 65535 36 Slice Ipv4Packet 14"),
-    (DATAGRAM, 14, "44", "err ipv4-ihl 4"),
-    (DATAGRAM, 14, "55", "err ipv4-version 5"),
-    (DATAGRAM, 14, "4f", "err len 60 36 Slice Ipv4Header 14"),
-    (SEGMENT, 46, "40", "err tcp-data-offset 4"),
-    (SEGMENT, 46, "f0", "err len 60 28 Ipv4HeaderTotalLen TcpHeader 34"),
-]
+# Lengths above those that the frames have.
+LONGER = [63, 64, 255, 256, 1023, 4096, 32767, 32768, 65535]
+
+# What follows an answer `ok` for an Ethernet II frame over IPv4.
+OK = "ok eth - ipv4"
+
+
+def word(number):
+    return number.to_bytes(2, "big")
+
+
+def lying():
+    """A frame, a place in it, the bytes that are put there, and the answer."""
+    total, udp = "Ipv4HeaderTotalLen", "UdpHeaderLen"
+    for length in range(20):
+        yield DATAGRAM, 16, word(length), f"err len 20 {length} {total} Ipv4Packet 14"
+    for length in range(20, 28):
+        yield DATAGRAM, 16, word(length), f"err len 8 {length - 20} {total} UdpHeader 34"
+    for length in range(28, 36):
+        yield DATAGRAM, 16, word(length), f"err len 16 {length - 20} {total} UdpPayload 34"
+    yield DATAGRAM, 16, word(36), f"{OK} udp 0102030405060708"
+    for length in [37, 38, *LONGER]:
+        yield DATAGRAM, 16, word(length), f"err len {length} 36 Slice Ipv4Packet 14"
+    for words in range(5):
+        yield DATAGRAM, 14, bytes([0x40 + words]), f"err ipv4-ihl {words}"
+    for words in range(10, 16):
+        yield DATAGRAM, 14, bytes([0x40 + words]), f"err len {4 * words} 36 Slice Ipv4Header 14"
+    for version in [0, 1, 2, 3, *range(5, 16)]:
+        yield DATAGRAM, 14, bytes([16 * version + 5]), f"err ipv4-version {version}"
+    yield DATAGRAM, 38, word(0), f"{OK} udp 0102030405060708"
+    for length in range(1, 8):
+        yield DATAGRAM, 38, word(length), f"err len 8 {length} {udp} UdpHeader 34"
+    for length in range(8, 17):
+        yield DATAGRAM, 38, word(length), f"{OK} udp {DATAGRAM[42 : 34 + length].hex() or '-'}"
+    for length in [17, 18, 31, 32, *LONGER[2:]]:
+        yield DATAGRAM, 38, word(length), f"err len {length} 16 {total} UdpPayload 34"
+    for words in range(5):
+        yield SEGMENT, 46, bytes([16 * words]), f"err tcp-data-offset {words}"
+    for words in range(5, 8):
+        yield SEGMENT, 46, bytes([16 * words]), f"{OK} tcp {SEGMENT[34 + 4 * words :].hex() or '-'}"
+    for words in range(8, 16):
+        yield SEGMENT, 46, bytes([16 * words]), f"err len {4 * words} 28 {total} TcpHeader 34"
 
 
 def rows():
@@ -203,8 +305,7 @@ def rows():
     # A payload whose end nothing but that of the bytes sets is there as far as it goes.
     for length in range(40, 44):
         yield f"slice ip {OPEN_LENGTH[:length].hex()}", f"ok - - ipv6 - {OPEN_LENGTH[40:length].hex() or '-'}"
-    for frame, place, word, answer in LYING:
-        data = bytes.fromhex(word)
+    for frame, place, data, answer in lying():
         yield f"slice eth {(frame[:place] + data + frame[place + len(data) :]).hex()}", answer
 
 

@@ -102,6 +102,10 @@ def floods(options):
     yield f"{lines:,} frames", cycle([FRAME_LINE], lines)
     yield "1 frame of 65,535 bytes", [long_line]
     yield "1,000 frames of 65,535 bytes", cycle([long_line], 1000)
+    longest = "5a" * 50_000_000
+    yield "1 line of 100 MB that is sliced", [
+        (f"slice eth 0708090a0b0c0102030405061234{longest}", "ok eth - - - " + longest)
+    ]
     yield "1,000 lines that ask nothing", cycle([("slice eth 0g", "err line")], 1000)
     yield f"{lines:,} lines that ask nothing", cycle([("slice eth 0g", "err line")], lines)
     yield f"{10 * lines:,} empty lines", cycle([("", "err line")], 10 * lines)
@@ -114,6 +118,20 @@ def floods(options):
     )
     yield f"the same, a drop of all, and {streams:,} others", itertools.chain(
         first_fragments(range(streams)), [("drop 2", "ok")], first_fragments(range(streams, 2 * streams))
+    )
+    begun = [(fragment(units, 1, "5a" * 64), "none") for units in (0, 8)]
+    yield f"{streams:,} first fragments of 64 bytes, each of its own stream", (
+        (pool_line(begun[0][0], channel), "none") for channel in range(streams)
+    )
+    yield f"{options.open:,} streams of two fragments of 64 bytes, all begun before one goes on", (
+        (pool_line(packet, channel), answer) for packet, answer in begun for channel in range(options.open)
+    )
+    yield f"{options.open:,} streams of two fragments of 64 bytes, one after the other", (
+        (pool_line(packet, channel), answer) for channel in range(options.open) for packet, answer in begun
+    )
+    yield f"{options.open:,} first fragments, each of its own stream", first_fragments(range(options.open))
+    yield "the same, and 1,000 drops that keep all", itertools.chain(
+        first_fragments(range(options.open)), itertools.repeat(("drop 0", "ok"), 1000)
     )
     far = fragment(8191, 1, "")
     yield "1,000 fragments without bytes at offset 8191, each of its own stream", (

@@ -4,7 +4,7 @@ use Rattle.std.proofs.Common.{slice_set, max, unwrap_or, Option, Some, None, Ok,
 use Rattle.std.specs.List.{AllPass}
 use Rattle.std.proofs.lemmas.Bool.{cases_lt}
 use Rattle.hex.specs.Hex.{decode_of, decode_pairs, digit_or_error, hex_digit_value, is_hex_digit, pair_value, value_at}
-use Rattle.hex.proofs.Pairs.{decode_done, decode_start, decode_step, prepend}
+use Rattle.hex.proofs.Pairs.{decode_done, decode_step, prepend}
 use Rattle.hex.proofs.HexLemmas.{decode_of-even, decode_of-ok}
 use Rattle.std.proofs.lemmas.List.Elements.{All-get_or}
 
@@ -37,13 +37,6 @@ pub record IsDecodedTo (text bytes : List ℕ) (at greatest : ℕ) : Type 0 wher
   pub front : greatest < 16
       → decode_pairs 0 text ≡ prepend (take at bytes) (decode_pairs (2 * at) (drop (2 * at) text))
   pub other : 16 ≤ greatest → AllPass is_hex_digit text → ⊥
-
--- nothing is decoded yet
-pub IsDecodedTo-none : (text bytes : List ℕ) → IsDecodedTo text bytes 0 0
-IsDecodedTo-none text bytes = record {
-  front = λ small. decode_start text bytes;
-  other = λ great digits. omega (arith, great);
-}
 
 -- one pair more
 pub IsDecodedTo-more : (text bytes : List ℕ) (at greatest : ℕ) → length text ≡ 2 * length bytes → at < length bytes
