@@ -9,7 +9,7 @@ pub use Rattle.ep_base.specs.NumberComparisons
 pub use Rattle.ep_base.specs.EtherTypes
 pub use Rattle.ep_base.specs.IpNumbers
 pub use Rattle.ep_base.specs.IpPayload
-pub use Rattle.ep_base.specs.Layer
+pub use Rattle.ep_base.specs.Readings
 pub use Rattle.ep_base.specs.Missing
 pub use Rattle.ep_base.specs.Names
 pub use Rattle.ep_base.specs.Padding
@@ -89,6 +89,19 @@ pub use Rattle.ep_packet.specs.TwoParsers
 pub use Rattle.ep_packet.specs.UncutTags
 pub use Rattle.ep_packet.specs.VlanTags
 pub use Rattle.ep_packet.specs.Walk
+-- packets of which bytes are missing
+pub use Rattle.ep_base.specs.LaxCut
+pub use Rattle.ep_ext.specs.FrontChains
+pub use Rattle.ep_lax.specs.LaxIp
+pub use Rattle.ep_lax.specs.LaxMacsec
+pub use Rattle.ep_lax.specs.LaxSlices
+pub use Rattle.ep_lax.specs.LaxLayers
+pub use Rattle.ep_lax.specs.Lax
+pub use Rattle.ep_lax.specs.LaxRefusals
+pub use Rattle.ep_lax.specs.LaxViews
+pub use Rattle.ep_lax.specs.LaxPackets
+pub use Rattle.ep_lax.specs.LaxPayloads
+pub use Rattle.ep_lax.specs.StrictFrames
 -- building
 pub use Rattle.ep_build.specs.AppendedFrames
 pub use Rattle.ep_build.specs.BuildErrors

@@ -5,6 +5,7 @@ pub use Rattle.ep_base.specs.declared.at_least.AtLeast
 pub use Rattle.ep_base.specs.declared.err.ip.HeaderError as IpHeaderError
 pub use Rattle.ep_base.specs.declared.err.ip.HeadersError as IpHeadersError
 pub use Rattle.ep_base.specs.declared.err.ip.HeadersSliceError as IpHeadersSliceError
+pub use Rattle.ep_base.specs.declared.err.ip.LaxHeaderSliceError as IpLaxHeaderSliceError
 pub use Rattle.ep_base.specs.declared.err.ip.SliceError as IpSliceError
 pub use Rattle.ep_base.specs.declared.err.ip_auth.HeaderError as IpAuthHeaderError
 pub use Rattle.ep_base.specs.declared.err.ip_auth.HeaderSliceError as IpAuthHeaderSliceError
@@ -124,6 +125,16 @@ pub use Rattle.ep_packet.specs.declared.net_slice.NetSlice
 pub use Rattle.ep_packet.specs.declared.packet_headers.PacketHeaders
 pub use Rattle.ep_packet.specs.declared.payload_slice.PayloadSlice
 pub use Rattle.ep_packet.specs.declared.sliced_packet.SlicedPacket
+-- packets of which bytes are missing
+pub use Rattle.ep_lax.specs.declared.lax_ether_payload_slice.LaxEtherPayloadSlice
+pub use Rattle.ep_lax.specs.declared.lax_ip_payload_slice.LaxIpPayloadSlice
+pub use Rattle.ep_lax.specs.declared.lax_ipv4_slice.LaxIpv4Slice
+pub use Rattle.ep_lax.specs.declared.lax_ipv6_slice.LaxIpv6Slice
+pub use Rattle.ep_lax.specs.declared.lax_link_ext_slice.LaxLinkExtSlice
+pub use Rattle.ep_lax.specs.declared.lax_macsec_payload_slice.LaxMacsecPayloadSlice
+pub use Rattle.ep_lax.specs.declared.lax_macsec_slice.LaxMacsecSlice
+pub use Rattle.ep_lax.specs.declared.lax_net_slice.LaxNetSlice
+pub use Rattle.ep_lax.specs.declared.lax_sliced_packet.LaxSlicedPacket
 -- building
 pub use Rattle.ep_build.specs.declared.err.build_write_error.BuildWriteError
 pub use Rattle.ep_build.specs.declared.link_part.LinkPart

@@ -23,6 +23,12 @@
 //! what the bytes begin. [`PacketHeaders`] reads the same packets into headers by value ([`LinkHeader`],
 //! [`LinkExtHeader`], [`NetHeaders`], [`TransportHeader`]) and leaves the rest as a [`PayloadSlice`].
 //!
+//! # Packets of which bytes are missing
+//!
+//! [`LaxSlicedPacket`] reads what is there of a packet that a capture has cut, or whose length fields say less or more
+//! than is there: the layers up to the first that does not stand, why that is refused (`stop_err`), and of each payload
+//! whether bytes of it are missing. What [`SlicedPacket`] accepts is read the same.
+//!
 //! # Single layers
 //!
 //! Each header has a struct and a slice, as [`UdpHeader`] and [`UdpSlice`], and can be read and written alone:
@@ -82,6 +88,10 @@ pub use ep_ip::{
     IpSlice, Ipv4Header, Ipv4HeaderSlice, Ipv4Options, Ipv4Slice, Ipv6Header, Ipv6HeaderSlice,
     Ipv6Slice,
 };
+pub use ep_lax::{
+    LaxEtherPayloadSlice, LaxIpPayloadSlice, LaxIpv4Slice, LaxIpv6Slice, LaxLinkExtSlice,
+    LaxMacsecPayloadSlice, LaxMacsecSlice, LaxNetSlice, LaxSlicedPacket,
+};
 pub use ep_link::{
     ArpHardwareId, ArpOperation, ArpPacket, ArpPacketSlice, DoubleVlanHeader, DoubleVlanSlice,
     Ethernet2Header, Ethernet2Slice, LinkExtHeader, LinkExtSlice, LinkHeader, LinkSlice,
@@ -121,7 +131,9 @@ pub mod err {
 
     /// The errors of IP with its extension headers.
     pub mod ip {
-        pub use ep_base::err::ip::{HeaderError, HeadersError, HeadersSliceError, SliceError};
+        pub use ep_base::err::ip::{
+            HeaderError, HeadersError, HeadersSliceError, LaxHeaderSliceError, SliceError,
+        };
         pub use ep_packet::err::HeadersWriteError;
     }
 
@@ -152,6 +164,7 @@ pub mod laws {
     pub use ep_defrag::laws as defrag;
     pub use ep_ext::laws as ext;
     pub use ep_ip::laws as ip;
+    pub use ep_lax::laws as lax;
     pub use ep_link::laws as link;
     pub use ep_packet::laws as packet;
     pub use ep_transport::laws as transport;

@@ -13,7 +13,6 @@ mod drops;
 mod frames;
 mod late_ends;
 mod limits;
-pub(crate) mod lists;
 pub(crate) mod names;
 pub(crate) mod pool;
 

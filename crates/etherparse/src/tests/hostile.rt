@@ -1,11 +1,12 @@
 //! Hostile channels: those whose hash says nothing, and those whose equality says less than their value.
 
-ghost use Rattle.std.specs.Prelude.{[]};
-ghost use Rattle.std.proofs.Common.{refl};
+ghost use Rattle.std.specs.Prelude.{◌≡◌, ◌/◌, nat_eq, []};
+ghost use Rattle.std.proofs.Common.{rules, refl};
+ghost use Rattle.std.specs.Cmp.Rules.{comparing};
+ghost use Rattle.std.specs.Ordering.{on};
 
 use crate::defrag::IpDefragPool;
 use crate::tests::checks::same;
-use crate::tests::defrag::lists::Halved;
 use crate::tests::defrag::pool::*;
 use crate::tests::sizes::ALIKE;
 use crate::{LenSource, SlicedPacket};
@@ -19,6 +20,32 @@ use std::process::Abort;
 struct Silent(u32);
 
 impl Hash for Silent {
+    ghost hash_input = { λ channel. [] };
+
+    ghost respects_eq = { λ a b same. refl };
+
+    fn hash<H: Hasher>(&self, _state: &mut H) {}
+}
+
+/// A channel whose lowest bit says nothing, and whose hash feeds nothing.
+#[derive(Clone, Copy, Debug)]
+pub(crate) struct Halved(pub(crate) u8);
+
+impl PartialEq for Halved {
+    ghost eq = { on (λ channel. channel.0 / 2) nat_eq };
+
+    ghost laws = { Prim.search (comparing, rules) };
+
+    fn eq(&self, other: &Halved) -> bool {
+        self.0 / 2 == other.0 / 2
+    }
+}
+
+impl Eq for Halved {
+    ghost laws = { Prim.search (comparing, rules) };
+}
+
+impl Hash for Halved {
     ghost hash_input = { λ channel. [] };
 
     ghost respects_eq = { λ a b same. refl };

@@ -68,37 +68,6 @@ pub fn arp_request(rt: &impl Abort) -> ArpPacket {
     packet.expect(rt, "the lengths fit")
 }
 
-/// The longest extension header, with no number set.
-fn longest_header(rt: &impl Abort) -> Ipv6RawExtHeader {
-    Ipv6RawExtHeader::new_raw(IpNumber(255), &[8; 2046]).expect(rt, "of 2048 bytes")
-}
-
-/// The longest authentication header, with no number set.
-pub fn longest_auth(rt: &impl Abort) -> IpAuthHeader {
-    IpAuthHeader::new(IpNumber(255), 2, 3, &[7; 1016]).expect(rt, "of 1028 bytes")
-}
-
-/// An extension header of each kind, each as long as it can be, with no number set.
-pub fn longest_extensions(rt: &impl Abort) -> Ipv6Extensions {
-    let routing = Ipv6RoutingExtensions {
-        routing: longest_header(rt),
-        final_destination_options: Some(longest_header(rt)),
-    };
-    let fragment = Ipv6FragmentHeader {
-        next_header: IpNumber(255),
-        fragment_offset: IpFragOffset::ZERO,
-        more_fragments: true,
-        identification: 9,
-    };
-    Ipv6Extensions {
-        hop_by_hop_options: Some(longest_header(rt)),
-        destination_options: Some(longest_header(rt)),
-        routing: Some(routing),
-        fragment: Some(fragment),
-        auth: Some(longest_auth(rt)),
-    }
-}
-
 /// The headers of a fragment of IPv4, whose offset is in units of 8 bytes.
 pub fn ipv4_fragment(rt: &impl Abort, offset: u16, more_fragments: bool) -> IpHeaders {
     let header = Ipv4Header {

@@ -1,8 +1,5 @@
 //! How many cases the tests of many cases have. `long_tests.sh` runs them with more.
 
-/// Random lists of calls.
-pub const RANDOM_LISTS: u32 = 1_500;
-
 /// Streams that are active at once.
 pub const STREAMS: u64 = 10_000;
 

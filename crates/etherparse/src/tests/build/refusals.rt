@@ -52,15 +52,6 @@ fn too_long_for_ipv6(rt: HostRuntime) {
 }
 
 #[test]
-fn too_long_for_udp_in_ipv6(rt: HostRuntime) {
-    let payload = zeros(&rt, rt.alloc(), 65528);
-    let mut buf = begun(&rt, rt.alloc());
-    let answer = ipv6().udp(21, 1234).write(&mut buf, &payload);
-    let error = too_long(65536, 65535, ValueType::Ipv6PayloadLength);
-    is_refused(&rt, &answer, &buf, error);
-}
-
-#[test]
 fn too_long_icmpv6_in_ipv4(rt: HostRuntime) {
     let payload = zeros(&rt, rt.alloc(), 65508);
     let mut buf = begun(&rt, rt.alloc());
@@ -87,17 +78,6 @@ fn too_many_raw_options(rt: HostRuntime) {
         &rt,
         &refused,
         &Some(TcpOptionWriteError::NotEnoughSpace(41)),
-    );
-}
-
-#[test]
-fn too_many_options(rt: HostRuntime) {
-    let options = [(); 5].map(|_| TcpOptionElement::Timestamp(1, 2));
-    let refused = ipv4().tcp(1, 2, 3, 4).options(&options).err();
-    same(
-        &rt,
-        &refused,
-        &Some(TcpOptionWriteError::NotEnoughSpace(50)),
     );
 }
 

@@ -262,7 +262,7 @@ fn part(payload: &[u8], start: u16, end: u16) -> &[u8] {
 }
 
 #[test]
-fn five_cuts_of_ipv4(rt: HostRuntime) {
+fn five_cuts(rt: HostRuntime) {
     let alloc = rt.alloc();
     let payload = bytes_of(alloc, &[Rising(0, 4000)]).expect(&rt, "no memory");
     let mut cuts = Vec::new(alloc);
@@ -272,22 +272,4 @@ fn five_cuts_of_ipv4(rt: HostRuntime) {
         cuts.push(frame).expect(&rt, "no memory");
     }
     in_every_order(&rt, alloc, &cuts, (LenSource::Ipv4HeaderTotalLen, &payload));
-}
-
-#[test]
-fn five_cuts_of_ipv6(rt: HostRuntime) {
-    let alloc = rt.alloc();
-    let payload = bytes_of(alloc, &[Rising(0, 4000)]).expect(&rt, "no memory");
-    let mut cuts = Vec::new(alloc);
-    for (start, end) in CUTS {
-        let headers = ipv6_fragment(&rt, start, end < 500);
-        let frame = built(&rt, alloc, headers, part(&payload, start, end));
-        cuts.push(frame).expect(&rt, "no memory");
-    }
-    in_every_order(
-        &rt,
-        alloc,
-        &cuts,
-        (LenSource::Ipv6HeaderPayloadLen, &payload),
-    );
 }

@@ -92,14 +92,16 @@ fn push(rt: &impl Abort, frame: &mut Vec<u8>, bytes: &[u8]) {
     frame.extend_from_slice(bytes).expect(rt, "no memory");
 }
 
-/// The Ethernet II frame of a fragment, of at most 100 bytes.
-fn frame(
+/// What a pool answers to a fragment of a stream, of at most 100 bytes: its offset in units of 8 bytes, 1 where more
+/// follow, and its bytes.
+pub(crate) fn answer_to(
     rt: &impl Abort,
     alloc: Global,
+    pool: &mut IpDefragPool<u64, u8>,
     (version, tags, source, number): Stream,
     part: (u8, u8),
     payload: &[u8],
-) -> Vec<u8> {
+) -> Answer {
     let len = u8::try_from(payload.len()).unwrap_or(0);
     let mut frame = Vec::new(alloc);
     push(
@@ -114,19 +116,6 @@ fn frame(
         push(rt, &mut frame, &ipv6(source, number, part, len));
     }
     push(rt, &mut frame, payload);
-    frame
-}
-
-/// What a pool answers to a fragment of a stream: its offset in units of 8 bytes, 1 where more follow, and its bytes.
-pub(crate) fn answer_to(
-    rt: &impl Abort,
-    alloc: Global,
-    pool: &mut IpDefragPool<u64, u8>,
-    stream: Stream,
-    part: (u8, u8),
-    payload: &[u8],
-) -> Answer {
-    let frame = frame(rt, alloc, stream, part, payload);
     let packet = SlicedPacket::from_ethernet(&frame).expect(rt, "refused");
     pool.process_sliced_packet(&packet, 1, 0)
 }

@@ -8,8 +8,8 @@ ghost use Rattle.etherparse.specs.Calls.{answers_to, table_after, accepted_at, I
 ghost use Rattle.etherparse.specs.PayloadCuts.{IsCut};
 ghost use Rattle.etherparse.specs.Pools.{plain_call, plain_answer, HoldsTable};
 
-use super::lists::Halved;
 use super::*;
+use crate::tests::hostile::Halved;
 use crate::tests::sizes::STREAMS;
 use std::cell::Cell;
 use std::ops::Range;
@@ -87,27 +87,6 @@ fn streams_by_vlan(rt: HostRuntime) {
     hands_out(&rt, &mut pool, VLAN_1_LAST, 1, WHOLE);
     hands_out(&rt, &mut pool, VLAN_1_LAST, 1, b"");
     hands_out(&rt, &mut pool, VLAN_2_LAST, 1, OTHER);
-}
-
-/// Two streams of IPv6 that differ in the channel alone.
-#[test]
-fn streams_by_channel(rt: HostRuntime) {
-    let mut pool = IpDefragPool::new(rt.alloc());
-    let first = SlicedPacket::from_ip(FIRST_IPV6).expect(&rt, "refused");
-    let last = SlicedPacket::from_ip(LAST_IPV6).expect(&rt, "refused");
-    same(
-        &rt,
-        &pool.process_sliced_packet(&first, 1u64, 0u8),
-        &Ok(None),
-    );
-    same(
-        &rt,
-        &pool.process_sliced_packet(&last, 1u64, 1u8),
-        &Ok(None),
-    );
-    let answer = pool.process_sliced_packet(&last, 1u64, 0u8);
-    let is_wanted = is_payload(&answer, LenSource::Ipv6HeaderPayloadLen, WHOLE);
-    same(&rt, &is_wanted, &true);
 }
 
 /// A drop of the streams older than a limit asks for so many.
@@ -291,46 +270,4 @@ fn named_fragments(rt: HostRuntime) {
     completes(&rt, &mut pool, (0, false), b"abc", b"abc");
     completes(&rt, &mut pool, (1, false), b"ijk", b"");
     completes(&rt, &mut pool, (0, true), b"abcdefgh", b"abcdefghijk");
-}
-
-/// A fragment of the stream of this name completes its payload, which is these bytes. The buffer goes back.
-fn completes_and_returns(
-    rt: &impl Abort,
-    pool: &mut IpDefragPool<u64, u8>,
-    units: u16,
-    payload: &[u8],
-    handed_out: &[u8],
-) {
-    let fragment = Fragment {
-        offset: offset(rt, units),
-        more_fragments: false,
-        payload,
-    };
-    let answer = pool.process_fragment(name(), &fragment, 1);
-    let is_wanted = is_payload(&answer, LenSource::Ipv4HeaderTotalLen, handed_out);
-    same(rt, &is_wanted, &true);
-    if let Ok(Some(payload)) = answer {
-        pool.return_buf(payload);
-    }
-}
-
-/// A stream of 64 bytes leaves its memory to one of 16 bytes, and none of its bytes.
-#[test]
-fn used_again(rt: HostRuntime) {
-    let mut pool = IpDefragPool::new(rt.alloc());
-    let long = b"abcdefghijklmnopqrstuvwxyzabcdefghijklmnopqrstuvwxyzabcdefghijkl";
-    completes(&rt, &mut pool, (0, true), &long[..56], b"");
-    completes_and_returns(&rt, &mut pool, 7, &long[56..], long);
-    completes(&rt, &mut pool, (1, false), b"89ABCDEF", b"");
-    let fragment = Fragment {
-        offset: offset(&rt, 0),
-        more_fragments: true,
-        payload: b"01234567",
-    };
-    let answer = pool.process_fragment(name(), &fragment, 1);
-    let handed_out = answer.expect(&rt, "refused").expect(&rt, "whole");
-    let bytes = handed_out.payload.as_slice();
-    same(&rt, &bytes, &b"0123456789ABCDEF".as_slice());
-    // The room is that of the long one.
-    same(&rt, &(handed_out.payload.capacity() >= 64), &true);
 }

@@ -235,15 +235,6 @@ fn payloads_of_tcp_and_icmp(rt: HostRuntime) {
     );
 }
 
-#[test]
-fn without_an_ether_payload(rt: HostRuntime) {
-    let modified = SlicedPacket::from_entry(MACSEC, MODIFIED).expect(&rt, "refused");
-    same(&rt, &modified.ether_payload(), &None);
-    let netlink = SlicedPacket::from_linux_sll(NETLINK).expect(&rt, "refused");
-    same(&rt, &netlink.ether_payload(), &None);
-    same(&rt, &netlink.payload_ether_type(), &None);
-}
-
 /// Headers that begin with an IP header have no link header.
 #[test]
 fn from_ip_slice(rt: HostRuntime) {
@@ -252,15 +243,13 @@ fn from_ip_slice(rt: HostRuntime) {
     same(&rt, &headers.payload, &PayloadSlice::Udp(b"\x01\x02"));
 }
 
-/// Both parsers refuse the bytes with this error, and leave no layer in values that are used again.
+/// Both parsers refuse the bytes with this error.
 fn refuses(rt: &impl Abort, entry: Entry, bytes: &'static [u8], error: SliceError) {
     let refused = Err(error);
-    let mut sliced = used_slices(rt);
+    let mut sliced = SlicedPacket::new();
     same(rt, &sliced.slice_into(entry, bytes), &refused);
-    same(rt, &sliced, &SlicedPacket::new());
-    let mut headers = used_headers(rt);
+    let mut headers = PacketHeaders::new();
     same(rt, &headers.read_into(entry, bytes), &refused);
-    same(rt, &headers, &PacketHeaders::new());
 }
 
 fn too_short(

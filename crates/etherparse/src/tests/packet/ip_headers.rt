@@ -1,8 +1,7 @@
 //! Headers of the net layer by value: what is read, linked, measured and written.
 
-use crate::err::ip::HeadersWriteError;
 use crate::err::net::NetSetNextHeaderError;
-use crate::err::{Layer, LenError, ValueTooBigError, ValueType, ip, ipv4_exts, ipv6_exts};
+use crate::err::{Layer, LenError, ValueTooBigError, ValueType, ip};
 use crate::tests::checks::same;
 use crate::tests::samples::*;
 use crate::*;
@@ -92,19 +91,6 @@ fn second_of_a_kind(rt: HostRuntime) {
     same(&rt, &payload, &behind);
 }
 
-/// Slices show all.
-#[test]
-fn slices_of_both(rt: HostRuntime) {
-    let packet = SlicedPacket::from_ip(FRAGMENT_TWICE).expect(&rt, "refused");
-    let shown = IpPayloadSlice {
-        ip_number: IpNumber::UDP,
-        fragmented: true,
-        len_source: LenSource::Ipv6HeaderPayloadLen,
-        payload: b"\x00\x01\x02\x03\x04\x05\x06\x07",
-    };
-    same(&rt, &packet.ip_payload(), &Some(&shown));
-}
-
 /// Headers whose numbers and lengths are set are these bytes, with the payload 1 to 8 of UDP behind them.
 fn writes(rt: &impl Abort, alloc: Global, mut headers: IpHeaders, expected: &[u8]) {
     same(rt, &headers.set_payload_len(8), &Ok(()));
@@ -152,18 +138,6 @@ fn ipv6(rt: HostRuntime) {
     reads_back(&rt, rt.alloc(), FRAGMENTED_UDP);
 }
 
-#[test]
-fn longest(rt: HostRuntime) {
-    let mut headers = IpHeaders::Ipv6(Ipv6Header::default(), longest_extensions(&rt));
-    headers.set_next_headers(IpNumber::UDP);
-    same(&rt, &headers.set_payload_len(0), &Ok(()));
-    let mut bytes = Vec::new(rt.alloc());
-    same(&rt, &headers.write(&mut bytes), &Ok(()));
-    same(&rt, &bytes.len(), &IpHeaders::MAX_LEN);
-    let (read, _, payload) = IpHeaders::read_from_slice(&bytes).expect(&rt, "refused");
-    same(&rt, &(read, payload), &(headers, b"".as_slice()));
-}
-
 /// A length is refused: the length of what it counts, and the limit for it.
 fn too_long(
     rt: &impl Abort,
@@ -204,43 +178,6 @@ fn lengths_of_ipv6(rt: HostRuntime) {
     too_long(&rt, with_options(), 65528, (65536, 65535), length);
     let (most, length) = (usize::MAX, ValueType::Ipv6PayloadLength);
     too_long(&rt, with_options(), most, (most, 65527), length);
-}
-
-/// Headers that are not written leave what a vector holds.
-fn is_refused(rt: &impl Abort, alloc: Global, headers: &IpHeaders, error: HeadersWriteError) {
-    let mut bytes = vec![in alloc; 7; 3].expect(rt, "no memory");
-    same(rt, &headers.write(&mut bytes), &Err(error));
-    same(rt, &bytes.as_slice(), &[7, 7, 7].as_slice());
-}
-
-#[test]
-fn authentication_not_referenced(rt: HostRuntime) {
-    let header = Ipv4Header {
-        protocol: IpNumber::UDP,
-        ..Default::default()
-    };
-    let auth = IpAuthHeader::new(IpNumber(255), 2, 3, &[]).ok();
-    let headers = IpHeaders::Ipv4(header, Ipv4Extensions { auth });
-    let missing_ext = IpNumber(51);
-    let error = ipv4_exts::ExtsWalkError::ExtNotReferenced { missing_ext };
-    is_refused(
-        &rt,
-        rt.alloc(),
-        &headers,
-        HeadersWriteError::Ipv4Exts(error),
-    );
-}
-
-#[test]
-fn options_not_referenced(rt: HostRuntime) {
-    let missing_ext = IpNumber(0);
-    let error = ipv6_exts::ExtsWalkError::ExtNotReferenced { missing_ext };
-    is_refused(
-        &rt,
-        rt.alloc(),
-        &with_options(),
-        HeadersWriteError::Ipv6Exts(error),
-    );
 }
 
 #[test]
