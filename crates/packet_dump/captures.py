@@ -56,7 +56,7 @@ def enhanced(order,at,ticks,b,original=None):
 # Interfaces: Ethernet in microseconds; in nanoseconds, a link type that is not read; and in the second section raw IP, in
 # parts of 2^-20 s from a number of seconds on.
 def pcapng():
-    out=section("<")+interface("<",1)+interface("<",276,option("<",2,b"any")+option("<",9,b"\x09")+option("<",0,b""))
+    out=section("<")+interface("<",1)+interface("<",105,option("<",2,b"any")+option("<",9,b"\x09")+option("<",0,b""))
     out+=block("<",4,bytes(4))
     for s,f,b,o in packets: out+=enhanced("<",0,s*1000000+f,b,o)
     out+=enhanced("<",1,1600000034000001500,bytes(20))+block("<",3,struct.pack("<I",len(packets[1][2]))+packets[1][2])

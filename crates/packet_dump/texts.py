@@ -90,7 +90,7 @@ row(ETHERNET, eth(0x0806, arp[:7] + b"\3" + arp[8:]), f"{ETH} arp operation 3")
 row(ETHERNET, eth(0x0806, bytes.fromhex("0001080402020001" "0a0b0c0d" "0e0f1011")), f"{ETH} arp who-has 10:11 tell 0c:0d")
 row(ETHERNET, eth(0x88CC, b"abc"), f"{ETH} type 0x88cc len 3")
 row(ETHERNET, eth(0x0003, b"abc"), f"{ETH} type 0x0003 len 3")
-row(OTHER, b"abc", "link 276")
+row(OTHER, b"abc", "link 105")
 
 # TCP: each flag, and all of them.
 for flags, letters in [(0, ""), (2, "S"), (1, "F"), (4, "R"), (8, "P"), (32, "U"), (64, "E"), (128, "C"), (256, "N")]:
@@ -164,40 +164,40 @@ def short(link, data, layer, needed, there, limit, offset, kept=None):
 
 short(ETHERNET, b"ab", "Ethernet2Header", 14, 2, "Slice", 0)
 short(COOKED, sll(0)[:15], "LinuxSllHeader", 16, 15, "Slice", 0)
-row(COOKED, sll(8), "refused UnsupportedPacketTypeField 8", error="LinuxSll UnsupportedPacketTypeField")
-row(COOKED, sll(0, hardware=530), "refused UnsupportedArpHardwareId 530", error="LinuxSll UnsupportedArpHardwareId")
+row(COOKED, sll(8), "refused LinuxSll UnsupportedPacketTypeField 8", error="LinuxSll UnsupportedPacketTypeField")
+row(COOKED, sll(0, hardware=530), f"sll host from 02:00:00:00:00:01 {V4} udp 21 > 1234 len 0")
 short(ETHERNET, eth(0x8100, b"abc"), "VlanHeader", 4, 3, "Slice", 14)
 short(ETHERNET, eth(0x88E5, b"\x0c\0\0\0\0"), "MacsecHeader", 6, 5, "Slice", 14)
 short(ETHERNET, eth(0x88E5, b"\x0c\x14\0\0\0\1" + bytes(19)), "MacsecPacket", 26, 25, "Slice", 14)
-row(ETHERNET, eth(0x88E5, b"\x80\0\0\0\0\1\x08\0"), "refused UnexpectedVersion", error="Macsec UnexpectedVersion")
-row(ETHERNET, eth(0x88E5, b"\0\1\0\0\0\1\x08\0"), "refused InvalidUnmodifiedShortLen", error="Macsec InvalidUnmodifiedShortLen")
+row(ETHERNET, eth(0x88E5, b"\x80\0\0\0\0\1\x08\0"), "refused Macsec UnexpectedVersion", error="Macsec UnexpectedVersion")
+row(ETHERNET, eth(0x88E5, b"\0\1\0\0\0\1\x08\0"), "refused Macsec InvalidUnmodifiedShortLen", error="Macsec InvalidUnmodifiedShortLen")
 short(ETHERNET, eth(0x0806, arp[:7]), "Arp", 8, 7, "Slice", 14)
 short(ETHERNET, eth(0x0806, arp[:27]), "Arp", 28, 27, "ArpAddrLengths", 14)
 short(RAW, b"", "IpHeader", 1, 0, "Slice", 0)
-row(RAW, b"\x50" + bytes(39), "refused UnsupportedIpVersion 5", error="Ip UnsupportedIpVersion")
-row(RAW, v4(17, udp(b""), first=0x44), "refused Ipv4HeaderLengthSmallerThanHeader 4", error="Ip Ipv4HeaderLengthSmallerThanHeader")
-row(ETHERNET, eth(0x0800, v4(17, udp(b""), first=0x65)), "refused UnexpectedVersion 6", error="Ipv4 UnexpectedVersion")
-row(ETHERNET, eth(0x0800, v4(17, udp(b""), first=0x43)), "refused HeaderLengthSmallerThanHeader 3", error="Ipv4 HeaderLengthSmallerThanHeader")
-row(ETHERNET, eth(0x86DD, v6(17, udp(b""), first=0x40)), "refused UnexpectedVersion 4", error="Ipv6 UnexpectedVersion")
+row(RAW, b"\x50" + bytes(39), "refused Ip UnsupportedIpVersion 5", error="Ip UnsupportedIpVersion")
+row(RAW, v4(17, udp(b""), first=0x44), "refused Ip Ipv4HeaderLengthSmallerThanHeader 4", error="Ip Ipv4HeaderLengthSmallerThanHeader")
+row(ETHERNET, eth(0x0800, v4(17, udp(b""), first=0x65)), "refused Ipv4 UnexpectedVersion 6", error="Ipv4 UnexpectedVersion")
+row(ETHERNET, eth(0x0800, v4(17, udp(b""), first=0x43)), "refused Ipv4 HeaderLengthSmallerThanHeader 3", error="Ipv4 HeaderLengthSmallerThanHeader")
+row(ETHERNET, eth(0x86DD, v6(17, udp(b""), first=0x40)), "refused Ipv6 UnexpectedVersion 4", error="Ipv6 UnexpectedVersion")
 short(ETHERNET, eth(0x0800, v4(17, b"")[:19]), "Ipv4Header", 20, 19, "Slice", 14)
 short(ETHERNET, eth(0x0800, v4(17, b"", first=0x46)), "Ipv4Header", 24, 20, "Slice", 14)
 short(ETHERNET, eth(0x0800, v4(17, udp(b""))), "Ipv4Packet", 28, 27, "Slice", 14, kept=41)
 short(ETHERNET, eth(0x0800, v4(17, udp(b""), total=19)), "Ipv4Packet", 20, 19, "Ipv4HeaderTotalLen", 14)
 short(ETHERNET, eth(0x0800, v4(51, auth[:11])), "IpAuthHeader", 12, 11, "Ipv4HeaderTotalLen", 34)
-row(RAW, v4(51, auth[:1] + b"\0" + auth[2:]), "refused ZeroPayloadLen", error="Ipv4Exts ZeroPayloadLen")
+row(RAW, v4(51, auth[:1] + b"\0" + auth[2:]), "refused Ipv4Exts ZeroPayloadLen", error="Ipv4Exts ZeroPayloadLen")
 short(ETHERNET, eth(0x86DD, v6(17, b"")[:39]), "Ipv6Header", 40, 39, "Slice", 14)
 short(ETHERNET, eth(0x86DD, v6(17, b"abc", length=4)), "Ipv6Packet", 44, 43, "Slice", 14)
 short(ETHERNET, eth(0x86DD, v6(0, chain[:7])), "Ipv6ExtHeader", 8, 7, "Ipv6HeaderPayloadLen", 54)
 short(ETHERNET, eth(0x86DD, v6(44, chain[:7])), "Ipv6FragHeader", 8, 7, "Ipv6HeaderPayloadLen", 54)
 short(ETHERNET, eth(0x86DD, v6(51, auth[:11])), "IpAuthHeader", 12, 11, "Ipv6HeaderPayloadLen", 54)
-row(RAW, v6(60, bytes(16)), "refused HopByHopNotAtStart", error="Ipv6Exts HopByHopNotAtStart")
-row(RAW, v6(51, auth[:1] + b"\0" + auth[2:]), "refused ZeroPayloadLen", error="Ipv6Exts ZeroPayloadLen")
+row(RAW, v6(60, bytes(16)), "refused Ipv6Exts HopByHopNotAtStart", error="Ipv6Exts HopByHopNotAtStart")
+row(RAW, v6(51, auth[:1] + b"\0" + auth[2:]), "refused Ipv6Exts ZeroPayloadLen", error="Ipv6Exts ZeroPayloadLen")
 short(ETHERNET, eth(0x0800, v4(17, udp(b"")[:7])), "UdpHeader", 8, 7, "Ipv4HeaderTotalLen", 34)
 short(ETHERNET, eth(0x0800, v4(17, udp(b"", length=7))), "UdpHeader", 8, 7, "UdpHeaderLen", 34)
 short(ETHERNET, eth(0x86DD, v6(17, udp(b"", length=9))), "UdpPayload", 9, 8, "Ipv6HeaderPayloadLen", 54)
 short(ETHERNET, eth(0x0800, v4(6, tcp(0)[:19])), "TcpHeader", 20, 19, "Ipv4HeaderTotalLen", 34)
 short(ETHERNET, eth(0x0800, v4(6, tcp(0, offset=6))), "TcpHeader", 24, 20, "Ipv4HeaderTotalLen", 34)
-row(RAW, v4(6, tcp(0, offset=4)), "refused DataOffsetTooSmall 4", error="Tcp DataOffsetTooSmall")
+row(RAW, v4(6, tcp(0, offset=4)), "refused Tcp DataOffsetTooSmall 4", error="Tcp DataOffsetTooSmall")
 short(ETHERNET, eth(0x0800, v4(1, icmp(0, 0)[:7])), "Icmpv4", 8, 7, "Ipv4HeaderTotalLen", 34)
 short(RAW, v4(1, icmp(13, 0, numbers + times)[:19]), "Icmpv4Timestamp", 20, 19, "Ipv4HeaderTotalLen", 20)
 short(RAW, v4(1, icmp(14, 0, numbers + times + b"a")), "Icmpv4TimestampReply", 20, 21, "Ipv4HeaderTotalLen", 20)
@@ -226,7 +226,7 @@ halves(1, " ICMP", icmp(8, 0, numbers) + b"a", 103, "icmpv4 echo-request id 1 se
 halves(58, " IPV6_ICMP", icmp(135, 0) + b"a", 104, "icmpv6 neighbor-solicitation len 1")
 halves(99, "", b"0123456789", 105, "protocol 99 len 10")
 halves(17, " UDP", udp(b"ab", length=11), 106, "refused UdpPayload: 11 bytes needed, 10 there (limit Slice, offset 0)")
-halves(6, " TCP", tcp(0, offset=4), 107, "refused DataOffsetTooSmall 4")
+halves(6, " TCP", tcp(0, offset=4), 107, "refused Tcp DataOffsetTooSmall 4")
 refused(108, 8, True, 9, "Payload length 9 of IP fragment (offset 1) is not a multiple of 8. This is only allowed for the last fragment packet.")
 refused(109, 1000, True, 8, "Overall length of IP fragment (offset 125, payload len: 8) bigger then the maximum allowed size of 1000.")
 row(RAW, v4(17, bytes(8), 110, 2), f"{V4} fragment id 110 offset 16 protocol 17 UDP len 8")
@@ -242,9 +242,13 @@ def summary():
         yield f"{name.rstrip(' :')}: {sum(line.count(' ' + name) for line in own)}"
     yield f"refused: {sum(errors.values())}"
     yield from (f"  {name}: {times}" for name, times in errors.items())
+    unread = sum(" link 105" in line for line in lines)
+    yield f"not read: {unread}"
+    yield f"  link 105: {unread}"
     yield f"reassembled: {sum(' reassembled ' in line for line in lines)}"
     yield f"not reassembled: {sum(' not reassembled: ' in line for line in lines)}"
-    yield "streams open: 3"
+    yield "given up: 0"
+    yield "open at the end: 3"
 
 
 def block(number, body):
@@ -255,7 +259,7 @@ def block(number, body):
 def capture():
     """The packets, a microsecond apart, in a section of four interfaces."""
     yield block(0x0A0D0D0A, struct.pack("<IHHq", 0x1A2B3C4D, 1, 0, -1))
-    for link in (1, 101, 113, 276):
+    for link in (1, 101, 113, 105):
         yield block(1, struct.pack("<HHI", link, 0, 0))
     for tick, (link, data, length) in enumerate(packets):
         yield block(6, struct.pack("<IIIII", link, 0, tick, len(data), length) + data)

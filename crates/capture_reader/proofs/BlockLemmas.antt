@@ -1,5 +1,5 @@
 -- Blocks are read in one way.
-use Rattle.std.proofs.Common.{◌≡◌, ℕ, ◌+◌, ◌-◌, ◌%◌, ◌^◌, ◌<◌, ◌≤◌, ◌==◌, ◌||◌, Bool, false, not, is_some, nat_lt}
+use Rattle.std.proofs.Common.{◌≡◌, ℕ, ◌+◌, ◌-◌, ◌%◌, ◌^◌, ◌<◌, ◌≤◌, ◌==◌, ◌&&◌, ◌||◌, Bool, false, not, is_some, nat_lt}
 use Rattle.std.proofs.Common.{List, [], ◌∷◌, ◌++◌, Option, Some, None, length, drop, slice_range}
 use Rattle.std.proofs.Common.{refl, sym, ap, subst, ◌∙◌, append_assoc, length-append, arith}
 use Rattle.std.proofs.lemmas.Bool.{eq-eqb, eqb-true, le-ltb, ltb-false, not-false, not_from_true, or_from, or_parts}
@@ -11,15 +11,15 @@ use Rattle.ep_base.proofs.BytesLemmas.{AreBytes-drop, AreBytes-take}
 use Rattle.ep_base.proofs.TableLemmas.{IsReadBy}
 use Rattle.capture_reader.specs.Numbers.{word16, word32, word32_at}
 use Rattle.capture_reader.specs.Blocks.{FitsContent, IsBlock, PlainBlock, Section}
-use Rattle.capture_reader.specs.Blocks.{header, interface, enhanced, simple, other, block_body, block_bytes, block_in}
+use Rattle.capture_reader.specs.Blocks.{header, interface, enhanced, obsolete, simple, other, block_body, block_bytes, block_in}
 use Rattle.capture_reader.specs.Blocks.{block_len, block_number, block_of, block_order, block_rows, body_rows}
 use Rattle.capture_reader.specs.Blocks.{front_rows}
-use Rattle.capture_reader.specs.Blocks.{has_no_order, kind_in, kind_of, least_len, most_block, order_in, order_of}
+use Rattle.capture_reader.specs.Blocks.{has_no_order, is_other, kind_in, kind_of, least_len, most_block, order_in, order_of}
 use Rattle.capture_reader.specs.Blocks.{order_or, order_said, whole_rows}
 use Rattle.capture_reader.specs.Captures.{BeginsSection, block_shown}
 use Rattle.capture_reader.specs.declared.block.BlockKind.{BlockKind}
 use Rattle.capture_reader.specs.declared.block.BlockKind.TheVariants.{SectionHeader, InterfaceDescription, SimplePacket}
-use Rattle.capture_reader.specs.declared.block.BlockKind.TheVariants.{EnhancedPacket, Other}
+use Rattle.capture_reader.specs.declared.block.BlockKind.TheVariants.{EnhancedPacket, ObsoletePacket, Other}
 use Rattle.capture_reader.specs.declared.byte_order.ByteOrder.{ByteOrder}
 use Rattle.capture_reader.specs.declared.byte_order.ByteOrder.TheVariants.{Big, Little}
 use Rattle.capture_reader.specs.declared.interface.Interface.{Interface}
@@ -29,8 +29,8 @@ use Rattle.capture_reader.proofs.NumberLemmas.{length-word32, range_front, range
 use Rattle.capture_reader.proofs.NumberLemmas.{word32_at-more}
 use Rattle.capture_reader.proofs.NumberLemmas.{word32_front, word32_read}
 use Rattle.capture_reader.proofs.BodyLemmas.{enhanced_is_read, enhanced_reads, header_is_read, header_reads}
-use Rattle.capture_reader.proofs.BodyLemmas.{interface_is_read, interface_reads, row_none, row_pass, simple_is_read}
-use Rattle.capture_reader.proofs.BodyLemmas.{simple_reads}
+use Rattle.capture_reader.proofs.BodyLemmas.{interface_is_read, interface_reads, obsolete_is_read, obsolete_reads, row_none, row_pass}
+use Rattle.capture_reader.proofs.BodyLemmas.{simple_is_read, simple_reads}
 
 -- ---- the numbers of kinds and byte orders
 
@@ -53,6 +53,9 @@ number_simple n is = grind (arith, nat_tests)
 
 number_enhanced : (n : ℕ) → kind_of n ≡ EnhancedPacket → n ≡ 6
 number_enhanced n is = grind (arith, nat_tests)
+
+number_obsolete : (n : ℕ) → kind_of n ≡ ObsoletePacket → n ≡ 2
+number_obsolete n is = grind (arith, nat_tests)
 
 -- what is read as a byte order
 magic_big : (magic : ℕ) → order_said magic ≡ Some Big → magic ≡ 0x1a2b3c4d
@@ -216,6 +219,7 @@ least_12 SectionHeader = omega arith
 least_12 InterfaceDescription = omega arith
 least_12 SimplePacket = omega arith
 least_12 EnhancedPacket = omega arith
+least_12 ObsoletePacket = omega arith
 least_12 Other = omega arith
 
 -- a multiple of four, and twelve more
@@ -280,6 +284,15 @@ holds_with section EnhancedPacket bytes len fits is body_fits size split passed 
       number_is = ap (word32 section.order) (number_enhanced (word32_at section.order bytes 0) is);
       body_is = read.1;
     }
+holds_with section ObsoletePacket bytes len fits is body_fits size split passed =
+    let read = obsolete_reads section len (slice_range bytes 8 (len - 4)) body_fits
+    (omega (arith, size, passed.least)) passed.body in
+    record {
+      fits = read.0;
+      order_is = refl;
+      number_is = ap (word32 section.order) (number_obsolete (word32_at section.order bytes 0) is);
+      body_is = read.1;
+    }
 holds_with section Other bytes len fits is body_fits size split passed = record {
   fits = record { number = word32_at-fits section.order bytes 0 fits; kind = is };
   order_is = refl;
@@ -322,6 +335,7 @@ abbrev block_kind : PlainBlock → BlockKind
 block_kind (header plain) = SectionHeader
 block_kind (interface plain) = InterfaceDescription
 block_kind (enhanced plain) = EnhancedPacket
+block_kind (obsolete plain) = ObsoletePacket
 block_kind (simple plain) = SimplePacket
 block_kind (other plain) = Other
 
@@ -329,6 +343,7 @@ number_fits : (section : Section) (block : PlainBlock) → FitsContent section b
 number_fits section (header plain) fits = omega arith
 number_fits section (interface plain) fits = omega arith
 number_fits section (enhanced plain) fits = omega arith
+number_fits section (obsolete plain) fits = omega arith
 number_fits section (simple plain) fits = omega arith
 number_fits section (other plain) fits = fits.number
 
@@ -337,6 +352,7 @@ kind_of_block : (section : Section) (block : PlainBlock) → FitsContent section
 kind_of_block section (header plain) fits = refl
 kind_of_block section (interface plain) fits = refl
 kind_of_block section (enhanced plain) fits = refl
+kind_of_block section (obsolete plain) fits = refl
 kind_of_block section (simple plain) fits = refl
 kind_of_block section (other plain) fits = fits.kind
 
@@ -345,6 +361,7 @@ number_written : (before : ByteOrder) (block : PlainBlock)
 number_written before (header plain) = sym (section_number plain.order before)
 number_written before (interface plain) = refl
 number_written before (enhanced plain) = refl
+number_written before (obsolete plain) = refl
 number_written before (simple plain) = refl
 number_written before (other plain) = refl
 
@@ -365,6 +382,7 @@ order_read section (header plain) bytes behind parts =
     )
 order_read section (interface plain) bytes behind parts = (refl, refl)
 order_read section (enhanced plain) bytes behind parts = (refl, refl)
+order_read section (obsolete plain) bytes behind parts = (refl, refl)
 order_read section (simple plain) bytes behind parts = (refl, refl)
 order_read section (other plain) bytes behind parts = (refl, refl)
 
@@ -386,6 +404,9 @@ held section (interface plain) len body fits is =
 held section (enhanced plain) len body fits is =
     let read = enhanced_is_read section len plain body fits is in
     record { none = read.0; is = ap (λ p. enhanced p) read.1; least = omega (arith, read.2) }
+held section (obsolete plain) len body fits is =
+    let read = obsolete_is_read section len plain body fits is in
+    record { none = read.0; is = ap (λ p. obsolete p) read.1; least = omega (arith, read.2) }
 held section (simple plain) len body fits is =
     let read = simple_is_read section len plain body fits is in
     record { none = read.0; is = ap (λ p. simple p) read.1; least = omega (arith, read.2) }
@@ -492,6 +513,31 @@ pub number_of_block : (section : Section) (block : PlainBlock) (bytes rest : Lis
 number_of_block section block bytes rest is =
     let found = framed section block bytes rest is in (found.number, omega (arith, found.long))
 
+-- a block that is read whole does not come in parts
+not_long : (section : Section) (block : PlainBlock) (bytes : List ℕ) → kind_in section.order bytes ≡ block_kind block
+    → word32_at (block_order section.order block) bytes 4 ≡ block_len (block_order section.order block) block
+    → block_len (block_order section.order block) block ≤ most_block
+    → is_other (kind_in section.order bytes) && nat_lt most_block (word32_at section.order bytes 4) ≡ false
+not_long section (header plain) bytes kind len most =
+    ap (λ k. is_other k && nat_lt most_block (word32_at section.order bytes 4)) kind
+not_long section (interface plain) bytes kind len most =
+    ap (λ k. is_other k && nat_lt most_block (word32_at section.order bytes 4)) kind
+not_long section (enhanced plain) bytes kind len most =
+    ap (λ k. is_other k && nat_lt most_block (word32_at section.order bytes 4)) kind
+not_long section (obsolete plain) bytes kind len most =
+    ap (λ k. is_other k && nat_lt most_block (word32_at section.order bytes 4)) kind
+not_long section (simple plain) bytes kind len most =
+    ap (λ k. is_other k && nat_lt most_block (word32_at section.order bytes 4)) kind
+not_long section (other plain) bytes kind len most =
+    let few = le-ltb most_block (word32_at section.order bytes 4) (omega (arith, len, most)) in
+    λ i. is_other (kind i) && few i
+
+pub block_not_long : (section : Section) (block : PlainBlock) (bytes rest : List ℕ) → IsBlock section bytes (block, rest)
+    → is_other (kind_in section.order bytes) && nat_lt most_block (word32_at section.order bytes 4) ≡ false
+block_not_long section block bytes rest is =
+    let found = framed section block bytes rest is in
+    not_long section block bytes found.kind found.len is.fits.len
+
 -- a block has a byte at least
 pub block_some : (before : ByteOrder) (block : PlainBlock) → 0 < length (block_bytes before block)
 block_some before block =
@@ -511,6 +557,7 @@ pub section_block : (one : PlainBlock) → BeginsSection one → block_number on
 section_block (header plain) begins = refl
 section_block (interface plain) begins = absurd begins
 section_block (enhanced plain) begins = absurd begins
+section_block (obsolete plain) begins = absurd begins
 section_block (simple plain) begins = absurd begins
 section_block (other plain) begins = absurd begins
 
@@ -518,6 +565,7 @@ pub shows_none : (interfaces : List Interface) (one : PlainBlock) → BeginsSect
 shows_none interfaces (header plain) begins = refl
 shows_none interfaces (interface plain) begins = absurd begins
 shows_none interfaces (enhanced plain) begins = absurd begins
+shows_none interfaces (obsolete plain) begins = absurd begins
 shows_none interfaces (simple plain) begins = absurd begins
 shows_none interfaces (other plain) begins = absurd begins
 

@@ -12,7 +12,7 @@ use Rattle.capture_reader.specs.Blocks.{least_len}
 use Rattle.capture_reader.specs.Blocks.{most_block, order_in, order_of, whole_rows}
 use Rattle.capture_reader.specs.declared.block.BlockKind.{BlockKind}
 use Rattle.capture_reader.specs.declared.block.BlockKind.TheVariants.{SectionHeader, InterfaceDescription, SimplePacket}
-use Rattle.capture_reader.specs.declared.block.BlockKind.TheVariants.{EnhancedPacket, Other}
+use Rattle.capture_reader.specs.declared.block.BlockKind.TheVariants.{EnhancedPacket, ObsoletePacket, Other}
 use Rattle.capture_reader.specs.declared.byte_order.ByteOrder.{ByteOrder}
 use Rattle.capture_reader.specs.declared.byte_order.ByteOrder.TheVariants.{Big}
 use Rattle.capture_reader.specs.declared.interface.Interface.{Interface}
@@ -30,7 +30,6 @@ pub not_final : (e : Refusal) (required len : ℕ) → IsFinal e → Some (refus
 not_final (refusal.Cut other_required other_len) required len final same = final
 not_final (refusal.UnknownMagic magic) required len final same = cc
 not_final (refusal.UnsupportedVersion major minor) required len final same = cc
-not_final (refusal.UnsupportedLinkType link) required len final same = cc
 not_final (refusal.PacketTooLong other) required len final same = cc
 not_final (refusal.UnknownByteOrder magic) required len final same = cc
 not_final (refusal.BlockLength other) required len final same = cc
@@ -43,7 +42,7 @@ not_final (refusal.UndescribedInterface interface) required len final same = cc
 not_final refusal.TooManyInterfaces required len final same = cc
 
 -- what refuses for good is not that bytes are too few
-not_few : (few : Bool) (required len : ℕ) (rows : List (Bool × Refusal)) (e : Refusal) → IsFinal e
+pub not_few : (few : Bool) (required len : ℕ) (rows : List (Bool × Refusal)) (e : Refusal) → IsFinal e
     → first_row ((few, refusal.Cut required len) ∷ rows) ≡ Some e → (few ≡ false) × (first_row rows ≡ Some e)
 not_few true required len rows e final refused = absurd (not_final e required len final refused)
 not_few false required len rows e final refused = (refl, refused)
@@ -124,10 +123,21 @@ block_more section bytes more e final refused =
     same ∙ row_pass (nat_lt m 12) (refusal.Cut 12 m) _ (le-ltb m 12 (omega (arith, size)))
     ∙ past_front (front_rows before kind magic len) (nat_lt n len) (nat_lt m len) len n m last other_last e final goes_on is.1
 
+-- what refuses a block for good is known by its first 12 bytes
+pub block_long : (section : Section) (bytes : List ℕ) (e : Refusal) → IsFinal e
+    → first_row (block_rows section bytes) ≡ Some e → 12 ≤ length bytes
+block_long section bytes e final refused =
+    let order = order_in section.order bytes in
+    let kind = kind_in section.order bytes in
+    let len = word32_at order bytes 4 in
+    let n = length bytes in
+    ltb-false n 12 (not_few (nat_lt n 12) 12 n (front_rows section.order kind (word32_at Big bytes 8) len
+    ++ (nat_lt n len, refusal.Cut len n) ∷ whole_rows section.interfaces order kind len bytes) e final refused).0
+
 -- ---- bytes that are too few
 
 -- where bytes are too few, no row in front refuses, and this one does
-cut_behind : (front : List (Bool × Refusal)) (short : Bool) (len n required there : ℕ) (last : List (Bool × Refusal))
+pub cut_behind : (front : List (Bool × Refusal)) (short : Bool) (len n required there : ℕ) (last : List (Bool × Refusal))
     → AllErrors IsFinal front → AllErrors IsFinal last
     → first_row (front ++ (short, refusal.Cut len n) ∷ last) ≡ Some (refusal.Cut required there)
     → (first_row front ≡ None) × (short ≡ true)
@@ -145,6 +155,7 @@ body_final interfaces order SectionHeader len body = (tt, tt)
 body_final interfaces order InterfaceDescription len body = (tt, (tt, (tt, (tt, (tt, tt)))))
 body_final interfaces order SimplePacket len body = (tt, (tt, (tt, tt)))
 body_final interfaces order EnhancedPacket len body = (tt, (tt, (tt, tt)))
+body_final interfaces order ObsoletePacket len body = (tt, (tt, (tt, tt)))
 body_final interfaces order Other len body = tt
 
 few_or_cut : (few : Bool) (len : ℕ) (rows : List (Bool × Refusal)) (e : Refusal)

@@ -14,14 +14,15 @@ use Rattle.capture_reader.specs.Numbers.{word16, word16_at, word32, word32_at}
 use Rattle.capture_reader.specs.Classic.{most_kept}
 use Rattle.capture_reader.specs.Options.{ends_options, has_len, knows_resolution, options_bytes}
 use Rattle.capture_reader.specs.Options.{padding_of, resolution_said, value_of}
-use Rattle.capture_reader.specs.Blocks.{FitsEnhanced, FitsHeader, FitsInterface, FitsSimple}
-use Rattle.capture_reader.specs.Blocks.{PlainEnhanced, PlainHeader, PlainInterface, PlainSimple}
-use Rattle.capture_reader.specs.Blocks.{header, interface, enhanced, simple, Section, block_body}
-use Rattle.capture_reader.specs.Blocks.{body_rows, enhanced_of, header_of, interface_read, kept_rows}
+use Rattle.capture_reader.specs.Blocks.{FitsEnhanced, FitsHeader, FitsInterface, FitsObsolete, FitsSimple}
+use Rattle.capture_reader.specs.Blocks.{PlainEnhanced, PlainHeader, PlainInterface, PlainObsolete, PlainSimple}
+use Rattle.capture_reader.specs.Blocks.{header, interface, enhanced, obsolete, simple, Section, block_body}
+use Rattle.capture_reader.specs.Blocks.{body_rows, enhanced_of, header_of, interface_read, kept_rows, numbered_rows, obsolete_of}
+use Rattle.capture_reader.specs.Blocks.{packet_body, packet_with}
 use Rattle.capture_reader.specs.Blocks.{knows_minor, most_interfaces, options_rows, said_rows, simple_kept, simple_of}
 use Rattle.capture_reader.specs.Blocks.{version_rows}
 use Rattle.capture_reader.specs.declared.block.BlockKind.TheVariants.{SectionHeader, InterfaceDescription, SimplePacket}
-use Rattle.capture_reader.specs.declared.block.BlockKind.TheVariants.{EnhancedPacket}
+use Rattle.capture_reader.specs.declared.block.BlockKind.TheVariants.{EnhancedPacket, ObsoletePacket}
 use Rattle.capture_reader.specs.declared.byte_order.ByteOrder.{ByteOrder}
 use Rattle.capture_reader.specs.declared.byte_order.ByteOrder.TheVariants.{Big}
 use Rattle.capture_reader.specs.declared.interface.Interface.{Interface}
@@ -44,11 +45,6 @@ row_none false error others none = (refl, none)
 pub row_pass : (condition : Bool) (error : Refusal) (others : Option Refusal) → condition ≡ false
     → (if condition then Some error else others) ≡ others
 row_pass condition error others pass = ap (λ (c : Bool). if c then Some error else others) pass
-
--- the first row that holds
-pub row_hit : (condition : Bool) (error : Refusal) (others : Option Refusal) → condition ≡ true
-    → (if condition then Some error else others) ≡ Some error
-row_hit condition error others hit = ap (λ (c : Bool). if c then Some error else others) hit
 
 -- ---- the bytes of a packet, and what fills them up
 
@@ -262,31 +258,31 @@ interface_is_read section len plain body fits is =
 
 -- ---- packets
 
-abbrev enhanced_words : PlainEnhanced → List ℕ
-enhanced_words plain =
-    plain.number ∷ plain.high ∷ plain.low ∷ length plain.bytes ∷ plain.original_len ∷ []
+abbrev packet_words : PlainEnhanced → List ℕ
+packet_words plain =
+    plain.high ∷ plain.low ∷ length plain.bytes ∷ plain.original_len ∷ []
 
-enhanced_parts : (order : ByteOrder) (plain : PlainEnhanced)
-    → block_body order (enhanced plain)
-    ≡ words_then order (enhanced_words plain) (plain.bytes ++ (plain.padding ++ plain.options))
-enhanced_parts order plain = simp append_assoc
+packet_parts : (order : ByteOrder) (plain : PlainEnhanced)
+    → packet_body order plain
+    ≡ words_then order (packet_words plain) (plain.bytes ++ (plain.padding ++ plain.options))
+packet_parts order plain = simp append_assoc
 
-pub enhanced_reads : (section : Section) (len : ℕ) (body : List ℕ) → AreBytes body → 20 ≤ length body
-    → first_row (body_rows section.interfaces section.order EnhancedPacket len body) ≡ None
-    → FitsEnhanced section (enhanced_of section.order body)
-    × (body ≡ block_body section.order (enhanced (enhanced_of section.order body)))
-enhanced_reads section len body fits long none =
+-- what stands behind the number of an interface
+packet_reads : (section : Section) (number len : ℕ) (body : List ℕ) → AreBytes body → 20 ≤ length body → number < 2 ^ 32
+    → first_row (numbered_rows section.interfaces number section.order len body) ≡ None
+    → FitsEnhanced section (packet_with section.order number body)
+    × (drop 4 body ≡ packet_body section.order (packet_with section.order number body))
+packet_reads section number len body fits long numbered none =
     let order = section.order in
-    let plain = enhanced_of order body in
+    let plain = packet_with order number body in
     let kept = word32_at order body 12 in
-    let number = word32_at order body 0 in
     let described = row_none (not (nat_lt number (length section.interfaces))) _ _ none in
     let facts = kept_facts len 20 kept (length body) described.1 in
     let front = kept_front body 20 kept facts.1 in
     let Words : ℕ → List ℕ → List ℕ = λ n s.
-    words_then order (plain.number ∷ plain.high ∷ plain.low ∷ n ∷ plain.original_len ∷ []) s in (
+    words_then order (plain.high ∷ plain.low ∷ n ∷ plain.original_len ∷ []) s in (
       record {
-        numbered = word32_at-fits order body 0 fits;
+        numbered = numbered;
         described = ltb-true number (length section.interfaces)
             (not-false (nat_lt number (length section.interfaces)) described.0);
         high = word32_at-fits order body 4 fits;
@@ -295,38 +291,37 @@ enhanced_reads section len body fits long none =
         kept = omega (arith, front.0, facts.0);
         padding = front.1 ∙ ap padding_of (sym front.0);
       },
-      words_front order 5 0 body fits long ∙ ap (Words kept) front.2
+      words_front order 4 4 body fits long ∙ ap (Words kept) front.2
           ∙ ap (λ (n : ℕ). Words n (plain.bytes ++ (plain.padding ++ plain.options))) (sym front.0)
-          ∙ sym (enhanced_parts order plain),
+          ∙ sym (packet_parts order plain),
     )
 
-pub enhanced_is_read : (section : Section) (len : ℕ) (plain : PlainEnhanced) (body : List ℕ)
-    → FitsEnhanced section plain → body ≡ block_body section.order (enhanced plain)
-    → (first_row (body_rows section.interfaces section.order EnhancedPacket len body) ≡ None)
-    × (enhanced_of section.order body ≡ plain) × (20 ≤ length body)
-enhanced_is_read section len plain body fits is =
+packet_is_read : (section : Section) (number len : ℕ) (plain : PlainEnhanced) (body : List ℕ)
+    → FitsEnhanced section plain → number ≡ plain.number → 4 ≤ length body → drop 4 body ≡ packet_body section.order plain
+    → (first_row (numbered_rows section.interfaces number section.order len body) ≡ None)
+    × (packet_with section.order number body ≡ plain) × (20 ≤ length body)
+packet_is_read section number len plain body fits number_is some is =
     let order = section.order in
     let behind = plain.bytes ++ (plain.padding ++ plain.options) in
     let few : length plain.bytes < 2 ^ 32 = omega (arith, fits.kept) in
-    let parts = is ∙ enhanced_parts order plain in
-    let read = words_read order (enhanced_words plain) 0 body behind
-    (fits.numbered, (fits.high, (fits.low, (few, (fits.original_len, tt))))) parts in
-    let number : word32_at order body 0 ≡ plain.number = ap (λ (s : List ℕ). get_or s 0 0) read.0 in
-    let high : word32_at order body 4 ≡ plain.high = ap (λ (s : List ℕ). get_or s 1 0) read.0 in
-    let low : word32_at order body 8 ≡ plain.low = ap (λ (s : List ℕ). get_or s 2 0) read.0 in
-    let kept : word32_at order body 12 ≡ length plain.bytes = ap (λ (s : List ℕ). get_or s 3 0) read.0 in
-    let original : word32_at order body 16 ≡ plain.original_len = ap (λ (s : List ℕ). get_or s 4 0) read.0 in
+    let parts = is ∙ packet_parts order plain in
+    let read = words_read order (packet_words plain) 4 body behind
+    (fits.high, (fits.low, (few, (fits.original_len, tt)))) parts in
+    let high : word32_at order body 4 ≡ plain.high = ap (λ (s : List ℕ). get_or s 0 0) read.0 in
+    let low : word32_at order body 8 ≡ plain.low = ap (λ (s : List ℕ). get_or s 1 0) read.0 in
+    let kept : word32_at order body 12 ≡ length plain.bytes = ap (λ (s : List ℕ). get_or s 2 0) read.0 in
+    let original : word32_at order body 16 ≡ plain.original_len = ap (λ (s : List ℕ). get_or s 3 0) read.0 in
     let long : 20 ≤ length body =
-    omega (arith, ap length parts, length-words_then order (enhanced_words plain) behind) in
+    omega (arith, some, ap length parts, length-drop 4 body, length-words_then order (packet_words plain) behind) in
     let found = kept_read body plain.bytes plain.padding plain.options 20 (word32_at order body 12) long read.1 kept
     fits.padding in
-    let described : nat_lt (word32_at order body 0) (length section.interfaces) ≡ true =
-    lt-ltb (word32_at order body 0) (length section.interfaces) (omega (arith, number, fits.described)) in (
-      row_pass (not (nat_lt (word32_at order body 0) (length section.interfaces))) _ _
-          (not_from_true (nat_lt (word32_at order body 0) (length section.interfaces)) described)
+    let described : nat_lt number (length section.interfaces) ≡ true =
+    lt-ltb number (length section.interfaces) (omega (arith, number_is, fits.described)) in (
+      row_pass (not (nat_lt number (length section.interfaces))) _ _
+          (not_from_true (nat_lt number (length section.interfaces)) described)
           ∙ kept_none len 20 (word32_at order body 12) (length body) (omega (arith, kept, fits.kept)) found.within,
       λ i. record {
-        number = number i;
+        number = number_is i;
         high = high i;
         low = low i;
         original_len = original i;
@@ -336,6 +331,72 @@ enhanced_is_read section len plain body fits is =
       },
       long,
     )
+
+pub enhanced_reads : (section : Section) (len : ℕ) (body : List ℕ) → AreBytes body → 20 ≤ length body
+    → first_row (body_rows section.interfaces section.order EnhancedPacket len body) ≡ None
+    → FitsEnhanced section (enhanced_of section.order body)
+    × (body ≡ block_body section.order (enhanced (enhanced_of section.order body)))
+enhanced_reads section len body fits long none =
+    let order = section.order in
+    let number = word32_at order body 0 in
+    let read = packet_reads section number len body fits long (word32_at-fits order body 0 fits) none in (
+      read.0,
+      word32_front order body 0 fits (omega (arith, long))
+          ∙ ap (λ (s : List ℕ). word32 order number ++ s) read.1,
+    )
+
+pub enhanced_is_read : (section : Section) (len : ℕ) (plain : PlainEnhanced) (body : List ℕ)
+    → FitsEnhanced section plain → body ≡ block_body section.order (enhanced plain)
+    → (first_row (body_rows section.interfaces section.order EnhancedPacket len body) ≡ None)
+    × (enhanced_of section.order body ≡ plain) × (20 ≤ length body)
+enhanced_is_read section len plain body fits is =
+    let order = section.order in
+    let number = word32_read order plain.number 0 body (packet_body order plain) fits.numbered is in
+    let some : 4 ≤ length body =
+    omega (
+      arith,
+      ap length is,
+      length-append (word32 order plain.number) (packet_body order plain),
+      length-word32 order plain.number,
+    ) in
+    packet_is_read section (word32_at order body 0) len plain body fits number.0 some number.1
+
+pub obsolete_reads : (section : Section) (len : ℕ) (body : List ℕ) → AreBytes body → 20 ≤ length body
+    → first_row (body_rows section.interfaces section.order ObsoletePacket len body) ≡ None
+    → FitsObsolete section (obsolete_of section.order body)
+    × (body ≡ block_body section.order (obsolete (obsolete_of section.order body)))
+obsolete_reads section len body fits long none =
+    let order = section.order in
+    let number = word16_at order body 0 in
+    let drops = word16_at order body 2 in
+    let small : number < 2 ^ 16 = word16_at-fits order body 0 fits in
+    let read = packet_reads section number len body fits long (omega (arith, small)) none in
+    let second : drop 2 body ≡ word16 order drops ++ drop 4 body = word16_front order body 2 fits (omega (arith, long)) in (
+      record { numbered = small; drops = word16_at-fits order body 2 fits; packet = read.0 },
+      word16_front order body 0 fits (omega (arith, long))
+          ∙ ap (λ (s : List ℕ). word16 order number ++ s) (second ∙ ap (λ (s : List ℕ). word16 order drops ++ s) read.1),
+    )
+
+pub obsolete_is_read : (section : Section) (len : ℕ) (plain : PlainObsolete) (body : List ℕ)
+    → FitsObsolete section plain → body ≡ block_body section.order (obsolete plain)
+    → (first_row (body_rows section.interfaces section.order ObsoletePacket len body) ≡ None)
+    × (obsolete_of section.order body ≡ plain) × (20 ≤ length body)
+obsolete_is_read section len plain body fits is =
+    let order = section.order in
+    let packet = packet_body order plain.packet in
+    let number = word16_read order plain.packet.number 0 body (word16 order plain.drops ++ packet) fits.numbered is in
+    let drops = word16_read order plain.drops 2 body packet fits.drops number.1 in
+    let some : 4 ≤ length body =
+    omega (
+      arith,
+      ap length is,
+      length-append (word16 order plain.packet.number) (word16 order plain.drops ++ packet),
+      length-append (word16 order plain.drops) packet,
+      length-word16 order plain.packet.number,
+      length-word16 order plain.drops,
+    ) in
+    let read = packet_is_read section (word16_at order body 0) len plain.packet body fits.packet number.0 some drops.1 in
+    (read.0, (λ i. record { drops = drops.0 i; packet = read.1 i }), read.2)
 
 simple_parts : (order : ByteOrder) (plain : PlainSimple)
     → block_body order (simple plain)

@@ -1,33 +1,41 @@
 -- Whole captures: their items are read one behind the other, in one way.
-use Rattle.std.proofs.Common.{◌≡◌, ℕ, zero, suc, ◌+◌, ◌-◌, ◌<◌, ◌==◌, ◌⊎◌, Bool, true, false, not, nat_le, nat_lt}
+use Rattle.std.proofs.Common.{◌≡◌, ℕ, zero, suc, ◌+◌, ◌-◌, ◌%◌, ◌<◌, ◌≤◌, ◌==◌, ◌&&◌, ◌⊎◌, Bool, true, false, not, nat_le}
+use Rattle.std.proofs.Common.{nat_lt, min, take, drop, length-take-le, take-append-drop}
 use Rattle.std.proofs.Common.{if◌then◌else◌, is_some, List, [], ◌∷◌, ◌++◌, Option, Some, None, length, slice_range}
 use Rattle.std.proofs.Common.{refl, sym, ap, subst, ◌∙◌, inl, inr}
 use Rattle.std.proofs.Common.{append_assoc, length-append, arith}
-use Rattle.std.proofs.lemmas.Bool.{and_from, and_parts, cases_Bool, eq-eqb, eqb-true, le-leb, true≢false}
-use Rattle.std.proofs.lemmas.List.{append-nil}
+use Rattle.std.proofs.lemmas.Bool.{and_from, and_parts, cases_Bool, eq-eqb, eqb-true, le-leb, le-ltb, leb-true, lt-ltb, ltb-false, ltb-true}
+use Rattle.std.proofs.lemmas.Bool.{not-false, not_from_true, true≢false}
+use Rattle.std.proofs.Math.Dec.{eqb-suc-zero}
+use Rattle.std.proofs.Math.Nat.{le-min}
+use Rattle.std.proofs.lemmas.List.{append-nil, drop_at, take_at}
 use Rattle.std.proofs.lemmas.Option.{none-some}
 use Rattle.ep_base.specs.Bytes.{AreBytes}
 use Rattle.ep_base.specs.Tables.{IsDecided, first_row}
 use Rattle.ep_base.proofs.BytesLemmas.{AreBytes-back}
 use Rattle.ep_base.proofs.TableLemmas.{IsReadBy, one_value}
 use Rattle.capture_reader.specs.Blocks.{IsBlock, PlainBlock, block_in, block_of, block_rows, kind_in, kind_of}
-use Rattle.capture_reader.specs.Blocks.{no_section, order_in}
-use Rattle.capture_reader.specs.Captures.{Item, heading, packet, block, Stage, at_start, in_records, in_section}
+use Rattle.capture_reader.specs.Blocks.{Section, is_other, most_block, no_section, order_in}
+use Rattle.capture_reader.specs.Captures.{Item, heading, packet, block, part, front, stretch, back, Stage, at_start, in_records}
+use Rattle.capture_reader.specs.Captures.{in_section, inside, FitsFront, begins_long, inside_rows, most_stretch, section_rows}
 use Rattle.capture_reader.specs.Captures.{AreItems, BeginsSection, Fits, IsCapture, RefusesCapture, begins_section}
 use Rattle.capture_reader.specs.Captures.{item_bytes, item_rows, items_bytes, may_end, stage_after, stage_behind}
 use Rattle.capture_reader.specs.Classic.{heading_rows, style_in, style_of}
-use Rattle.capture_reader.specs.Numbers.{word32_at}
+use Rattle.capture_reader.specs.Numbers.{word32, word32_at}
 use Rattle.capture_reader.specs.declared.block.BlockKind.{BlockKind}
-use Rattle.capture_reader.specs.declared.block.BlockKind.TheVariants.{SectionHeader}
+use Rattle.capture_reader.specs.declared.block.BlockKind.TheVariants.{SectionHeader, InterfaceDescription, SimplePacket}
+use Rattle.capture_reader.specs.declared.block.BlockKind.TheVariants.{EnhancedPacket, ObsoletePacket, Other}
 use Rattle.capture_reader.specs.declared.byte_order.ByteOrder.{ByteOrder}
 use Rattle.capture_reader.specs.declared.byte_order.ByteOrder.TheVariants.{Big}
 use Rattle.capture_reader.specs.declared.interface.Interface.{Interface}
 use Rattle.capture_reader.specs.declared.refusal.CaptureError.{CaptureError}
 use Rattle.capture_reader.specs.declared.refusal.Refusal.{Refusal}
-use Rattle.capture_reader.proofs.BlockLemmas.{block_is_read_by, block_read, block_some, number_of_block, section_block}
-use Rattle.capture_reader.proofs.BodyLemmas.{row_none}
+use Rattle.capture_reader.specs.declared.refusal.Refusal.TheVariants as refusal
+use Rattle.capture_reader.proofs.BlockLemmas.{block_is_read_by, block_not_long, block_read, block_some, number_of_block}
+use Rattle.capture_reader.proofs.BlockLemmas.{section_block}
+use Rattle.capture_reader.proofs.BodyLemmas.{row_none, row_pass}
 use Rattle.capture_reader.proofs.ClassicLemmas.{heading_is_read_by, heading_read, record_is_read_by, record_read}
-use Rattle.capture_reader.proofs.NumberLemmas.{length-word32}
+use Rattle.capture_reader.proofs.NumberLemmas.{length-word32, word32_at-fits, word32_front, word32_read}
 
 -- ---- one item
 
@@ -45,11 +53,24 @@ abbrev start_read : Bool → List ℕ → Item × List ℕ
 start_read true bytes = (block (block_read no_section bytes).0, (block_read no_section bytes).1)
 start_read false bytes = (heading (heading_read bytes).0, (heading_read bytes).1)
 
+-- what is read in a section, where a block comes in parts and where it does not
+abbrev section_read : Bool → Section → List ℕ → Item × List ℕ
+section_read true section bytes =
+    (part (front (word32_at section.order bytes 0) (word32_at section.order bytes 4)), drop 8 bytes)
+section_read false section bytes = (block (block_read section bytes).0, (block_read section bytes).1)
+
+-- inside of such a block, where nothing is left in front of its length, and where so many bytes are
+abbrev inside_read : Bool → ℕ → List ℕ → Item × List ℕ
+inside_read true left bytes = (part back, drop 4 bytes)
+inside_read false left bytes =
+    (part (stretch (take (min left most_stretch) bytes)), drop (min left most_stretch) bytes)
+
 -- the item that is read, and what stands behind it
 abbrev pub step_read : Stage → List ℕ → Item × List ℕ
 step_read at_start bytes = start_read (begins_section bytes) bytes
 step_read (in_records first) bytes = (packet (record_read first.order bytes).0, (record_read first.order bytes).1)
-step_read (in_section section) bytes = (block (block_read section bytes).0, (block_read section bytes).1)
+step_read (in_section section) bytes = section_read (begins_long section.order bytes) section bytes
+step_read (inside section len left) bytes = inside_read (left == 0) left bytes
 
 -- the block that is read where a section begins is its header
 begins_with : (interfaces : List Interface) (order : ByteOrder) (kind : BlockKind) (number : ℕ) (body : List ℕ)
@@ -97,13 +118,103 @@ start_reads true bytes fits begins none =
 start_reads false bytes fits begins none =
     let is = heading_is_read_by.reads bytes fits none in record { fits = is.fits; parts = is.parts }
 
+other_is : (kind : BlockKind) → is_other kind ≡ true → kind ≡ Other
+other_is SectionHeader is = absurd (true≢false (sym is))
+other_is InterfaceDescription is = absurd (true≢false (sym is))
+other_is SimplePacket is = absurd (true≢false (sym is))
+other_is EnhancedPacket is = absurd (true≢false (sym is))
+other_is ObsoletePacket is = absurd (true≢false (sym is))
+other_is Other is = refl
+
+-- what is known of bytes that begin with a block that comes in parts
+pub long_facts : (order : ByteOrder) (bytes : List ℕ) → begins_long order bytes ≡ true
+    → (8 ≤ length bytes) × (kind_in order bytes ≡ Other) × (most_block < word32_at order bytes 4)
+long_facts order bytes long =
+    let all = and_parts (nat_le 8 (length bytes))
+    (is_other (kind_in order bytes) && nat_lt most_block (word32_at order bytes 4)) long in
+    let both = and_parts (is_other (kind_in order bytes)) (nat_lt most_block (word32_at order bytes 4)) all.1 in (
+      leb-true 8 (length bytes) all.0,
+      other_is (kind_in order bytes) both.0,
+      ltb-true most_block (word32_at order bytes 4) both.1,
+    )
+
+pub front_fits : (order : ByteOrder) (bytes : List ℕ) → AreBytes bytes → begins_long order bytes ≡ true
+    → word32_at order bytes 4 % 4 ≡ 0
+    → FitsFront (word32_at order bytes 0) (word32_at order bytes 4)
+    × (bytes ≡ (word32 order (word32_at order bytes 0) ++ word32 order (word32_at order bytes 4)) ++ drop 8 bytes)
+front_fits order bytes fits long whole =
+    let facts = long_facts order bytes long in
+    let number = word32 order (word32_at order bytes 0) in
+    let len = word32 order (word32_at order bytes 4) in
+    let second : drop 4 bytes ≡ len ++ drop 8 bytes = word32_front order bytes 4 fits facts.0 in (
+      record {
+        numbered = word32_at-fits order bytes 0 fits;
+        kind = facts.1;
+        long = facts.2;
+        within = word32_at-fits order bytes 4 fits;
+        whole = whole;
+      },
+      word32_front order bytes 0 fits (omega (arith, facts.0)) ∙ ap (λ (s : List ℕ). number ++ s) second
+          ∙ sym (append_assoc number len (drop 8 bytes)),
+    )
+
+section_reads : (long : Bool) (section : Section) (bytes : List ℕ) → AreBytes bytes
+    → begins_long section.order bytes ≡ long → first_row (section_rows long section bytes) ≡ None
+    → IsStep (in_section section) bytes (section_read long section bytes)
+section_reads true section bytes fits long none =
+    let len = word32_at section.order bytes 4 in
+    let row = row_none (not (len % 4 == 0)) (refusal.BlockLength len) None none in
+    let is = front_fits section.order bytes fits long (eqb-true (len % 4) 0 (not-false (len % 4 == 0) row.0)) in
+    record { fits = is.0; parts = is.1 }
+section_reads false section bytes fits long none =
+    let is = (block_is_read_by section).reads bytes fits none in record { fits = is.fits; parts = is.parts }
+
+some_of : (n : ℕ) → (n == 0) ≡ false → 0 < n
+some_of zero is = absurd (true≢false is)
+some_of (suc n) is = omega arith
+
+pub none_of_some : (n : ℕ) → 0 < n → (n == 0) ≡ false
+none_of_some zero some = absurd (omega arith)
+none_of_some (suc n) some = eqb-suc-zero n
+
+inside_reads : (done : Bool) (section : Section) (len left : ℕ) (bytes : List ℕ) → AreBytes bytes
+    → (left == 0) ≡ done → first_row (inside_rows done section.order len left bytes) ≡ None
+    → IsStep (inside section len left) bytes (inside_read done left bytes)
+inside_reads true section len left bytes fits is none =
+    let order = section.order in
+    let n = length bytes in
+    let said = word32_at order bytes 0 in
+    let few = row_none (nat_lt n 4) (refusal.Cut 4 n) _ none in
+    let other = row_none (not (said == len)) (refusal.TrailingLength len said) None few.1 in
+    let same : said ≡ len = eqb-true said len (not-false (said == len) other.0) in
+    record {
+      fits = (eqb-true left 0 is, omega (arith, same, word32_at-fits order bytes 0 fits));
+      parts = word32_front order bytes 0 fits (ltb-false n 4 few.0)
+          ∙ ap (λ (k : ℕ). word32 order k ++ drop 4 bytes) same;
+    }
+inside_reads false section len left bytes fits is none =
+    let k = min left most_stretch in
+    let few = row_none (nat_lt (length bytes) k) (refusal.Cut k (length bytes)) None none in
+    record {
+      fits = (some_of left is, length-take-le k bytes (ltb-false (length bytes) k few.0));
+      parts = sym (take-append-drop k bytes);
+    }
+
 step_reads : (stage : Stage) (bytes : List ℕ) → AreBytes bytes → first_row (item_rows stage bytes) ≡ None
     → IsStep stage bytes (step_read stage bytes)
 step_reads at_start bytes fits none = start_reads (begins_section bytes) bytes fits refl none
 step_reads (in_records first) bytes fits none =
     let is = (record_is_read_by first.order).reads bytes fits none in record { fits = is.fits; parts = is.parts }
 step_reads (in_section section) bytes fits none =
-    let is = (block_is_read_by section).reads bytes fits none in record { fits = is.fits; parts = is.parts }
+    section_reads (begins_long section.order bytes) section bytes fits refl none
+step_reads (inside section len left) bytes fits none = inside_reads (left == 0) section len left bytes fits refl none
+
+whole_not_long : (section : Section) (bytes : List ℕ) (one : PlainBlock) (rest : List ℕ)
+    → IsBlock section bytes (one, rest) → begins_long section.order bytes ≡ false
+whole_not_long section bytes one rest is =
+    let there = le-leb 8 (length bytes) (omega (arith, (number_of_block section one bytes rest is).1)) in
+    let short = block_not_long section one bytes rest is in
+    λ i. there i && short i
 
 step_is_read : (stage : Stage) (bytes : List ℕ) (step : Item × List ℕ) → IsStep stage bytes step
     → (first_row (item_rows stage bytes) ≡ None) × (step ≡ step_read stage bytes)
@@ -125,6 +236,8 @@ step_is_read at_start bytes (block one, rest) is =
       ap (λ (b : Bool). first_row (start_rows b bytes)) begins ∙ read.0,
       same ∙ ap (λ (b : Bool). start_read b bytes) (sym begins),
     )
+step_is_read at_start bytes (part one, rest) is = absurd is.fits
+step_is_read (in_records first) bytes (part one, rest) is = absurd is.fits
 step_is_read (in_records first) bytes (heading other, rest) is = absurd is.fits
 step_is_read (in_records first) bytes (packet one, rest) is =
     let read =
@@ -134,9 +247,80 @@ step_is_read (in_records first) bytes (block one, rest) is = absurd is.fits
 step_is_read (in_section section) bytes (heading other, rest) is = absurd is.fits
 step_is_read (in_section section) bytes (packet one, rest) is = absurd is.fits
 step_is_read (in_section section) bytes (block one, rest) is =
-    let read =
-    (block_is_read_by section).is_read bytes (one, rest) (record { fits = is.fits; parts = is.parts }) in
-    (read.0, λ i. (block (read.1 i).0, (read.1 i).1))
+    let is_block : IsBlock section bytes (one, rest) = record { fits = is.fits; parts = is.parts } in
+    let read = (block_is_read_by section).is_read bytes (one, rest) is_block in
+    let whole = whole_not_long section bytes one rest is_block in
+    let step : Item × List ℕ = (block one, rest) in
+    let same : step ≡ section_read false section bytes = λ i. (block (read.1 i).0, (read.1 i).1) in (
+      ap (λ (b : Bool). first_row (section_rows b section bytes)) whole ∙ read.0,
+      same ∙ ap (λ (b : Bool). section_read b section bytes) (sym whole),
+    )
+step_is_read (in_section section) bytes (part (front number len), rest) is =
+    let order = section.order in
+    let parts = is.parts ∙ append_assoc (word32 order number) (word32 order len) rest in
+    let first = word32_read order number 0 bytes (word32 order len ++ rest) is.fits.numbered parts in
+    let second = word32_read order len 4 bytes rest is.fits.within first.1 in
+    let size : 8 ≤ length bytes =
+    omega (
+      arith,
+      ap length parts,
+      length-append (word32 order number) (word32 order len ++ rest),
+      length-append (word32 order len) rest,
+      length-word32 order number,
+      length-word32 order len,
+    ) in
+    let kind : kind_in order bytes ≡ Other = ap kind_of first.0 ∙ is.fits.kind in
+    let there = le-leb 8 (length bytes) size in
+    let more = lt-ltb most_block (word32_at order bytes 4) (omega (arith, second.0, is.fits.long)) in
+    let long : begins_long order bytes ≡ true = λ i. there i && (is_other (kind i) && more i) in
+    let said = word32_at order bytes 4 in
+    let whole : said % 4 ≡ 0 = ap (λ (n : ℕ). n % 4) second.0 ∙ is.fits.whole in
+    let none : first_row (section_rows true section bytes) ≡ None =
+    row_pass (not (said % 4 == 0)) (refusal.BlockLength said) None
+    (not_from_true (said % 4 == 0) (eq-eqb (said % 4) 0 whole)) in
+    let step : Item × List ℕ = (part (front number len), rest) in
+    let same : step ≡ section_read true section bytes =
+    λ i. (part (front (sym first.0 i) (sym second.0 i)), sym second.1 i) in (
+      ap (λ (b : Bool). first_row (section_rows b section bytes)) long ∙ none,
+      same ∙ ap (λ (b : Bool). section_read b section bytes) (sym long),
+    )
+step_is_read (in_section section) bytes (part (stretch some), rest) is = absurd is.fits
+step_is_read (in_section section) bytes (part back, rest) is = absurd is.fits
+step_is_read (inside section len left) bytes (heading other, rest) is = absurd is.fits
+step_is_read (inside section len left) bytes (packet one, rest) is = absurd is.fits
+step_is_read (inside section len left) bytes (block one, rest) is = absurd is.fits
+step_is_read (inside section len left) bytes (part (front number other), rest) is = absurd is.fits
+step_is_read (inside section len left) bytes (part (stretch some), rest) is =
+    let k = min left most_stretch in
+    let n = length bytes in
+    let more = none_of_some left is.fits.0 in
+    let size : k ≤ n = omega (arith, ap length is.parts, length-append some rest, is.fits.1) in
+    let none : first_row (inside_rows false section.order len left bytes) ≡ None =
+    row_pass (nat_lt n k) (refusal.Cut k n) None (le-ltb n k size) in
+    let first : take k bytes ≡ some = ap (take k) is.parts ∙ take_at some rest k (omega (arith, is.fits.1)) in
+    let behind : drop k bytes ≡ rest = ap (drop k) is.parts ∙ drop_at some rest k is.fits.1 in
+    let step : Item × List ℕ = (part (stretch some), rest) in
+    let same : step ≡ inside_read false left bytes = λ i. (part (stretch (sym first i)), sym behind i) in (
+      ap (λ (b : Bool). first_row (inside_rows b section.order len left bytes)) more ∙ none,
+      same ∙ ap (λ (b : Bool). inside_read b left bytes) (sym more),
+    )
+step_is_read (inside section len left) bytes (part back, rest) is =
+    let order = section.order in
+    let n = length bytes in
+    let done = eq-eqb left 0 is.fits.0 in
+    let read = word32_read order len 0 bytes rest is.fits.1 is.parts in
+    let size : 4 ≤ n =
+    omega (arith, ap length is.parts, length-append (word32 order len) rest, length-word32 order len) in
+    let said = word32_at order bytes 0 in
+    let none : first_row (inside_rows true order len left bytes) ≡ None =
+    row_pass (nat_lt n 4) (refusal.Cut 4 n) _ (le-ltb n 4 size)
+    ∙ row_pass (not (said == len)) (refusal.TrailingLength len said) None
+    (not_from_true (said == len) (eq-eqb said len read.0)) in
+    let step : Item × List ℕ = (part back, rest) in
+    let same : step ≡ inside_read true left bytes = λ i. (part back, sym read.1 i) in (
+      ap (λ (b : Bool). first_row (inside_rows b order len left bytes)) done ∙ none,
+      same ∙ ap (λ (b : Bool). inside_read b left bytes) (sym done),
+    )
 
 -- an item is decided
 pub step_is_read_by : (stage : Stage) → IsReadBy (IsStep stage) (item_rows stage) (step_read stage)
@@ -153,6 +337,20 @@ item_some (in_records first) (block one) fits = absurd fits
 item_some (in_section section) (heading other) fits = absurd fits
 item_some (in_section section) (packet one) fits = absurd fits
 item_some (in_section section) (block one) fits = block_some section.order one
+item_some at_start (part one) fits = absurd fits
+item_some (in_records first) (part one) fits = absurd fits
+item_some (in_section section) (part (front number len)) fits = grind (arith, length-append, length-word32)
+item_some (in_section section) (part (stretch bytes)) fits = absurd fits
+item_some (in_section section) (part back) fits = absurd fits
+item_some (inside section len left) (heading other) fits = absurd fits
+item_some (inside section len left) (packet one) fits = absurd fits
+item_some (inside section len left) (block one) fits = absurd fits
+item_some (inside section len left) (part (front number other)) fits = absurd fits
+item_some (inside section len left) (part (stretch bytes)) fits =
+    let k = min left most_stretch in
+    let some : 1 ≤ k = le-min (omega (arith, fits.0)) (omega arith) in
+    omega (arith, some, fits.1)
+item_some (inside section len left) (part back) fits = omega (arith, length-word32 section.order len)
 
 -- ---- items in a row
 
@@ -192,6 +390,7 @@ ended_empty (in_records first) [] ended = refl
 ended_empty (in_records first) (byte ∷ bytes) ended = absurd (cc)
 ended_empty (in_section section) [] ended = refl
 ended_empty (in_section section) (byte ∷ bytes) ended = absurd (cc)
+ended_empty (inside section len left) bytes ended = absurd (cc)
 
 -- where an item stands, nothing stops
 stops_not : (stage : Stage) (bytes : List ℕ) (ending : Option Refusal) (step : Item × List ℕ)

@@ -18,8 +18,8 @@ use Rattle.capture_reader.specs.declared.refusal.Refusal.{Refusal}
 use Rattle.capture_reader.specs.declared.refusal.Refusal.TheVariants as refusal
 use Rattle.capture_reader.specs.Numbers.{word16, word32, word16_at, word32_at}
 use Rattle.capture_reader.specs.Classic.{PlainPacket, IsRecord, most_kept, record_bytes, record_of, record_rows}
-use Rattle.capture_reader.specs.Classic.{IsHeading, heading_bytes, heading_of, heading_rows, knows_link}
-use Rattle.capture_reader.specs.Classic.{link_of, magic_of, style_in, style_of, style_order, style_resolution}
+use Rattle.capture_reader.specs.Classic.{IsHeading, heading_bytes, heading_of, heading_rows}
+use Rattle.capture_reader.specs.Classic.{magic_of, style_in, style_of, style_order, style_resolution}
 use Rattle.capture_reader.proofs.NumberLemmas.{length-words_then, word16_front, word16_read, word32_at-fits}
 use Rattle.capture_reader.proofs.NumberLemmas.{length-word32, words_front, words_read, words_then}
 
@@ -124,17 +124,6 @@ record_kept order bytes packet rest is =
     (is.fits.seconds, (is.fits.fraction, (few, (is.fits.original_len, tt))))
     (is.parts ∙ record_parts order packet rest)).0
 
--- how long a record is
-pub record_long : (order : ByteOrder) (bytes : List ℕ) (packet : PlainPacket) (rest : List ℕ)
-    → IsRecord order bytes (packet, rest) → length bytes ≡ 16 + length packet.bytes + length rest
-record_long order bytes packet rest is =
-    omega (
-      arith,
-      ap length (is.parts ∙ record_parts order packet rest),
-      length-words_then order (record_words packet) (packet.bytes ++ rest),
-      length-append packet.bytes rest,
-    )
-
 -- such records are decided
 pub record_is_read_by : (order : ByteOrder) → IsReadBy (IsRecord order) (record_rows order) (record_read order)
 record_is_read_by order = record { reads = record_reads order; is_read = record_is_read order }
@@ -204,12 +193,10 @@ rows_with style bytes =
     let order = style_order style in
     let major = word16_at order bytes 4 in
     let minor = word16_at order bytes 6 in
-    let link = link_of (word32_at order bytes 20) in
     (nat_lt (length bytes) 4, refusal.Cut 4 (length bytes))
     ∷ (not (is_some style), refusal.UnknownMagic (word32_at Big bytes 0))
     ∷ (nat_lt (length bytes) 24, refusal.Cut 24 (length bytes))
     ∷ (not ((major == 2) && (minor == 4)), refusal.UnsupportedVersion major minor)
-    ∷ (not (knows_link link), refusal.UnsupportedLinkType link)
     ∷ []
 
 -- what no row refuses
@@ -217,21 +204,18 @@ pub record Passes (style : ByteOrder × Resolution) (bytes : List ℕ) : Type 0 
   pub long : 24 ≤ length bytes
   pub major : word16_at style.0 bytes 4 ≡ 2
   pub minor : word16_at style.0 bytes 6 ≡ 4
-  pub link : knows_link (link_of (word32_at style.0 bytes 20)) ≡ true
 
 passes : (style : ByteOrder × Resolution) (bytes : List ℕ) → first_row (rows_with (Some style) bytes) ≡ None
     → Passes style bytes
 passes style bytes none =
-    let facts : (24 ≤ length bytes) × (word16_at style.0 bytes 4 ≡ 2) × (word16_at style.0 bytes 6 ≡ 4)
-    × (knows_link (link_of (word32_at style.0 bytes 20)) ≡ true) = grind (arith, common_steps, nat_tests) in
-    record { long = facts.0; major = facts.1; minor = facts.2; link = facts.3 }
+    let facts : (24 ≤ length bytes) × (word16_at style.0 bytes 4 ≡ 2) × (word16_at style.0 bytes 6 ≡ 4) = grind (arith, common_steps, nat_tests) in
+    record { long = facts.0; major = facts.1; minor = facts.2 }
 
 none_refuses : (style : ByteOrder × Resolution) (bytes : List ℕ) → Passes style bytes
     → first_row (rows_with (Some style) bytes) ≡ None
 none_refuses style bytes passed =
     let long = passed.long in
-    let link = passed.link in
-    rw (passed.major, passed.minor, link) (grind (arith, common_steps))
+    rw (passed.major, passed.minor) (grind (arith, common_steps))
 
 -- without a style a row refuses
 no_style : (bytes : List ℕ) → first_row (rows_with None bytes) ≡ None → ⊥
@@ -264,7 +248,6 @@ read_with style bytes fits is passed = record {
     accuracy = word32_at-fits style.0 bytes 12 fits;
     snap_len = word32_at-fits style.0 bytes 16 fits;
     network = word32_at-fits style.0 bytes 20 fits;
-    link = passed.link;
   };
   parts = heading_front style bytes fits is passed;
 }
@@ -295,14 +278,12 @@ heading_is_read bytes value is =
     let minor = word16_read order 4 6 bytes behind (omega arith) major.1 in
     let read = words_read order (heading_words heading) 8 bytes rest
     (fits.zone, (fits.accuracy, (fits.snap_len, (fits.network, tt)))) minor.1 in
-    let network : heading.network ≡ word32_at order bytes 20 = ap (λ (s : List ℕ). get_or s 3 0) (sym read.0) in
     let long : 24 ≤ length bytes =
     omega (arith, ap length minor.1, length-drop 8 bytes, length-words_then order (heading_words heading) rest) in
     let passed : Passes (order, heading.resolution) bytes = record {
       long = long;
       major = major.0;
       minor = minor.0;
-      link = ap (λ (n : ℕ). knows_link (link_of n)) (sym network) ∙ fits.link;
     } in
     let same : heading ≡ heading_with (Some (order, heading.resolution)) bytes = λ i. record {
       order = order;

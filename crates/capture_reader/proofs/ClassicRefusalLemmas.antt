@@ -8,7 +8,7 @@ use Rattle.ep_base.specs.Tables.{first_row}
 use Rattle.capture_reader.specs.Numbers.{word16_at, word32_at}
 use Rattle.capture_reader.specs.Blocks.{most_block}
 use Rattle.capture_reader.specs.Classic.{heading_rows, most_kept}
-use Rattle.capture_reader.specs.Classic.{knows_link, link_of, record_rows, style_in, style_of, style_order}
+use Rattle.capture_reader.specs.Classic.{record_rows, style_in, style_of, style_order}
 use Rattle.capture_reader.specs.declared.byte_order.ByteOrder.{ByteOrder}
 use Rattle.capture_reader.specs.declared.byte_order.ByteOrder.TheVariants.{Big}
 use Rattle.capture_reader.specs.declared.heading.Resolution.{Resolution}
@@ -77,10 +77,7 @@ last_rows style bytes =
     let order = style_order style in
     let major = word16_at order bytes 4 in
     let minor = word16_at order bytes 6 in
-    let link = link_of (word32_at order bytes 20) in
-    (not ((major == 2) && (minor == 4)), refusal.UnsupportedVersion major minor)
-    ∷ (not (knows_link link), refusal.UnsupportedLinkType link)
-    ∷ []
+    (not ((major == 2) && (minor == 4)), refusal.UnsupportedVersion major minor) ∷ []
 
 -- the rows of a heading, by what the conditions of the first three are
 abbrev pub rows_5 : (few unknown short : Bool) (len magic : ℕ) → List (Bool × Refusal) → List (Bool × Refusal)
@@ -109,9 +106,7 @@ last_same style bytes more long =
     let order = style_order style in
     let major = word16_at-more order bytes more 4 (omega arith) in
     let minor = word16_at-more order bytes more 6 (omega arith) in
-    let link = ap link_of (word32_at-more order bytes more 20 (omega arith)) in
-    λ i. (not ((major i == 2) && (minor i == 4)), refusal.UnsupportedVersion (major i) (minor i))
-    ∷ (not (knows_link (link i)), refusal.UnsupportedLinkType (link i)) ∷ []
+    λ i. (not ((major i == 2) && (minor i == 4)), refusal.UnsupportedVersion (major i) (minor i)) ∷ []
 
 pub heading_more : (bytes more : List ℕ) (e : Refusal) → IsFinal e → first_row (heading_rows bytes) ≡ Some e
     → first_row (heading_rows (bytes ++ more)) ≡ Some e
@@ -148,12 +143,10 @@ heading_more bytes more e final refused =
     ]
 
 -- the last rows say nothing of too few bytes
-last_not_cut : (version link : Bool) (major minor number required there : ℕ)
-    → first_row ((version, refusal.UnsupportedVersion major minor) ∷ (link, refusal.UnsupportedLinkType number) ∷ [])
-    ≡ Some (refusal.Cut required there) → ⊥
-last_not_cut true link major minor number required there refused = cc
-last_not_cut false true major minor number required there refused = cc
-last_not_cut false false major minor number required there refused = none-some (refusal.Cut required there) refused
+last_not_cut : (version : Bool) (major minor required there : ℕ)
+    → first_row ((version, refusal.UnsupportedVersion major minor) ∷ []) ≡ Some (refusal.Cut required there) → ⊥
+last_not_cut true major minor required there refused = cc
+last_not_cut false major minor required there refused = none-some (refusal.Cut required there) refused
 
 cut_5 : (few unknown short : Bool) (len magic required there : ℕ) (last : List (Bool × Refusal))
     → (first_row last ≡ Some (refusal.Cut required there) → ⊥)
@@ -172,10 +165,9 @@ heading_few bytes required there refused =
     let order = style_order style in
     let major = word16_at order bytes 4 in
     let minor = word16_at order bytes 6 in
-    let link = link_of (word32_at order bytes 20) in
     elim (cut_5 (nat_lt n 4) (not (is_some style)) (nat_lt n 24) n (word32_at Big bytes 0) required there
     (last_rows style bytes)
-    (last_not_cut (not ((major == 2) && (minor == 4))) (not (knows_link link)) major minor link required there)
+    (last_not_cut (not ((major == 2) && (minor == 4))) major minor required there)
     refused) [
       | inl few ↦ let below : n < 4 = ltb-true n 4 few in omega arith
       | inr short ↦ let below : n < 24 = ltb-true n 24 short in omega arith

@@ -14,9 +14,9 @@ use Rattle.capture_reader.specs.BlockContents.{section_of}
 use Rattle.capture_reader.specs.Captures.{block_shown}
 use Rattle.capture_reader.specs.declared.block.BlockKind.{BlockKind}
 use Rattle.capture_reader.specs.declared.block.BlockKind.TheVariants.{SectionHeader, InterfaceDescription, SimplePacket}
-use Rattle.capture_reader.specs.declared.block.BlockKind.TheVariants.{EnhancedPacket, Other}
+use Rattle.capture_reader.specs.declared.block.BlockKind.TheVariants.{EnhancedPacket, ObsoletePacket, Other}
 use Rattle.capture_reader.specs.declared.block.Content.{Content}
-use Rattle.capture_reader.specs.declared.block.Frame.{Frame}
+use Rattle.capture_reader.specs.declared.block.Framing.{Framing}
 use Rattle.capture_reader.specs.declared.byte_order.ByteOrder.{ByteOrder}
 use Rattle.capture_reader.specs.declared.byte_order.ByteOrder.TheVariants.{Big}
 use Rattle.capture_reader.specs.declared.interface.Interface.{Interface}
@@ -25,11 +25,11 @@ use Rattle.capture_reader.specs.declared.refusal.Refusal.TheVariants as refusal
 use Rattle.capture_reader.proofs.BlockLemmas.{block_is_read_by, least_12, none_of, rows_of}
 use Rattle.capture_reader.proofs.BodyLemmas.{row_pass}
 
-framed_len : (before : ByteOrder) (bytes : List ℕ) (frame : Frame) → IsFramed before bytes frame
+framed_len : (before : ByteOrder) (bytes : List ℕ) (frame : Framing) → IsFramed before bytes frame
     → word32_at (order_in before bytes) bytes 4 ≡ frame.len
 framed_len before bytes frame is = ap (λ o. word32_at o bytes 4) (sym is.order_is) ∙ sym is.len
 
-framed_rows : (before : ByteOrder) (bytes : List ℕ) (frame : Frame) (interfaces : List Interface)
+framed_rows : (before : ByteOrder) (bytes : List ℕ) (frame : Framing) (interfaces : List Interface)
     → IsFramed before bytes frame
     → block_rows (section_of before interfaces) bytes
     ≡ rows_of before interfaces frame.order frame.kind (word32_at Big bytes 8) frame.len bytes
@@ -38,7 +38,7 @@ framed_rows before bytes frame interfaces is =
     λ i. rows_of before interfaces (sym is.order_is i) (sym is.kind i) (word32_at Big bytes 8) (lens i) bytes
 
 -- bytes that begin with the rest of a block
-pub framed_none : (before : ByteOrder) (bytes : List ℕ) (frame : Frame) (interfaces : List Interface)
+pub framed_none : (before : ByteOrder) (bytes : List ℕ) (frame : Framing) (interfaces : List Interface)
     → IsFramed before bytes frame
     → first_row (body_rows interfaces frame.order frame.kind frame.len (slice_range bytes 8 (frame.len - 4))) ≡ None
     → first_row (block_rows (section_of before interfaces) bytes) ≡ None
@@ -55,29 +55,7 @@ framed_none before bytes frame interfaces is none =
       body = none;
     })
 
-pub framed_refuses : (before : ByteOrder) (bytes : List ℕ) (frame : Frame) (interfaces : List Interface) (e : Refusal)
-    → IsFramed before bytes frame
-    → Refuses (body_rows interfaces frame.order frame.kind frame.len (slice_range bytes 8 (frame.len - 4))) e
-    → RefusesBlock (section_of before interfaces) bytes e
-framed_refuses before bytes frame interfaces e is refused =
-    let kind = frame.kind in
-    let order = frame.order in
-    let len = frame.len in
-    ap first_row (framed_rows before bytes frame interfaces is)
-    ∙ row_pass (nat_lt (length bytes) 12) (refusal.Cut 12 (length bytes)) _
-    (le-ltb (length bytes) 12 (omega (arith, is.within, is.least, least_12 kind)))
-    ∙ row_pass (has_no_order before kind (word32_at Big bytes 8)) (refusal.UnknownByteOrder (word32_at Big bytes 8)) _ is.known
-    ∙ row_pass (nat_lt len (least_len kind) || not (len % 4 == 0)) (refusal.BlockLength len) _
-    (or_from (nat_lt len (least_len kind)) (not (len % 4 == 0)) (le-ltb len (least_len kind) is.least)
-    (not_from_true (len % 4 == 0) (eq-eqb (len % 4) 0 is.whole)))
-    ∙ row_pass (nat_lt most_block len) (refusal.BlockTooLong len) _ (le-ltb most_block len is.most)
-    ∙ row_pass (nat_lt (length bytes) len) (refusal.Cut len (length bytes)) _ (le-ltb (length bytes) len is.within)
-    ∙ row_pass (not (word32_at order bytes (len - 4) == len))
-    (refusal.TrailingLength len (word32_at order bytes (len - 4))) _
-    (not_from_true (word32_at order bytes (len - 4) == len) (eq-eqb (word32_at order bytes (len - 4)) len is.trailing))
-    ∙ refused
-
-pub framed_block : (before : ByteOrder) (bytes : List ℕ) (frame : Frame) (interfaces : List Interface)
+pub framed_block : (before : ByteOrder) (bytes : List ℕ) (frame : Framing) (interfaces : List Interface)
     → IsFramed before bytes frame
     → block_in (section_of before interfaces) bytes
     ≡ block_of interfaces frame.order frame.kind (word32_at before bytes 0) (slice_range bytes 8 (frame.len - 4))
@@ -92,16 +70,17 @@ stands_as before order SectionHeader magic is = tt
 stands_as before order InterfaceDescription magic is = is
 stands_as before order SimplePacket magic is = is
 stands_as before order EnhancedPacket magic is = is
+stands_as before order ObsoletePacket magic is = is
 stands_as before order Other magic is = is
 
-pub framed_stands : (before : ByteOrder) (bytes : List ℕ) (frame : Frame) → IsFramed before bytes frame
+pub framed_stands : (before : ByteOrder) (bytes : List ℕ) (frame : Framing) → IsFramed before bytes frame
     → StandsIn frame.kind frame.order before
 framed_stands before bytes frame is =
     stands_as before frame.order frame.kind (word32_at Big bytes 8)
     (is.order_is ∙ ap (λ k. order_of before k (word32_at Big bytes 8)) (sym is.kind))
 
 -- a block that is there whole, and is not refused
-pub whole_block : (before : ByteOrder) (bytes : List ℕ) (frame : Frame) (interfaces : List Interface) (content : Content)
+pub whole_block : (before : ByteOrder) (bytes : List ℕ) (frame : Framing) (interfaces : List Interface) (content : Content)
     → AreBytes bytes → IsFramed before bytes frame
     → Says interfaces frame.order frame.kind frame.len (slice_range bytes 8 (frame.len - 4)) content
     → let section = section_of before interfaces in

@@ -1,16 +1,19 @@
 -- What the steps of a reader come upon, and what it is refused.
-use Rattle.std.proofs.Common.{◌≡◌, ℕ, ◌+◌, ◌<◌, ◌≤◌, ◌==◌, ◌&&◌, nat_le, nat_lt, not, is_some, Bool, true, false}
-use Rattle.std.proofs.Common.{List, [], ◌∷◌, ◌++◌, Some, Result, Ok, Err, length, drop}
+use Rattle.std.proofs.Common.{◌≡◌, ℕ, ◌+◌, ◌%◌, ◌<◌, ◌≤◌, ◌==◌, ◌&&◌, min, nat_le, nat_lt, not, is_some, Bool, true, false}
+use Rattle.std.proofs.Common.{if◌then◌else◌, List, [], ◌∷◌, ◌++◌, Some, None, Result, Ok, Err, length, drop}
 use Rattle.std.proofs.Common.{refl, sym, ap, subst, ◌∙◌, append_assoc, length-append, length-drop, arith}
-use Rattle.std.proofs.lemmas.Bool.{and_parts, le-leb, leb-true, ltb-false}
+use Rattle.std.proofs.lemmas.Bool.{and_parts, le-leb, le-ltb, leb-true, lt-ltb, ltb-false, ltb-true}
 use Rattle.std.proofs.lemmas.List.{append-nil}
+use Rattle.std.proofs.lemmas.Option.{none-some}
+use Rattle.std.proofs.Math.Nat.{min-le_right}
 use Rattle.ep_base.specs.Tables.{first_row}
+use Rattle.ep_base.proofs.TableLemmas.{refusal_is}
 use Rattle.capture_reader.specs.Numbers.{word32_at}
-use Rattle.capture_reader.specs.Blocks.{block_rows, most_block, no_section}
+use Rattle.capture_reader.specs.Blocks.{Section, block_rows, is_other, kind_of, most_block, no_section}
 use Rattle.capture_reader.specs.Classic.{heading_rows}
 use Rattle.capture_reader.specs.Classic.{record_rows, style_in}
-use Rattle.capture_reader.specs.Captures.{Item, Stage, at_start, in_records, in_section, AreItems}
-use Rattle.capture_reader.specs.Captures.{Fits, IsCapture, RefusesCapture, begins_section}
+use Rattle.capture_reader.specs.Captures.{Item, Stage, at_start, in_records, in_section, inside, AreItems}
+use Rattle.capture_reader.specs.Captures.{Fits, IsCapture, RefusesCapture, begins_long, begins_section, inside_rows, long_rows, most_stretch, section_rows}
 use Rattle.capture_reader.specs.Captures.{item_bytes, item_rows, items_bytes, may_end}
 use Rattle.capture_reader.specs.Captures.{stage_after, stage_behind}
 use Rattle.capture_reader.specs.BlockContents.{section_of}
@@ -28,12 +31,13 @@ use Rattle.capture_reader.specs.declared.reader.Advance.{Advance}
 use Rattle.capture_reader.specs.declared.reader.Advance.TheVariants.{Packet, Other, MayEnd, Cut}
 use Rattle.capture_reader.specs.declared.reader.CaptureReader.{CaptureReader}
 use Rattle.capture_reader.specs.declared.reader.State.{State}
-use Rattle.capture_reader.specs.declared.reader.State.TheVariants.{Start, Records, Blocks}
+use Rattle.capture_reader.specs.declared.reader.State.TheVariants.{Start, Records, Blocks, Inside}
 use Rattle.capture_reader.specs.declared.refusal.CaptureError.{CaptureError}
 use Rattle.capture_reader.specs.declared.refusal.Refusal.{Refusal}
 use Rattle.capture_reader.specs.declared.refusal.Refusal.TheVariants as refusal
-use Rattle.capture_reader.proofs.BlockRefusalLemmas.{IsFinal, block_few, block_more}
-use Rattle.capture_reader.proofs.CaptureLemmas.{item_some, start_rows}
+use Rattle.capture_reader.proofs.BlockRefusalLemmas.{IsFinal, block_few, block_long, block_more, cut_behind, not_few}
+use Rattle.capture_reader.proofs.BodyLemmas.{row_pass}
+use Rattle.capture_reader.proofs.CaptureLemmas.{item_some, long_facts, none_of_some, start_rows}
 use Rattle.capture_reader.proofs.NumberLemmas.{word32_at-more}
 use Rattle.capture_reader.proofs.ClassicRefusalLemmas.{final_5, heading_few, heading_more, last_rows, record_few}
 use Rattle.capture_reader.proofs.ClassicRefusalLemmas.{record_more}
@@ -131,6 +135,7 @@ ended_empty (in_records first) [] ended = refl
 ended_empty (in_records first) (byte ∷ bytes) ended = absurd (cc)
 ended_empty (in_section section) [] ended = refl
 ended_empty (in_section section) (byte ∷ bytes) ended = absurd (cc)
+ended_empty (inside section len left) bytes ended = absurd (cc)
 
 -- where a capture may end behind a reader, it is whole
 ends : (reader : CaptureReader) (taken : List ℕ) (items : List Item)
@@ -222,6 +227,7 @@ most_some : (stage : Stage) → 0 < most_held stage
 most_some at_start = omega arith
 most_some (in_records first) = omega arith
 most_some (in_section section) = omega arith
+most_some (inside section len left) = omega arith
 
 pub holds_few : (reader next : CaptureReader) (answer : Result Advance CaptureError) → Answers reader next answer
     → Waits answer → reader_left next < most_held (reader_stage next)
@@ -272,6 +278,69 @@ start_few : (begins : Bool) (bytes : List ℕ) (required there : ℕ)
 start_few true bytes required there refused = block_few no_section bytes required there refused
 start_few false bytes required there refused = heading_few bytes required there refused
 
+-- whether a block comes in parts is known by eight bytes
+long_more : (order : ByteOrder) (bytes more : List ℕ) → 8 ≤ length bytes
+    → begins_long order (bytes ++ more) ≡ begins_long order bytes
+long_more order bytes more long =
+    let size = length-append bytes more in
+    let there : nat_le 8 (length bytes) ≡ true = le-leb 8 (length bytes) long in
+    let still : nat_le 8 (length (bytes ++ more)) ≡ true = le-leb 8 (length (bytes ++ more)) (omega (arith, size)) in
+    let number = word32_at-more order bytes more 0 (omega arith) in
+    let len = word32_at-more order bytes more 4 long in
+    λ i. (still ∙ sym there) i && (is_other (kind_of (number i)) && nat_lt most_block (len i))
+
+-- which are there where it is refused for good
+section_long : (long : Bool) (section : Section) (bytes : List ℕ) (e : Refusal) → IsFinal e
+    → begins_long section.order bytes ≡ long → first_row (section_rows long section bytes) ≡ Some e → 8 ≤ length bytes
+section_long true section bytes e final long refused = (long_facts section.order bytes long).0
+section_long false section bytes e final long refused =
+    let twelve = block_long section bytes e final refused in omega arith
+
+section_more : (long : Bool) (section : Section) (bytes more : List ℕ) (e : Refusal) → 8 ≤ length bytes → IsFinal e
+    → first_row (section_rows long section bytes) ≡ Some e → first_row (section_rows long section (bytes ++ more)) ≡ Some e
+section_more true section bytes more e long final refused =
+    ap (λ (n : ℕ). first_row ((not (n % 4 == 0), refusal.BlockLength n) ∷ []))
+    (word32_at-more section.order bytes more 4 long)
+    ∙ refused
+section_more false section bytes more e long final refused = block_more section bytes more e final refused
+
+section_few : (long : Bool) (section : Section) (bytes : List ℕ) (required there : ℕ)
+    → first_row (section_rows long section bytes) ≡ Some (refusal.Cut required there) → length bytes < most_block
+section_few true section bytes required there refused =
+    absurd (refusal_is IsFinal (section_rows true section bytes) (tt, tt) (refusal.Cut required there) refused)
+section_few false section bytes required there refused = block_few section bytes required there refused
+
+inside_more : (done : Bool) (order : ByteOrder) (len left : ℕ) (bytes more : List ℕ) (e : Refusal) → IsFinal e
+    → first_row (inside_rows done order len left bytes) ≡ Some e
+    → first_row (inside_rows done order len left (bytes ++ more)) ≡ Some e
+inside_more true order len left bytes more e final refused =
+    let n = length bytes in
+    let m = length (bytes ++ more) in
+    let said = word32_at order bytes 0 in
+    let is = not_few (nat_lt n 4) 4 n ((not (said == len), refusal.TrailingLength len said) ∷ []) e final refused in
+    let enough : 4 ≤ n = ltb-false n 4 is.0 in
+    row_pass (nat_lt m 4) (refusal.Cut 4 m) _ (le-ltb m 4 (omega (arith, length-append bytes more)))
+    ∙ ap (λ (k : ℕ). first_row ((not (k == len), refusal.TrailingLength len k) ∷ []))
+    (word32_at-more order bytes more 0 enough)
+    ∙ is.1
+inside_more false order len left bytes more e final refused =
+    let k = min left most_stretch in
+    absurd (none-some e (not_few (nat_lt (length bytes) k) k (length bytes) [] e final refused).1)
+
+inside_few : (done : Bool) (order : ByteOrder) (len left : ℕ) (bytes : List ℕ) (required there : ℕ)
+    → first_row (inside_rows done order len left bytes) ≡ Some (refusal.Cut required there) → length bytes < most_block
+inside_few true order len left bytes required there refused =
+    let n = length bytes in
+    let said = word32_at order bytes 0 in
+    let below = ltb-true n 4 (cut_behind [] (nat_lt n 4) 4 n required there
+    ((not (said == len), refusal.TrailingLength len said) ∷ []) tt (tt, tt) refused).1 in
+    omega (arith, below)
+inside_few false order len left bytes required there refused =
+    let n = length bytes in
+    let k = min left most_stretch in
+    let below = ltb-true n k (cut_behind [] (nat_lt n k) k n required there [] tt tt refused).1 in
+    omega (arith, below, min-le_right left most_stretch)
+
 item_more : (stage : Stage) (bytes more : List ℕ) (e : Refusal) → IsFinal e
     → first_row (item_rows stage bytes) ≡ Some e → first_row (item_rows stage (bytes ++ more)) ≡ Some e
 item_more at_start bytes more e final refused =
@@ -280,13 +349,22 @@ item_more at_start bytes more e final refused =
     ap (λ (b : Bool). first_row (start_rows b (bytes ++ more))) (begins_more bytes more long)
     ∙ start_more begins bytes more e final refl refused
 item_more (in_records first) bytes more e final refused = record_more first.order bytes more e final refused
-item_more (in_section section) bytes more e final refused = block_more section bytes more e final refused
+item_more (in_section section) bytes more e final refused =
+    let long = begins_long section.order bytes in
+    let size = section_long long section bytes e final refl refused in
+    ap (λ (b : Bool). first_row (section_rows b section (bytes ++ more))) (long_more section.order bytes more size)
+    ∙ section_more long section bytes more e size final refused
+item_more (inside section len left) bytes more e final refused =
+    inside_more (left == 0) section.order len left bytes more e final refused
 
 item_few : (stage : Stage) (bytes : List ℕ) (required there : ℕ)
     → first_row (item_rows stage bytes) ≡ Some (refusal.Cut required there) → length bytes < most_held stage
 item_few at_start bytes required there refused = start_few (begins_section bytes) bytes required there refused
 item_few (in_records first) bytes required there refused = record_few first.order bytes required there refused
-item_few (in_section section) bytes required there refused = block_few section bytes required there refused
+item_few (in_section section) bytes required there refused =
+    section_few (begins_long section.order bytes) section bytes required there refused
+item_few (inside section len left) bytes required there refused =
+    inside_few (left == 0) section.order len left bytes required there refused
 
 -- where a capture may not end, it may not with more bytes
 ends_not_more : (stage : Stage) (bytes more : List ℕ) → may_end stage bytes ≡ false → may_end stage (bytes ++ more) ≡ false
@@ -295,6 +373,7 @@ ends_not_more (in_records first) [] more goes_on = absurd (cc)
 ends_not_more (in_records first) (byte ∷ bytes) more goes_on = refl
 ends_not_more (in_section section) [] more goes_on = absurd (cc)
 ends_not_more (in_section section) (byte ∷ bytes) more goes_on = refl
+ends_not_more (inside section len left) bytes more goes_on = refl
 
 final_answers : (reader next : CaptureReader) (e : Refusal) → IsFinal e → IsUnmoved reader next
     → may_end (reader_stage reader) (reader_rest reader) ≡ false
@@ -329,8 +408,6 @@ refused_answers reader next (refusal.UnknownMagic magic) same goes_on refused =
     final_answers reader next (refusal.UnknownMagic magic) tt same goes_on refused
 refused_answers reader next (refusal.UnsupportedVersion major minor) same goes_on refused =
     final_answers reader next (refusal.UnsupportedVersion major minor) tt same goes_on refused
-refused_answers reader next (refusal.UnsupportedLinkType link) same goes_on refused =
-    final_answers reader next (refusal.UnsupportedLinkType link) tt same goes_on refused
 refused_answers reader next (refusal.PacketTooLong len) same goes_on refused =
     final_answers reader next (refusal.PacketTooLong len) tt same goes_on refused
 refused_answers reader next (refusal.UnknownByteOrder magic) same goes_on refused =
@@ -359,6 +436,7 @@ some_left (in_records first) [] some = absurd (omega arith)
 some_left (in_records first) (byte ∷ bytes) some = refl
 some_left (in_section section) [] some = absurd (omega arith)
 some_left (in_section section) (byte ∷ bytes) some = refl
+some_left (inside section len left) bytes some = refl
 
 -- a reader in records is refused what is no record
 pub refused_record : (reader : CaptureReader) (first : Heading) (e : Refusal) → reader.state ≡ Records first
@@ -390,9 +468,12 @@ block_refused Start interfaces order bytes e stands refused =
       ap (λ (b : Bool). first_row (start_rows b bytes)) stands.2 ∙ ap (λ s. first_row (block_rows s bytes)) same ∙ refused,
     )
 block_refused (Records first) interfaces order bytes e stands refused = absurd stands
+block_refused (Inside before len left) interfaces order bytes e stands refused = absurd stands
 block_refused (Blocks before) interfaces order bytes e stands refused = (
   some_left (in_section (section_of before interfaces)) bytes stands.1,
-  ap (λ o. first_row (block_rows (section_of o interfaces) bytes)) (sym stands.0) ∙ refused,
+  ap (λ (b : Bool). first_row (section_rows b (section_of before interfaces) bytes)) stands.2
+      ∙ ap (λ o. first_row (block_rows (section_of o interfaces) bytes)) (sym stands.0)
+      ∙ refused,
 )
 
 pub refused_block : (reader : CaptureReader) (order : ByteOrder) (e : Refusal) → ReadsBlocks reader order
@@ -401,3 +482,21 @@ pub refused_block : (reader : CaptureReader) (order : ByteOrder) (e : Refusal) �
     × (first_row (item_rows (reader_stage reader) (reader_rest reader)) ≡ Some e)
 refused_block reader order e stands refused =
     block_refused reader.state reader.interfaces.items order (reader_rest reader) e stands refused
+
+-- a reader of a block that comes in parts is refused what is none
+pub refused_part : (reader : CaptureReader) (stage : Stage) (e : Refusal) → reader_stage reader ≡ stage
+    → may_end stage (reader_rest reader) ≡ false → first_row (item_rows stage (reader_rest reader)) ≡ Some e
+    → Answers reader reader (refused_at (reader_offset reader) e)
+refused_part reader stage e stands goes_on refused =
+    refused_answers reader reader e (record { stage = refl; rest = refl; offset = refl })
+    (ap (λ s. may_end s (reader_rest reader)) stands ∙ goes_on)
+    (ap (λ s. first_row (item_rows s (reader_rest reader))) stands ∙ refused)
+
+-- a reader of such a block's front is refused what is none
+pub front_refused : (section : Section) (bytes : List ℕ) (e : Refusal) → begins_long section.order bytes ≡ true
+    → first_row (long_rows section.order bytes) ≡ Some e
+    → (may_end (in_section section) bytes ≡ false) × (first_row (item_rows (in_section section) bytes) ≡ Some e)
+front_refused section bytes e long refused = (
+  some_left (in_section section) bytes (omega (arith, (long_facts section.order bytes long).0)),
+  ap (λ (b : Bool). first_row (section_rows b section bytes)) long ∙ refused,
+)

@@ -1,5 +1,5 @@
 -- Steps of a reader over headings, records and blocks.
-use Rattle.std.proofs.Common.{◌≡◌, ℕ, ◌+◌, ◌-◌, ◌<◌, ◌≤◌, true}
+use Rattle.std.proofs.Common.{◌≡◌, ℕ, ◌+◌, ◌-◌, ◌<◌, ◌≤◌, true, false}
 use Rattle.std.proofs.Common.{List, [], ◌∷◌, ◌++◌, Option, Some, None, Ok, length, take, drop, slice_range}
 use Rattle.std.proofs.Common.{refl, sym, ap, subst, ◌∙◌, length-append, length-drop, arith}
 use Rattle.std.proofs.lemmas.List.{drop-drop}
@@ -8,8 +8,8 @@ use Rattle.capture_reader.specs.Blocks.{IsBlock, PlainBlock, block_in}
 use Rattle.capture_reader.specs.Blocks.{no_section, section_after}
 use Rattle.capture_reader.specs.Classic.{IsHeading, IsRecord, PlainPacket, heading_bytes}
 use Rattle.capture_reader.specs.Classic.{record_bytes, kept_packet}
-use Rattle.capture_reader.specs.Captures.{Item, heading, packet, block, at_start, in_records, in_section}
-use Rattle.capture_reader.specs.Captures.{BeginsSection, Fits, PlainShown, begins_section}
+use Rattle.capture_reader.specs.Captures.{Item, heading, packet, block, part, Part, Stage, at_start, in_records, in_section}
+use Rattle.capture_reader.specs.Captures.{BeginsSection, Fits, PlainShown, begins_long, begins_section}
 use Rattle.capture_reader.specs.Captures.{block_shown, item_bytes, may_end, record_shown, shown_in}
 use Rattle.capture_reader.specs.Captures.{stage_after}
 use Rattle.capture_reader.specs.BlockContents.{FitsLen, content_interfaces, content_shown, known_shown, section_of}
@@ -28,7 +28,7 @@ use Rattle.capture_reader.specs.declared.interface.Interface.{Interface}
 use Rattle.capture_reader.specs.declared.reader.Advance.TheVariants.{Packet, Other, MayEnd}
 use Rattle.capture_reader.specs.declared.reader.CaptureReader.{CaptureReader}
 use Rattle.capture_reader.specs.declared.reader.State.{State}
-use Rattle.capture_reader.specs.declared.reader.State.TheVariants.{Start, Records, Blocks}
+use Rattle.capture_reader.specs.declared.reader.State.TheVariants.{Start, Records, Blocks, Inside}
 use Rattle.capture_reader.proofs.BlockLemmas.{shows_none}
 use Rattle.capture_reader.proofs.CaptureLemmas.{begins_header}
 use Rattle.capture_reader.proofs.ClassicLemmas.{range_split, record_is_read_by, record_kept}
@@ -174,6 +174,7 @@ block_steps Start interfaces order bytes behind stands is =
       shows = sym (shows_none interfaces one begins);
     }
 block_steps (Records first) interfaces order bytes behind stands is = absurd stands
+block_steps (Inside before len left) interfaces order bytes behind stands is = absurd stands
 block_steps (Blocks before) interfaces order bytes behind stands is =
     let same : section_of before interfaces ≡ section_of order interfaces =
     ap (λ o. section_of o interfaces) (sym stands.0) in
@@ -253,9 +254,9 @@ blocks_first reader start none begins =
 
 -- behind a block another may stand
 pub blocks_next : (reader : CaptureReader) (order : ByteOrder) → reader.state ≡ Blocks order
-    → 0 < length (reader_rest reader) → ReadsBlocks reader order
-blocks_next reader order blocks some =
-    subst (λ s. BlocksStand s reader.interfaces.items order (reader_rest reader)) (sym blocks) (refl, some)
+    → 0 < length (reader_rest reader) → begins_long order (reader_rest reader) ≡ false → ReadsBlocks reader order
+blocks_next reader order blocks some whole =
+    subst (λ s. BlocksStand s reader.interfaces.items order (reader_rest reader)) (sym blocks) (refl, some, whole)
 
 -- or a capture may end
 pub ends_blocks : (reader : CaptureReader) (order : ByteOrder) → reader.state ≡ Blocks order
@@ -327,5 +328,34 @@ packet_block reader next order one packet_in read behind content_is start last k
         shown = block_shows reader order one.len (Some (reader_shown next)) read.stands read.is
             (read.shown ∙ ap (content_shown body) content_is ∙ ap (λ (s : PlainShown). Some s) shows);
         has_record = tt;
+      },
+    )
+
+-- ---- blocks that come in parts
+
+-- a part was read, which stood in front
+pub part_steps : (reader next : CaptureReader) (stage after : Stage) (one : Part) (len : ℕ) → reader_stage reader ≡ stage
+    → Fits stage (part one) → shown_in stage (part one) ≡ None
+    → reader_rest reader ≡ item_bytes stage (part one) ++ drop len (reader_rest reader)
+    → len ≤ length (reader_rest reader) → next.buffer.items ≡ reader.buffer.items → next.end ≡ reader.end + len
+    → next.offset ≡ reader.offset + len → stage_after stage (part one) ≡ after → reader_stage next ≡ after
+    → Answers reader next (Ok Other)
+part_steps reader next stage after one len stands fits nothing_shown parts within buffer end offset leads behind_is =
+    let rest = reader_rest reader in
+    let behind : drop len rest ≡ reader_rest next =
+    drop-drop len reader.end reader.buffer.items ∙ ap (λ (k : ℕ). drop k reader.buffer.items) (sym end)
+    ∙ ap (drop next.end) (sym buffer) in
+    let bytes = item_bytes stage (part one) in
+    let same : item_bytes (reader_stage reader) (part one) ≡ bytes = ap (λ s. item_bytes s (part one)) stands in
+    let size : length bytes ≡ len =
+    omega (arith, within, ap length parts, length-append bytes (drop len rest), length-drop len rest) in (
+      part one,
+      ap (λ s. shown_in s (part one)) stands ∙ nothing_shown,
+      record {
+        fits = subst (λ s. Fits s (part one)) (sym stands) fits;
+        parts = parts ∙ ap (λ (s : List ℕ). bytes ++ s) behind
+            ∙ ap (λ (s : List ℕ). s ++ reader_rest next) (sym same);
+        stage = behind_is ∙ sym leads ∙ ap (λ s. stage_after s (part one)) (sym stands);
+        offset = omega (arith, offset, size, ap length same);
       },
     )

@@ -1,16 +1,17 @@
 -- A refusal for want of bytes says how many there are, and that more are needed.
-use Rattle.std.proofs.Common.{◌≡◌, ℕ, ◌+◌, ◌-◌, ◌<◌, Bool, true, false, List, [], ◌∷◌, Some, length, slice_range}
+use Rattle.std.proofs.Common.{◌≡◌, ℕ, ◌+◌, ◌-◌, ◌<◌, ◌==◌, min, Bool, true, false, List, [], ◌∷◌, Some, length, slice_range}
 use Rattle.std.proofs.Common.{refl, subst}
 use Rattle.std.proofs.lemmas.Bool.{ltb-true}
 use Rattle.std.proofs.lemmas.Option.{none-some}
 use Rattle.ep_base.specs.Tables.{first_row}
 use Rattle.capture_reader.specs.Numbers.{word32_at}
 use Rattle.capture_reader.specs.Blocks.{Section, block_rows, body_rows, kind_in, no_section, order_in}
-use Rattle.capture_reader.specs.Captures.{Stage, at_start, in_records, in_section, begins_section, item_rows}
+use Rattle.capture_reader.specs.Captures.{Stage, at_start, in_records, in_section, inside, begins_long, begins_section, inside_rows}
+use Rattle.capture_reader.specs.Captures.{item_rows, most_stretch, section_rows}
 use Rattle.capture_reader.specs.Readers.{WantsBytes}
 use Rattle.capture_reader.specs.declared.block.BlockKind.{BlockKind}
 use Rattle.capture_reader.specs.declared.block.BlockKind.TheVariants.{SectionHeader, InterfaceDescription, SimplePacket}
-use Rattle.capture_reader.specs.declared.block.BlockKind.TheVariants.{EnhancedPacket, Other}
+use Rattle.capture_reader.specs.declared.block.BlockKind.TheVariants.{EnhancedPacket, ObsoletePacket, Other}
 use Rattle.capture_reader.specs.declared.byte_order.ByteOrder.{ByteOrder}
 use Rattle.capture_reader.specs.declared.interface.Interface.{Interface}
 use Rattle.capture_reader.specs.declared.refusal.Refusal.{Refusal}
@@ -40,6 +41,7 @@ body_wants left interfaces order SectionHeader len body = (tt, tt)
 body_wants left interfaces order InterfaceDescription len body = (tt, (tt, (tt, (tt, (tt, tt)))))
 body_wants left interfaces order SimplePacket len body = (tt, (tt, (tt, tt)))
 body_wants left interfaces order EnhancedPacket len body = (tt, (tt, (tt, tt)))
+body_wants left interfaces order ObsoletePacket len body = (tt, (tt, (tt, tt)))
 body_wants left interfaces order Other len body = tt
 
 block_wants : (section : Section) (bytes : List ℕ) → TellWants (length bytes) (block_rows section bytes)
@@ -55,7 +57,17 @@ start_wants : (begins : Bool) (bytes : List ℕ) → TellWants (length bytes) (s
 start_wants true bytes = block_wants no_section bytes
 start_wants false bytes =
     let n = length bytes in
-    ((refl, ltb-true n 4), (tt, ((refl, ltb-true n 24), (tt, (tt, tt)))))
+    ((refl, ltb-true n 4), (tt, ((refl, ltb-true n 24), (tt, tt))))
+
+section_wants : (long : Bool) (section : Section) (bytes : List ℕ)
+    → TellWants (length bytes) (section_rows long section bytes)
+section_wants true section bytes = (tt, tt)
+section_wants false section bytes = block_wants section bytes
+
+inside_wants : (done : Bool) (order : ByteOrder) (len left : ℕ) (bytes : List ℕ)
+    → TellWants (length bytes) (inside_rows done order len left bytes)
+inside_wants true order len left bytes = ((refl, ltb-true (length bytes) 4), (tt, tt))
+inside_wants false order len left bytes = ((refl, ltb-true (length bytes) (min left most_stretch)), tt)
 
 stage_wants : (stage : Stage) (bytes : List ℕ) → TellWants (length bytes) (item_rows stage bytes)
 stage_wants at_start bytes = start_wants (begins_section bytes) bytes
@@ -63,7 +75,8 @@ stage_wants (in_records first) bytes =
     let n = length bytes in
     let kept = word32_at first.order bytes 8 in
     ((refl, ltb-true n 16), (tt, ((refl, ltb-true n (16 + kept)), tt)))
-stage_wants (in_section section) bytes = block_wants section bytes
+stage_wants (in_section section) bytes = section_wants (begins_long section.order bytes) section bytes
+stage_wants (inside section len left) bytes = inside_wants (left == 0) section.order len left bytes
 
 -- what stands next and is refused for want of bytes needs more of them
 pub item_wants : (stage : Stage) (bytes : List ℕ) (required there : ℕ)

@@ -4,13 +4,13 @@ use Rattle.std.specs.Prelude.{length, slice_range}
 use Rattle.ep_base.specs.Tables.{first_row}
 use Rattle.capture_reader.specs.Blocks.{Section, block_of, body_rows, has_no_order, kind_in, least_len, most_block}
 use Rattle.capture_reader.specs.Blocks.{order_in, section_after}
-use Rattle.capture_reader.specs.Captures.{PlainShown, block_shown}
+use Rattle.capture_reader.specs.Captures.{PlainShown, block_shown, block_time}
 use Rattle.capture_reader.specs.Numbers.{word32_at}
 use Rattle.capture_reader.specs.declared.block.BlockKind.{BlockKind}
 use Rattle.capture_reader.specs.declared.block.BlockKind.TheVariants.{SectionHeader}
 use Rattle.capture_reader.specs.declared.block.Content.{Content}
 use Rattle.capture_reader.specs.declared.block.Content.TheVariants as content
-use Rattle.capture_reader.specs.declared.block.Frame.{Frame}
+use Rattle.capture_reader.specs.declared.block.Framing.{Framing}
 use Rattle.capture_reader.specs.declared.byte_order.ByteOrder.{ByteOrder}
 use Rattle.capture_reader.specs.declared.byte_order.ByteOrder.TheVariants.{Big}
 use Rattle.capture_reader.specs.declared.interface.Interface.{Interface}
@@ -24,6 +24,15 @@ section_of order interfaces = record { order = order; interfaces = interfaces }
 abbrev pub known_shown : Known → List ℕ → PlainShown
 known_shown known bytes =
     record { link = known.link_type; time = known.time; original_len = known.original_len; bytes = bytes }
+
+-- what is known of a packet of an interface, whose block begins with this: the halves of its time stand behind 4 and 8
+-- bytes, its length behind 16
+abbrev pub timed_known : ByteOrder → Interface → List ℕ → Known
+timed_known order about body = record {
+  link_type = about.link_type;
+  time = Some (block_time about (word32_at order body 4) (word32_at order body 8));
+  original_len = word32_at order body 16;
+}
 
 -- the interfaces behind a block that says so, in a section that described these before it
 abbrev pub content_interfaces : List Interface → Content → List Interface
@@ -60,13 +69,13 @@ pub record Says (interfaces : List Interface) (order : ByteOrder) (kind : BlockK
   pub fits : FitsLen content (12 + length body)
 
 -- what stands around the block at the front of the bytes is right
-pub record IsFramed (order : ByteOrder) (bytes : List ℕ) (frame : Frame) : Type 0 where
-  pub order_is : frame.order ≡ order_in order bytes
-  pub kind : frame.kind ≡ kind_in order bytes
-  pub len : frame.len ≡ word32_at frame.order bytes 4
-  pub known : has_no_order order frame.kind (word32_at Big bytes 8) ≡ false
-  pub least : least_len frame.kind ≤ frame.len
-  pub whole : frame.len % 4 ≡ 0
-  pub most : frame.len ≤ most_block
-  pub within : frame.len ≤ length bytes
-  pub trailing : word32_at frame.order bytes (frame.len - 4) ≡ frame.len
+pub record IsFramed (order : ByteOrder) (bytes : List ℕ) (framing : Framing) : Type 0 where
+  pub order_is : framing.order ≡ order_in order bytes
+  pub kind : framing.kind ≡ kind_in order bytes
+  pub len : framing.len ≡ word32_at framing.order bytes 4
+  pub known : has_no_order order framing.kind (word32_at Big bytes 8) ≡ false
+  pub least : least_len framing.kind ≤ framing.len
+  pub whole : framing.len % 4 ≡ 0
+  pub most : framing.len ≤ most_block
+  pub within : framing.len ≤ length bytes
+  pub trailing : word32_at framing.order bytes (framing.len - 4) ≡ framing.len

@@ -1,6 +1,6 @@
 -- The newer capture format (pcapng, draft-ietf-opsawg-pcapng): sections of blocks, each of which has its length in
 -- front of what it holds, and behind it.
-use Rattle.std.specs.Prelude.{◌≡◌, ℕ, ◌+◌, ◌-◌, ◌%◌, ◌^◌, ◌<◌, ◌≤◌, ◌==◌, ◌&&◌, ◌||◌, Bool, true, not, is_some}
+use Rattle.std.specs.Prelude.{◌≡◌, ℕ, ◌+◌, ◌-◌, ◌%◌, ◌^◌, ◌<◌, ◌≤◌, ◌==◌, ◌&&◌, ◌||◌, Bool, true, false, not, is_some}
 use Rattle.std.specs.Prelude.{nat_lt}
 use Rattle.std.specs.Prelude.{if◌then◌else◌, List, [], ◌∷◌, ◌++◌, Option, Some, None, length, drop, slice_index_or}
 use Rattle.std.specs.Prelude.{slice_range}
@@ -13,7 +13,7 @@ use Rattle.capture_reader.specs.Options.{knows_resolution, offset_said, options_
 use Rattle.capture_reader.specs.Options.{per_second_of, resolution_said, value_len, value_of}
 use Rattle.capture_reader.specs.declared.block.BlockKind.{BlockKind}
 use Rattle.capture_reader.specs.declared.block.BlockKind.TheVariants.{SectionHeader, InterfaceDescription, SimplePacket}
-use Rattle.capture_reader.specs.declared.block.BlockKind.TheVariants.{EnhancedPacket, Other}
+use Rattle.capture_reader.specs.declared.block.BlockKind.TheVariants.{EnhancedPacket, ObsoletePacket, Other}
 use Rattle.capture_reader.specs.declared.byte_order.ByteOrder.{ByteOrder}
 use Rattle.capture_reader.specs.declared.byte_order.ByteOrder.TheVariants.{Big, Little}
 use Rattle.capture_reader.specs.declared.interface.Interface.{Interface}
@@ -47,6 +47,12 @@ pub record PlainEnhanced : Type 0 where
   pub padding : List ℕ
   pub options : List ℕ
 
+-- A packet in the form that enhanced packets replace (appendix A), the number of whose interface has two bytes, and how
+-- many packets were dropped in front of it, of which nothing is told.
+pub record PlainObsolete : Type 0 where
+  pub drops : ℕ
+  pub packet : PlainEnhanced
+
 -- A simple packet (4.4), which has no time, and is of a section's first interface. Nothing is read of what stands
 -- behind what fills its bytes up.
 pub record PlainSimple : Type 0 where
@@ -64,6 +70,7 @@ pub data PlainBlock : Type 0 where
   header : PlainHeader → PlainBlock
   interface : PlainInterface → PlainBlock
   enhanced : PlainEnhanced → PlainBlock
+  obsolete : PlainObsolete → PlainBlock
   simple : PlainSimple → PlainBlock
   other : PlainOther → PlainBlock
 
@@ -108,6 +115,7 @@ number_of SectionHeader = 0x0a0d0d0a
 number_of InterfaceDescription = 1
 number_of SimplePacket = 3
 number_of EnhancedPacket = 6
+number_of ObsoletePacket = 2
 number_of Other = 0
 
 -- the kind for which a number stands
@@ -115,14 +123,16 @@ abbrev pub kind_of : ℕ → BlockKind
 kind_of number =
     if number == 0x0a0d0d0a then SectionHeader else
     (if number == 1 then InterfaceDescription else
+    (if number == 2 then ObsoletePacket else
     (if number == 3 then SimplePacket else
-    (if number == 6 then EnhancedPacket else Other)))
+    (if number == 6 then EnhancedPacket else Other))))
 
 -- the number of a block
 abbrev pub block_number : PlainBlock → ℕ
 block_number (header plain) = number_of SectionHeader
 block_number (interface plain) = number_of InterfaceDescription
 block_number (enhanced plain) = number_of EnhancedPacket
+block_number (obsolete plain) = number_of ObsoletePacket
 block_number (simple plain) = number_of SimplePacket
 block_number (other plain) = plain.kind
 
@@ -131,6 +141,13 @@ abbrev pub block_order : ByteOrder → PlainBlock → ByteOrder
 block_order order (header plain) = plain.order
 block_order order block = order
 
+-- what stands behind the number of a packet's interface: its time, how many bytes are kept, how long it was, and these
+abbrev pub packet_body : ByteOrder → PlainEnhanced → List ℕ
+packet_body order plain =
+    word32 order plain.high ++ word32 order plain.low
+    ++ word32 order (length plain.bytes) ++ word32 order plain.original_len
+    ++ plain.bytes ++ plain.padding ++ plain.options
+
 -- what a block holds
 abbrev pub block_body : ByteOrder → PlainBlock → List ℕ
 block_body order (header plain) =
@@ -138,10 +155,9 @@ block_body order (header plain) =
 block_body order (interface plain) =
     word16 order plain.link_type ++ word16 order plain.reserved ++ word32 order plain.snap_len
     ++ options_bytes order plain.options ++ plain.ending
-block_body order (enhanced plain) =
-    word32 order plain.number ++ word32 order plain.high ++ word32 order plain.low
-    ++ word32 order (length plain.bytes) ++ word32 order plain.original_len
-    ++ plain.bytes ++ plain.padding ++ plain.options
+block_body order (enhanced plain) = word32 order plain.number ++ packet_body order plain
+block_body order (obsolete plain) =
+    word16 order plain.packet.number ++ (word16 order plain.drops ++ packet_body order plain.packet)
 block_body order (simple plain) = word32 order plain.original_len ++ plain.bytes ++ plain.padding ++ plain.behind
 block_body order (other plain) = plain.body
 
@@ -202,6 +218,11 @@ pub record FitsEnhanced (section : Section) (plain : PlainEnhanced) : Type 0 whe
   pub kept : length plain.bytes ≤ most_kept
   pub padding : length plain.padding ≡ padding_of (length plain.bytes)
 
+pub record FitsObsolete (section : Section) (plain : PlainObsolete) : Type 0 where
+  pub numbered : plain.packet.number < 2 ^ 16
+  pub drops : plain.drops < 2 ^ 16
+  pub packet : FitsEnhanced section plain.packet
+
 pub record FitsSimple (section : Section) (plain : PlainSimple) : Type 0 where
   pub described : 0 < length section.interfaces
   pub original_len : plain.original_len < 2 ^ 32
@@ -217,6 +238,7 @@ abbrev pub FitsContent : Section → PlainBlock → Type 0
 FitsContent section (header plain) = FitsHeader plain
 FitsContent section (interface plain) = FitsInterface section plain
 FitsContent section (enhanced plain) = FitsEnhanced section plain
+FitsContent section (obsolete plain) = FitsObsolete section plain
 FitsContent section (simple plain) = FitsSimple section plain
 FitsContent section (other plain) = FitsOther plain
 
@@ -236,6 +258,11 @@ pub record IsBlock (section : Section) (bytes : List ℕ) (read : PlainBlock × 
 -- the kind that is said in front
 abbrev pub kind_in : ByteOrder → List ℕ → BlockKind
 kind_in before bytes = kind_of (word32_at before bytes 0)
+
+-- whether it is none that is read
+abbrev pub is_other : BlockKind → Bool
+is_other Other = true
+is_other kind = false
 
 -- the byte order that the number of a section says
 abbrev pub order_said : ℕ → Option ByteOrder
@@ -268,6 +295,7 @@ least_len SectionHeader = 28
 least_len InterfaceDescription = 20
 least_len SimplePacket = 16
 least_len EnhancedPacket = 32
+least_len ObsoletePacket = 32
 least_len Other = 12
 
 -- the rows of what stands in front of all blocks, whose first 12 bytes are there
@@ -304,16 +332,19 @@ abbrev pub version_rows : (major minor : ℕ) → List (Bool × Refusal)
 version_rows major minor =
     (not (major == 1) || not (knows_minor minor), refusal.UnsupportedVersion major minor) ∷ []
 
+-- the rows of a packet of the interface of a number
+abbrev pub numbered_rows : List Interface → ℕ → ByteOrder → ℕ → List ℕ → List (Bool × Refusal)
+numbered_rows interfaces number order len body =
+    (not (nat_lt number (length interfaces)), refusal.UndescribedInterface number)
+    ∷ kept_rows len 20 (word32_at order body 12) (length body)
+
 -- the rows of what a block of a kind and a length holds
 abbrev pub body_rows : List Interface → ByteOrder → BlockKind → ℕ → List ℕ → List (Bool × Refusal)
 body_rows interfaces order SectionHeader len body = version_rows (word16_at order body 4) (word16_at order body 6)
 body_rows interfaces order InterfaceDescription len body =
     (not (nat_lt (length interfaces) most_interfaces), refusal.TooManyInterfaces) ∷ options_rows order (drop 8 body)
-body_rows interfaces order EnhancedPacket len body = (
-  not (nat_lt (word32_at order body 0) (length interfaces)),
-  refusal.UndescribedInterface (word32_at order body 0),
-)
-    ∷ kept_rows len 20 (word32_at order body 12) (length body)
+body_rows interfaces order EnhancedPacket len body = numbered_rows interfaces (word32_at order body 0) order len body
+body_rows interfaces order ObsoletePacket len body = numbered_rows interfaces (word16_at order body 0) order len body
 body_rows interfaces order SimplePacket len body =
     (not (nat_lt 0 (length interfaces)), refusal.UndescribedInterface 0)
     ∷ kept_rows len 4 (simple_kept interfaces (word32_at order body 0)) (length body)
@@ -352,11 +383,11 @@ interface_read order body = record {
   ending = options_end order (drop 8 body);
 }
 
-abbrev pub enhanced_of : ByteOrder → List ℕ → PlainEnhanced
-enhanced_of order body =
+abbrev pub packet_with : ByteOrder → ℕ → List ℕ → PlainEnhanced
+packet_with order number body =
     let kept = word32_at order body 12 in
     record {
-      number = word32_at order body 0;
+      number = number;
       high = word32_at order body 4;
       low = word32_at order body 8;
       original_len = word32_at order body 16;
@@ -364,6 +395,13 @@ enhanced_of order body =
       padding = slice_range body (20 + kept) (20 + kept + padding_of kept);
       options = drop (20 + kept + padding_of kept) body;
     }
+
+abbrev pub enhanced_of : ByteOrder → List ℕ → PlainEnhanced
+enhanced_of order body = packet_with order (word32_at order body 0) body
+
+abbrev pub obsolete_of : ByteOrder → List ℕ → PlainObsolete
+obsolete_of order body =
+    record { drops = word16_at order body 2; packet = packet_with order (word16_at order body 0) body }
 
 abbrev pub simple_of : List Interface → ByteOrder → List ℕ → PlainSimple
 simple_of interfaces order body =
@@ -380,6 +418,7 @@ abbrev pub block_of : List Interface → ByteOrder → BlockKind → ℕ → Lis
 block_of interfaces order SectionHeader number body = header (header_of order body)
 block_of interfaces order InterfaceDescription number body = interface (interface_read order body)
 block_of interfaces order EnhancedPacket number body = enhanced (enhanced_of order body)
+block_of interfaces order ObsoletePacket number body = obsolete (obsolete_of order body)
 block_of interfaces order SimplePacket number body = simple (simple_of interfaces order body)
 block_of interfaces order Other number body = other (record { kind = number; body = body })
 

@@ -1,13 +1,16 @@
 -- Whole captures: what stands in them one behind the other, and where they break off.
-use Rattle.std.specs.Prelude.{◌≡◌, ℕ, ◌+◌, ◌*◌, ◌^◌, ◌==◌, ◌&&◌, Bool, true, false, nat_le, if◌then◌else◌, pos}
+use Rattle.std.specs.Prelude.{◌≡◌, ℕ, ◌+◌, ◌-◌, ◌*◌, ◌%◌, ◌^◌, ◌<◌, ◌==◌, ◌&&◌, Bool, true, false, not, nat_le, nat_lt}
+use Rattle.std.specs.Prelude.{if◌then◌else◌, min, pos}
 use Rattle.std.specs.Prelude.{List, [], ◌∷◌, ◌++◌, Option, Some, None, length}
 use Rattle.ep_base.specs.Tables.{Refuses}
-use Rattle.capture_reader.specs.Numbers.{word32_at}
+use Rattle.capture_reader.specs.Numbers.{word32, word32_at}
 use Rattle.capture_reader.specs.Classic.{FitsHeading, FitsRecord, PlainPacket, heading_bytes}
 use Rattle.capture_reader.specs.Classic.{heading_rows, link_of, record_bytes, record_rows}
-use Rattle.capture_reader.specs.Blocks.{FitsBlock, PlainBlock, header, enhanced, simple}
+use Rattle.capture_reader.specs.Blocks.{FitsBlock, PlainBlock, header, enhanced, obsolete, simple}
 use Rattle.capture_reader.specs.Blocks.{PlainEnhanced, PlainSimple, Section, block_bytes, block_rows, interface_at}
-use Rattle.capture_reader.specs.Blocks.{no_section, section_after}
+use Rattle.capture_reader.specs.Blocks.{is_other, kind_in, kind_of, most_block, no_section, section_after}
+use Rattle.capture_reader.specs.declared.block.BlockKind.TheVariants.{Other}
+use Rattle.capture_reader.specs.declared.byte_order.ByteOrder.{ByteOrder}
 use Rattle.capture_reader.specs.declared.byte_order.ByteOrder.TheVariants.{Big}
 use Rattle.capture_reader.specs.declared.heading.Heading.{Heading}
 use Rattle.capture_reader.specs.declared.heading.Resolution.{Resolution}
@@ -15,27 +18,41 @@ use Rattle.capture_reader.specs.declared.heading.Resolution.TheVariants.{Micros,
 use Rattle.capture_reader.specs.declared.interface.Interface.{Interface}
 use Rattle.capture_reader.specs.declared.refusal.CaptureError.{CaptureError}
 use Rattle.capture_reader.specs.declared.refusal.Refusal.{Refusal}
+use Rattle.capture_reader.specs.declared.refusal.Refusal.TheVariants as refusal
 use Rattle.capture_reader.specs.declared.shown.Time.{Time}
 
 -- ---- items
 
--- what stands in a capture: a heading and packets, or blocks
+-- A part of a block that is longer than one that is kept whole, and of a kind that is not read: its number and length in
+-- front, bytes that it holds, or its length behind these.
+pub data Part : Type 0 where
+  front : (number len : ℕ) → Part
+  stretch : List ℕ → Part
+  back : Part
+
+-- what stands in a capture: a heading and packets, or blocks, of which long ones come in parts
 pub data Item : Type 0 where
   heading : Heading → Item
   packet : PlainPacket → Item
   block : PlainBlock → Item
+  part : Part → Item
 
--- what was read so far: nothing; a heading, behind which stand records; or blocks, the last of a section
+-- what was read so far: nothing; a heading, behind which stand records; blocks, the last of a section; or the front of a
+-- block of so many bytes, of which so many are left in front of its length
 pub data Stage : Type 0 where
   at_start : Stage
   in_records : Heading → Stage
   in_section : Section → Stage
+  inside : Section → (len left : ℕ) → Stage
 
 -- what was read behind an item
 abbrev pub stage_after : Stage → Item → Stage
 stage_after at_start (heading first) = in_records first
 stage_after at_start (block one) = in_section (section_after no_section one)
 stage_after (in_section section) (block one) = in_section (section_after section one)
+stage_after (in_section section) (part (front number len)) = inside section len (len - 12)
+stage_after (inside section len left) (part (stretch bytes)) = inside section len (left - length bytes)
+stage_after (inside section len left) (part back) = in_section section
 stage_after stage item = stage
 
 -- the same behind several
@@ -48,12 +65,27 @@ abbrev pub BeginsSection : PlainBlock → Type 0
 BeginsSection (header plain) = Unit {0}
 BeginsSection one = ⊥
 
+-- how many bytes a stretch has: 64 KiB, or what is left
+abbrev pub most_stretch : ℕ
+most_stretch = 65536
+
+-- a block of this number and length comes in parts
+pub record FitsFront (number len : ℕ) : Type 0 where
+  pub numbered : number < 2 ^ 32
+  pub kind : kind_of number ≡ Other
+  pub long : most_block < len
+  pub within : len < 2 ^ 32
+  pub whole : len % 4 ≡ 0
+
 -- an item that may stand there
 abbrev pub Fits : Stage → Item → Type 0
 Fits at_start (heading first) = FitsHeading first
 Fits at_start (block one) = BeginsSection one × FitsBlock no_section one
 Fits (in_records first) (packet one) = FitsRecord one
 Fits (in_section section) (block one) = FitsBlock section one
+Fits (in_section section) (part (front number len)) = FitsFront number len
+Fits (inside section len left) (part (stretch bytes)) = (0 < left) × (length bytes ≡ min left most_stretch)
+Fits (inside section len left) (part back) = (left ≡ 0) × (len < 2 ^ 32)
 Fits stage item = ⊥
 
 -- the bytes of an item
@@ -62,6 +94,9 @@ item_bytes at_start (heading first) = heading_bytes first
 item_bytes at_start (block one) = block_bytes Big one
 item_bytes (in_records first) (packet one) = record_bytes first.order one
 item_bytes (in_section section) (block one) = block_bytes section.order one
+item_bytes (in_section section) (part (front number len)) = word32 section.order number ++ word32 section.order len
+item_bytes (inside section len left) (part (stretch bytes)) = bytes
+item_bytes (inside section len left) (part back) = word32 section.order len
 item_bytes stage item = []
 
 -- items that may stand there, one behind the other
@@ -84,10 +119,39 @@ may_end stage bytes = false
 abbrev pub begins_section : List ℕ → Bool
 begins_section bytes = nat_le 4 (length bytes) && (word32_at Big bytes 0 == 0x0a0d0d0a)
 
+-- whether bytes begin with a block that comes in parts
+abbrev pub begins_long : ByteOrder → List ℕ → Bool
+begins_long order bytes =
+    nat_le 8 (length bytes) && (is_other (kind_in order bytes) && nat_lt most_block (word32_at order bytes 4))
+
+-- the rows of such a block
+abbrev pub long_rows : ByteOrder → List ℕ → List (Bool × Refusal)
+long_rows order bytes =
+    (not (word32_at order bytes 4 % 4 == 0), refusal.BlockLength (word32_at order bytes 4)) ∷ []
+
+-- the rows of one that comes in parts, and of one that does not
+abbrev pub section_rows : Bool → Section → List ℕ → List (Bool × Refusal)
+section_rows true section bytes = long_rows section.order bytes
+section_rows false section bytes = block_rows section bytes
+
+-- the rows of the length behind a block of so many bytes
+abbrev pub back_rows : ByteOrder → ℕ → List ℕ → List (Bool × Refusal)
+back_rows order len bytes =
+    (nat_lt (length bytes) 4, refusal.Cut 4 (length bytes))
+    ∷ (not (word32_at order bytes 0 == len), refusal.TrailingLength len (word32_at order bytes 0))
+    ∷ []
+
+-- the rows inside of it, where nothing is left in front of that, and where so many bytes are
+abbrev pub inside_rows : Bool → ByteOrder → (len left : ℕ) → List ℕ → List (Bool × Refusal)
+inside_rows true order len left bytes = back_rows order len bytes
+inside_rows false order len left bytes =
+    (nat_lt (length bytes) (min left most_stretch), refusal.Cut (min left most_stretch) (length bytes)) ∷ []
+
 -- why bytes begin with no item
 abbrev pub item_rows : Stage → List ℕ → List (Bool × Refusal)
 item_rows at_start bytes = if begins_section bytes then block_rows no_section bytes else heading_rows bytes
-item_rows (in_section section) bytes = block_rows section bytes
+item_rows (in_section section) bytes = section_rows (begins_long section.order bytes) section bytes
+item_rows (inside section len left) bytes = inside_rows (left == 0) section.order len left bytes
 item_rows (in_records first) bytes = record_rows first.order bytes
 
 -- ---- what packets show
@@ -140,6 +204,8 @@ simple_shown about one =
 -- what a block shows: that of a packet, or nothing
 abbrev pub block_shown : List Interface → PlainBlock → Option PlainShown
 block_shown interfaces (enhanced one) = Some (enhanced_shown (interface_at interfaces one.number) one)
+block_shown interfaces (obsolete one) =
+    Some (enhanced_shown (interface_at interfaces one.packet.number) one.packet)
 block_shown interfaces (simple one) = Some (simple_shown (interface_at interfaces 0) one)
 block_shown interfaces one = None
 

@@ -28,25 +28,16 @@ style_of magic =
     (if magic == 0xa1b23c4d then Some (Big, Nanos) else
     (if magic == 0x4d3cb2a1 then Some (Little, Nanos) else None)))
 
--- the link types that are read: Ethernet, IP alone (of either version, IPv4, IPv6) and Linux cooked captures
-abbrev pub knows_link : ℕ → Bool
-knows_link link = (link == 1) || (link == 101) || (link == 113) || (link == 228) || (link == 229)
-
 -- the link type is the lower half of its word; the upper half says how long a frame's check sequence is
 abbrev pub link_of : ℕ → ℕ
 link_of network = network % 65536
 
--- each number fits its four bytes, and the link type is one that is read
+-- each number fits its four bytes
 pub record FitsHeading (heading : Heading) : Type 0 where
   pub zone : heading.zone < 2 ^ 32
   pub accuracy : heading.accuracy < 2 ^ 32
   pub snap_len : heading.snap_len < 2 ^ 32
   pub network : heading.network < 2 ^ 32
-  pub link : knows_link (link_of heading.network) ≡ true
-
--- the number of bytes of a heading
-abbrev pub heading_len : ℕ
-heading_len = 24
 
 -- the bytes of a heading
 abbrev pub heading_bytes : Heading → List ℕ
@@ -80,12 +71,10 @@ heading_rows bytes =
     let order = style_order (style_in bytes) in
     let major = word16_at order bytes 4 in
     let minor = word16_at order bytes 6 in
-    let link = link_of (word32_at order bytes 20) in
     (nat_lt (length bytes) 4, refusal.Cut 4 (length bytes))
     ∷ (not (is_some (style_in bytes)), refusal.UnknownMagic (word32_at Big bytes 0))
     ∷ (nat_lt (length bytes) 24, refusal.Cut 24 (length bytes))
     ∷ (not ((major == 2) && (minor == 4)), refusal.UnsupportedVersion major minor)
-    ∷ (not (knows_link link), refusal.UnsupportedLinkType link)
     ∷ []
 
 abbrev pub RefusesHeading : List ℕ → Refusal → Type 0

@@ -3,8 +3,8 @@ use Rattle.std.specs.Prelude.{◌≡◌, ℕ, ◌+◌, ◌-◌, ◌<◌, true, f
 use Rattle.std.specs.Prelude.{Option, Some, None, Result, Ok, Err, vec_capacity, vec_len}
 use Rattle.ep_base.specs.Tables.{Refuses}
 use Rattle.capture_reader.specs.Blocks.{most_block}
-use Rattle.capture_reader.specs.Captures.{Item, packet, Stage, at_start, in_records, in_section}
-use Rattle.capture_reader.specs.Captures.{AreItems, Fits, IsCapture, PlainShown, RefusesCapture, begins_section}
+use Rattle.capture_reader.specs.Captures.{Item, packet, Stage, at_start, in_records, in_section, inside}
+use Rattle.capture_reader.specs.Captures.{AreItems, Fits, IsCapture, PlainShown, RefusesCapture, begins_long, begins_section}
 use Rattle.capture_reader.specs.Captures.{item_bytes, item_rows, items_bytes, may_end, shown_in, stage_after}
 use Rattle.capture_reader.specs.Captures.{stage_behind}
 use Rattle.capture_reader.specs.BlockContents.{known_shown, section_of}
@@ -17,7 +17,7 @@ use Rattle.capture_reader.specs.declared.reader.Advance.{Advance}
 use Rattle.capture_reader.specs.declared.reader.Advance.TheVariants.{Packet, Other, MayEnd, Cut}
 use Rattle.capture_reader.specs.declared.reader.CaptureReader.{CaptureReader}
 use Rattle.capture_reader.specs.declared.reader.State.{State}
-use Rattle.capture_reader.specs.declared.reader.State.TheVariants.{Start, Records, Blocks}
+use Rattle.capture_reader.specs.declared.reader.State.TheVariants.{Start, Records, Blocks, Inside}
 use Rattle.capture_reader.specs.declared.refusal.CaptureError.{CaptureError}
 use Rattle.capture_reader.specs.declared.refusal.Refusal.{Refusal}
 use Rattle.capture_reader.specs.declared.refusal.Refusal.TheVariants as refusal
@@ -28,6 +28,7 @@ abbrev pub stage_of : State → List Interface → Stage
 stage_of Start interfaces = at_start
 stage_of (Records first) interfaces = in_records first
 stage_of (Blocks order) interfaces = in_section (section_of order interfaces)
+stage_of (Inside order len left) interfaces = inside (section_of order interfaces) len left
 
 -- what a reader has read before
 abbrev pub reader_stage : CaptureReader → Stage
@@ -153,7 +154,9 @@ most_held stage = most_block
 abbrev pub BlocksStand : State → List Interface → ByteOrder → List ℕ → Type 0
 BlocksStand Start interfaces order bytes = (order ≡ Big) × (interfaces ≡ []) × (begins_section bytes ≡ true)
 BlocksStand (Records first) interfaces order bytes = ⊥
-BlocksStand (Blocks other) interfaces order bytes = (order ≡ other) × (0 < length bytes)
+BlocksStand (Blocks other) interfaces order bytes =
+    (order ≡ other) × (0 < length bytes) × (begins_long other bytes ≡ false)
+BlocksStand (Inside other len left) interfaces order bytes = ⊥
 
 -- what stands next is a block in a section of this byte order
 abbrev pub ReadsBlocks : CaptureReader → ByteOrder → Type 0

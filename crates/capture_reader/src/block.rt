@@ -3,9 +3,9 @@
 ghost use Rattle.std.specs.Prelude.{◌≡◌, ◌≤◌, ◌+◌, ◌-◌, List, None, IfErr, IfOk, drop, length, slice_range};
 ghost use Rattle.ep_base.specs.Tables.{Refuses, first_row};
 ghost use Rattle.capture_reader.specs.Blocks.{IsBlock, RefusesBlock, block_in, body_rows, kept_of, kept_rows};
-ghost use Rattle.capture_reader.specs.Blocks.{kind_of, known_order, knows_minor, least_len, order_said, section_after};
+ghost use Rattle.capture_reader.specs.Blocks.{is_other, kind_of, known_order, knows_minor, least_len, order_said, section_after};
 ghost use Rattle.capture_reader.specs.Captures.{block_shown};
-ghost use Rattle.capture_reader.specs.BlockContents.{FitsLen, IsFramed, Says, content_interfaces, content_shown, section_of};
+ghost use Rattle.capture_reader.specs.BlockContents.{FitsLen, IsFramed, Says, content_interfaces, content_shown, section_of, timed_known};
 
 use crate::byte_order::ByteOrder;
 use crate::interface::{Interface, padding_of};
@@ -16,8 +16,8 @@ use crate::shown::{Known, Time};
 /// The number that begins a section, in either byte order.
 pub(crate) const SECTION: u32 = 0x0a0d_0d0a;
 
-/// The greatest number of bytes of a block, 320 KiB.
-const MOST_BLOCK: u32 = 327_680;
+/// The greatest number of bytes of a block that is read whole, 320 KiB.
+pub(crate) const MOST_BLOCK: u32 = 327_680;
 
 /// The greatest number of interfaces of a section.
 const MOST_INTERFACES: usize = 65_536;
@@ -33,8 +33,19 @@ pub enum BlockKind {
     SimplePacket,
     /// A packet.
     EnhancedPacket,
+    /// A packet in the form that enhanced packets replace.
+    ObsoletePacket,
     /// Something else.
     Other,
+}
+
+impl BlockKind {
+    /// Whether it is none that is read.
+    pub(crate) fn is_other(self) -> bool
+        ensures { result ≡ is_other self }
+    {
+        matches!(self, BlockKind::Other)
+    }
 }
 
 /// A packet in a block.
@@ -95,13 +106,13 @@ impl Block {
             ≡ content_shown (slice_range bytes.now 8 (one.len - 4)) one.content) }
         ensures err { IfErr result (RefusesBlock (section_of order interfaces.now) bytes.now) }
     {
-        match Frame::from_slice(order, bytes) {
-            Ok(frame) => {
-                let body = &bytes[8..frame.len as usize - 4];
-                match frame.content(interfaces, body) {
+        match Framing::from_slice(order, bytes) {
+            Ok(framing) => {
+                let body = &bytes[8..framing.len as usize - 4];
+                match framing.content(interfaces, body) {
                     Ok(content) => Ok(Block {
-                        order: frame.order,
-                        len: frame.len as usize,
+                        order: framing.order,
+                        len: framing.len as usize,
                         content,
                     }),
                     Err(refusal) => Err(refusal),
@@ -114,17 +125,17 @@ impl Block {
 
 /// What stands around what a block holds.
 #[derive(Clone, Copy)]
-struct Frame {
+struct Framing {
     order: ByteOrder,
     kind: BlockKind,
     /// The number of bytes of the block.
     len: u32,
 }
 
-impl Frame {
+impl Framing {
     /// What stands around the block at the front of the bytes, which is there whole, in a section of a byte order.
-    fn from_slice(order: ByteOrder, bytes: &[u8]) -> Result<Frame, Refusal>
-        ensures ok { IfOk result (λ frame. IsFramed order bytes.now frame) }
+    fn from_slice(order: ByteOrder, bytes: &[u8]) -> Result<Framing, Refusal>
+        ensures ok { IfOk result (λ framing. IsFramed order bytes.now framing) }
         ensures err { IfErr result (λ error. (interfaces : List Interface) →
             RefusesBlock (section_of order interfaces) bytes.now error) }
     {
@@ -156,7 +167,7 @@ impl Frame {
         if trailing != len {
             return Err(Refusal::TrailingLength { len, trailing });
         }
-        Ok(Frame { order, kind, len })
+        Ok(Framing { order, kind, len })
     }
 
     /// What the block says which holds these bytes.
@@ -171,6 +182,7 @@ impl Frame {
             BlockKind::InterfaceDescription => self.interface(interfaces, body),
             BlockKind::SimplePacket => self.simple(interfaces, body),
             BlockKind::EnhancedPacket => self.enhanced(interfaces, body),
+            BlockKind::ObsoletePacket => self.obsolete(interfaces, body),
             BlockKind::Other => Ok(Content::Other),
         }
     }
@@ -240,20 +252,46 @@ impl Frame {
             return Err(Refusal::UndescribedInterface { interface: number });
         }
         let about = interfaces[number as usize];
+        let kept = self.order.word32(body, 12);
+        self.packet(self.timed(about, body), 20, kept, body)
+    }
+
+    /// A packet of an interface, in the form that enhanced packets replace: behind the number of its interface, of two
+    /// bytes, it has how many packets were dropped in front of it.
+    fn obsolete(&self, interfaces: &[Interface], body: &[u8]) -> Result<Content, Refusal>
+        requires { 20 ≤ length body.now }
+        ensures ok { IfOk result (Says interfaces.now self.now.order BlockKind.ObsoletePacket self.now.len body.now) }
+        ensures err { IfErr result (Refuses (body_rows interfaces.now self.now.order BlockKind.ObsoletePacket
+            self.now.len body.now)) }
+    {
+        let number = self.order.word16(body, 0);
+        if usize::from(number) >= interfaces.len() {
+            return Err(Refusal::UndescribedInterface {
+                interface: u32::from(number),
+            });
+        }
+        let about = interfaces[usize::from(number)];
+        let kept = self.order.word32(body, 12);
+        self.packet(self.timed(about, body), 20, kept, body)
+    }
+
+    /// What is known of a packet of an interface, which begins with this: its time stands behind four bytes, in two
+    /// halves, and its length behind sixteen.
+    fn timed(&self, about: Interface, body: &[u8]) -> Known
+        requires { 20 ≤ length body.now }
+        ensures { result ≡ timed_known self.now.order about body.now }
+    {
         let high = self.order.word32(body, 4);
         let low = self.order.word32(body, 8);
-        let kept = self.order.word32(body, 12);
-        let original_len = self.order.word32(body, 16);
-        let known = Known {
+        Known {
             link_type: about.link_type,
             time: Some(Time {
                 ticks: high as u64 * 0x1_0000_0000 + low as u64,
                 per_second: about.per_second,
                 offset: about.offset,
             }),
-            original_len,
-        };
-        self.packet(known, 20, kept, body)
+            original_len: self.order.word32(body, 16),
+        }
     }
 
     /// A packet of which so many bytes were kept, behind so many others.
@@ -294,12 +332,13 @@ fn knows_minor(minor: u16) -> bool
 }
 
 /// What a number in front of a block stands for.
-fn kind_of(number: u32) -> BlockKind
+pub(crate) fn kind_of(number: u32) -> BlockKind
     ensures { result ≡ kind_of number }
 {
     match number {
         SECTION => BlockKind::SectionHeader,
         1 => BlockKind::InterfaceDescription,
+        2 => BlockKind::ObsoletePacket,
         3 => BlockKind::SimplePacket,
         6 => BlockKind::EnhancedPacket,
         _ => BlockKind::Other,
@@ -335,7 +374,7 @@ fn least_len(kind: BlockKind) -> u32
         BlockKind::SectionHeader => 28,
         BlockKind::InterfaceDescription => 20,
         BlockKind::SimplePacket => 16,
-        BlockKind::EnhancedPacket => 32,
+        BlockKind::EnhancedPacket | BlockKind::ObsoletePacket => 32,
         BlockKind::Other => 12,
     }
 }

@@ -1,7 +1,7 @@
 //! The heading of a classic capture.
 
 ghost use Rattle.std.specs.Prelude.{◌≡◌, ◌≤◌, IfErr, IfOk, OnOk, drop, length};
-ghost use Rattle.capture_reader.specs.Classic.{IsHeading, RefusesHeading, knows_link, link_of, style_of};
+ghost use Rattle.capture_reader.specs.Classic.{IsHeading, RefusesHeading, link_of, style_of};
 
 use crate::byte_order::ByteOrder;
 use crate::refusal::Refusal;
@@ -71,19 +71,14 @@ impl Heading {
         if major != 2 || minor != 4 {
             return Err(Refusal::UnsupportedVersion { major, minor });
         }
-        let heading = Heading {
+        Ok(Heading {
             order,
             resolution,
             zone: order.word32(bytes, 8),
             accuracy: order.word32(bytes, 12),
             snap_len: order.word32(bytes, 16),
             network: order.word32(bytes, 20),
-        };
-        let link_type = heading.link_type();
-        if !knows_link(link_type) {
-            return Err(Refusal::UnsupportedLinkType { link_type });
-        }
-        Ok(heading)
+        })
     }
 }
 
@@ -98,11 +93,4 @@ fn style_of(magic: u32) -> Option<(ByteOrder, Resolution)>
         0x4d3c_b2a1 => Some((ByteOrder::Little, Resolution::Nanos)),
         _ => None,
     }
-}
-
-/// Whether packets of a link type are read: Ethernet, IP of either version, IPv4, IPv6 and Linux cooked captures.
-pub fn knows_link(link_type: u16) -> bool
-    ensures { result ≡ knows_link link_type }
-{
-    link_type == 1 || link_type == 101 || link_type == 113 || link_type == 228 || link_type == 229
 }

@@ -14,12 +14,13 @@ pub mod heading;
 pub mod interface;
 pub mod laws;
 pub mod packet;
+mod parts;
 pub mod reader;
 pub mod refusal;
 pub mod shown;
 
 pub use crate::byte_order::ByteOrder;
-pub use crate::heading::{Heading, Resolution, knows_link};
+pub use crate::heading::{Heading, Resolution};
 pub use crate::interface::Interface;
 pub use crate::packet::{Packet, Record};
 pub use crate::reader::{Advance, CaptureReader};

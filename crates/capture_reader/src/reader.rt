@@ -2,7 +2,7 @@
 
 ghost use Rattle.std.specs.Prelude.{◌≡◌, ◌≤◌, ◌<◌, ◌+◌, ◌-◌, ◌^◌, ◌++◌, [], ℕ, List, OnErr, OnOk};
 ghost use Rattle.std.specs.Prelude.{◌*◌, ◌/◌, ◌⊎◌, false, true, length, vec_capacity, vec_len};
-ghost use Rattle.capture_reader.specs.Captures.{begins_section};
+ghost use Rattle.capture_reader.specs.Captures.{begins_long, begins_section};
 ghost use Rattle.capture_reader.specs.States.{in_front};
 
 use crate::block::{Block, Content, SECTION};
@@ -10,6 +10,7 @@ use crate::byte_order::ByteOrder;
 use crate::heading::Heading;
 use crate::interface::Interface;
 use crate::packet::{Packet, Record};
+use crate::parts::{MOST_STRETCH, begins_long, check_back, front_len};
 use crate::refusal::{CaptureError, Refusal};
 use crate::shown::{Known, Shown};
 use std::alloc::{AllocError, Global};
@@ -24,6 +25,14 @@ pub enum State {
     Records(Heading),
     /// Blocks, the last of them in a section of this byte order.
     Blocks(ByteOrder),
+    /// The front of a block that comes in parts, in a section of a byte order.
+    Inside {
+        order: ByteOrder,
+        /// How many bytes the block has.
+        len: u32,
+        /// How many of these are not read, in front of its length.
+        left: u32,
+    },
 }
 
 /// What a step of a reader came upon.
@@ -167,7 +176,18 @@ impl CaptureReader {
                 if self.end == self.buffer.len() {
                     return Ok(Advance::MayEnd);
                 }
-                self.advance_block(order)
+                if begins_long(order, self.rest()) {
+                    self.advance_front(order)
+                } else {
+                    self.advance_block(order)
+                }
+            }
+            State::Inside { order, len, left } => {
+                if left == 0 {
+                    self.advance_back(order, len)
+                } else {
+                    self.advance_stretch(order, len, left)
+                }
             }
         }
     }
@@ -261,6 +281,72 @@ impl CaptureReader {
         }
     }
 
+    /// Reads the number and the length of a block that comes in parts.
+    fn advance_front(&mut self, order: ByteOrder) -> Result<Advance, CaptureError>
+        requires blocks { self.old.state ≡ State.Blocks order }
+        requires long { begins_long order (reader_rest self.old) ≡ true }
+        ensures { Answers self.old self.new result }
+    {
+        match front_len(order, self.rest()) {
+            Ok(len) => {
+                self.end += Block::FRONT_LEN;
+                self.offset += Block::FRONT_LEN as u64;
+                self.state = State::Inside {
+                    order,
+                    len,
+                    left: len - 12,
+                };
+                Ok(Advance::Other)
+            }
+            Err(refusal) => self.refuse(refusal),
+        }
+    }
+
+    /// Reads bytes of a block that comes in parts, of which so many are left.
+    fn advance_stretch(
+        &mut self,
+        order: ByteOrder,
+        len: u32,
+        left: u32,
+    ) -> Result<Advance, CaptureError>
+        requires inside { self.old.state ≡ State.Inside order len left }
+        requires some { 0 < left }
+        ensures { Answers self.old self.new result }
+    {
+        let wanted = left.min(MOST_STRETCH);
+        let there = self.rest().len();
+        if there < wanted as usize {
+            return self.refuse(Refusal::Cut {
+                required_len: wanted as usize,
+                len: there,
+            });
+        }
+        self.end += wanted as usize;
+        self.offset += wanted as u64;
+        self.state = State::Inside {
+            order,
+            len,
+            left: left - wanted,
+        };
+        Ok(Advance::Other)
+    }
+
+    /// Reads the length behind a block that comes in parts.
+    fn advance_back(&mut self, order: ByteOrder, len: u32) -> Result<Advance, CaptureError>
+        requires { self.old.state ≡ State.Inside order len 0 }
+        ensures { Answers self.old self.new result }
+    {
+        match check_back(order, len, self.rest()) {
+            Ok(()) => {
+                self.end += 4;
+                self.offset += 4;
+                self.state = State::Blocks(order);
+                Ok(Advance::Other)
+            }
+            Err(refusal) => self.refuse(refusal),
+        }
+    }
+
     /// What is answered where the next bytes are refused so.
     fn refuse(&self, refusal: Refusal) -> Result<Advance, CaptureError>
         ensures { result ≡ refused_at (reader_offset self.now) refusal }
@@ -281,7 +367,7 @@ impl CaptureReader {
     {
         match self.state {
             State::Records(heading) => Some(heading),
-            State::Start | State::Blocks(_) => None,
+            State::Start | State::Blocks(_) | State::Inside { .. } => None,
         }
     }
 

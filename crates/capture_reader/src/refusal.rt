@@ -14,9 +14,6 @@ pub enum Refusal {
     /// The version of the format is not 2.4, or of a section neither 1.0 nor 1.2.
     #[error("version {major}.{minor} of the format is not known")]
     UnsupportedVersion { major: u16, minor: u16 },
-    /// The packets begin with no header that is read.
-    #[error("link type {link_type} is not read")]
-    UnsupportedLinkType { link_type: u16 },
     /// More bytes of a packet are kept than 256 KiB.
     #[error("a packet of {len} bytes is too long")]
     PacketTooLong { len: u32 },

@@ -13,7 +13,7 @@ use Rattle.packet_dump.specs.PacketCalls.{NumberCall, PoolHistory, frame_call, w
 use Rattle.packet_dump.specs.PoolLines.{GivesFrame, GivesWhere, IsCallText, oldest_from, swept_at}
 use Rattle.packet_dump.specs.Sessions.{HoldsPooling}
 use Rattle.packet_dump.specs.declared.pooling.Pooling.{Pooling}
-use Rattle.packet_dump.specs.declared.view.View.{View}
+use Rattle.packet_dump.specs.declared.dump_options.DumpOptions.{DumpOptions}
 
 -- ---- one call more
 
@@ -90,15 +90,15 @@ sweeps law old new before second oldest held later swept limit table =
 -- ---- packets
 
 -- a frame was given behind a drop
-pub gives : (view : View) (start : List ℕ) (before : PoolHistory) (this : ℕ) (layers : Layers) (oldest : ℕ)
-    (text : List ℕ) (new : Pooling) → oldest ≡ oldest_from view this
-    → IsCallText view start (with_sweep before (this / 1000000000) oldest) layers this text
+pub gives : (options : DumpOptions) (start : List ℕ) (before : PoolHistory) (this : ℕ) (layers : Layers) (oldest : ℕ)
+    (text : List ℕ) (new : Pooling) → oldest ≡ oldest_from options this
+    → IsCallText options start (with_sweep before (this / 1000000000) oldest) layers this text
     → HoldsPooling (with_call (with_sweep before (this / 1000000000) oldest) (frame_call layers this)) new
-    → (after : PoolHistory) × GivesFrame view start before this layers text after × HoldsPooling after new
-gives view start before this layers oldest text new same told held = (
-  with_call (swept_at view before this) (frame_call layers this),
+    → (after : PoolHistory) × GivesFrame options start before this layers text after × HoldsPooling after new
+gives options start before this layers oldest text new same told held = (
+  with_call (swept_at options before this) (frame_call layers this),
   (
-    subst (λ (o : ℕ). IsCallText view start (with_sweep before (this / 1000000000) o) layers this text) same told,
+    subst (λ (o : ℕ). IsCallText options start (with_sweep before (this / 1000000000) o) layers this text) same told,
     refl,
   ),
   subst
@@ -107,13 +107,13 @@ gives view start before this layers oldest text new same told held = (
 )
 
 -- where payloads are put together, a frame is given
-pub given : (wanted : Bool) (view : View) (start : List ℕ) (before : PoolHistory) (this : ℕ) (layers : Layers)
-    (text : List ℕ) (after : PoolHistory) → wanted ≡ true → GivesFrame view start before this layers text after
-    → GivesWhere wanted view start before this layers text after
-given wanted view start before this layers text after is told =
-    subst (λ w. GivesWhere w view start before this layers text after) (sym is) told
+pub given : (wanted : Bool) (options : DumpOptions) (start : List ℕ) (before : PoolHistory) (this : ℕ) (layers : Layers)
+    (text : List ℕ) (after : PoolHistory) → wanted ≡ true → GivesFrame options start before this layers text after
+    → GivesWhere wanted options start before this layers text after
+given wanted options start before this layers text after is told =
+    subst (λ w. GivesWhere w options start before this layers text after) (sym is) told
 
-pub not_given : (wanted : Bool) (view : View) (start : List ℕ) (before : PoolHistory) (this : ℕ) (layers : Layers)
-    → wanted ≡ false → GivesWhere wanted view start before this layers [] before
-not_given wanted view start before this layers is =
-    subst (λ w. GivesWhere w view start before this layers [] before) (sym is) (refl, refl)
+pub not_given : (wanted : Bool) (options : DumpOptions) (start : List ℕ) (before : PoolHistory) (this : ℕ) (layers : Layers)
+    → wanted ≡ false → GivesWhere wanted options start before this layers [] before
+not_given wanted options start before this layers is =
+    subst (λ w. GivesWhere w options start before this layers [] before) (sym is) (refl, refl)

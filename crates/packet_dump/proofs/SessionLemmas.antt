@@ -15,7 +15,7 @@ use Rattle.packet_dump.specs.Shown.{first_after, instant_in, latest_after}
 use Rattle.packet_dump.specs.declared.session.Session.{Session}
 use Rattle.packet_dump.specs.declared.session.Standing.{Standing}
 use Rattle.packet_dump.specs.declared.session.Standing.TheVariants.{Enough}
-use Rattle.packet_dump.specs.declared.view.View.{View}
+use Rattle.packet_dump.specs.declared.dump_options.DumpOptions.{DumpOptions}
 
 -- ---- an item more
 
@@ -24,26 +24,26 @@ progress_behind-append : (items : List Item) (before : Progress) (item : Item)
 progress_behind-append [] before item = refl
 progress_behind-append (first ∷ items) before item = progress_behind-append items (progress_after before first) item
 
-pub AreTexts-append : (view : View) (items : List Item) (before : Progress) (pool : PoolHistory) (item : Item)
-    (text one : List ℕ) (after next : PoolHistory) → AreTexts view before pool items text after
-    → IsItemText view (progress_behind before items) after item one next
-    → AreTexts view before pool (items ++ item ∷ []) (text ++ one) next
-AreTexts-append view [] before pool item text one after next (none, same) is = (
+pub AreTexts-append : (options : DumpOptions) (items : List Item) (before : Progress) (pool : PoolHistory) (item : Item)
+    (text one : List ℕ) (after next : PoolHistory) → AreTexts options before pool items text after
+    → IsItemText options (progress_behind before items) after item one next
+    → AreTexts options before pool (items ++ item ∷ []) (text ++ one) next
+AreTexts-append options [] before pool item text one after next (none, same) is = (
   one,
   [],
   next,
-  subst (λ p. IsItemText view before p item one next) same is,
+  subst (λ p. IsItemText options before p item one next) same is,
   ap (λ (t : List ℕ). t ++ one) none ∙ sym (append-nil one),
   (refl, refl),
 )
-AreTexts-append view (first ∷ items) before pool item text one after next
+AreTexts-append options (first ∷ items) before pool item text one after next
     (front, rest, middle, of_first, parts, others) is = (
       front,
       rest ++ one,
       middle,
       of_first,
       ap (λ (t : List ℕ). t ++ one) parts ∙ append_assoc front rest one,
-      AreTexts-append view items (progress_after before first) middle item rest one after next others is,
+      AreTexts-append options items (progress_after before first) middle item rest one after next others is,
     )
 
 -- ---- what stands in front of an item
@@ -71,28 +71,28 @@ behind_item items item shown shows =
     (ap (λ (s : Stage). shown_in s item) (progress_stage items none_read) ∙ shows)
 
 -- the text of an item more that shows this
-texts_item : (view : View) (items : List Item) (item : Item) (shown : Option PlainShown) (text one : List ℕ)
-    (pool after : PoolHistory) → shown_in (stage_behind at_start items) item ≡ shown → AreAllTexts view items text pool
-    → IsShownText view (progress_behind none_read items) pool shown one after
-    → AreAllTexts view (items ++ item ∷ []) (text ++ one) after
-texts_item view items item shown text one pool after shows texts is =
+texts_item : (options : DumpOptions) (items : List Item) (item : Item) (shown : Option PlainShown) (text one : List ℕ)
+    (pool after : PoolHistory) → shown_in (stage_behind at_start items) item ≡ shown → AreAllTexts options items text pool
+    → IsShownText options (progress_behind none_read items) pool shown one after
+    → AreAllTexts options (items ++ item ∷ []) (text ++ one) after
+texts_item options items item shown text one pool after shows texts is =
     let before = progress_behind none_read items in
-    AreTexts-append view items none_read (new_pool view.limit) item text one pool after texts
-    (subst (λ (s : Option PlainShown). IsShownText view before pool s one after)
+    AreTexts-append options items none_read (new_pool options.limit) item text one pool after texts
+    (subst (λ (s : Option PlainShown). IsShownText options before pool s one after)
     (sym (ap (λ (s : Stage). shown_in s item) (progress_stage items none_read) ∙ shows)) is)
 
 -- ---- sessions
 
 -- a piece was taken
-pub takes : (old new : Session) (piece : List ℕ) → new.view ≡ old.view → new.number ≡ old.number
+pub takes : (old new : Session) (piece : List ℕ) → new.options ≡ old.options → new.number ≡ old.number
     → new.first ≡ old.first → new.latest ≡ old.latest → new.pooling ≡ old.pooling
     → ((taken : List ℕ) (items : List Item) → Reads old.capture taken items → Reads new.capture (taken ++ piece) items)
-    → (view : View) (read : List ℕ) (items : List Item) (history : PoolHistory) → Stands view old read items history
-    → Stands view new (read ++ piece) items history
-takes old new piece same number first latest pooling take view read items history stands = record {
-  view_is = same ∙ stands.view_is;
+    → (options : DumpOptions) (read : List ℕ) (items : List Item) (history : PoolHistory) → Stands options old read items history
+    → Stands options new (read ++ piece) items history
+takes old new piece same number first latest pooling take options read items history stands = record {
+  options_is = same ∙ stands.options_is;
   reads = take read items stands.reads;
-  within = subst (λ n. n ≤ view.most) (sym number) stands.within;
+  within = subst (λ n. n ≤ options.most) (sym number) stands.within;
   number = number ∙ stands.number;
   first = first ∙ stands.first;
   latest = latest ∙ stands.latest;
@@ -105,12 +105,12 @@ one_more : (number most wanted next : ℕ) → number ≢ most → number ≤ wa
 one_more number most wanted next fewer within same more = omega (arith, fewer, within, same, more)
 
 -- an item that shows this was read, and its text put together
-drains_shown : (view : View) (old new : Session) (read : List ℕ) (items : List Item) (text : List ℕ)
-    → (drained : Drained view old read items text) → (item : Item) (shown : PlainShown)
+drains_shown : (options : DumpOptions) (old new : Session) (read : List ℕ) (items : List Item) (text : List ℕ)
+    → (drained : Drained options old read items text) → (item : Item) (shown : PlainShown)
     → shown_in (stage_behind at_start (items ++ drained.more)) item ≡ Some shown
     → ReadsMore new.capture read (items ++ drained.more) item → PushesLine old new drained.after shown
-    → old.number ≢ old.view.most → Drained view new read items text
-drains_shown view old new read items text drained item shown shows reads line fewer =
+    → old.number ≢ old.options.most → Drained options new read items text
+drains_shown options old new read items text drained item shown shows reads line fewer =
     let before = items ++ drained.more in
     let known = progress_behind none_read before in
     let stands = drained.stands in
@@ -124,55 +124,55 @@ drains_shown view old new read items text drained item shown shows reads line fe
     ap (λ (l : ℕ). latest_after l this) stands.latest in
     let all : before ++ item ∷ [] ≡ items ++ (drained.more ++ item ∷ []) =
     append_assoc items drained.more (item ∷ []) in
-    let is : IsLine view (known.number + 1) (first_after known.first this) (latest_after known.latest this) pool shown
+    let is : IsLine options (known.number + 1) (first_after known.first this) (latest_after known.latest this) pool shown
     line.line line.after =
     subst
-    (λ (l : ℕ). IsLine view (known.number + 1) (first_after known.first this) l pool shown line.line line.after) latest
+    (λ (l : ℕ). IsLine options (known.number + 1) (first_after known.first this) l pool shown line.line line.after) latest
     (subst
-    (λ (f : Option ℕ). IsLine view (known.number + 1) f (latest_after old.latest this) pool shown line.line line.after)
+    (λ (f : Option ℕ). IsLine options (known.number + 1) f (latest_after old.latest this) pool shown line.line line.after)
     first
     (subst
-    (λ (n : ℕ). IsLine view n (first_after old.first this) (latest_after old.latest this) pool shown line.line
+    (λ (n : ℕ). IsLine options n (first_after old.first this) (latest_after old.latest this) pool shown line.line
     line.after) number
     (subst
     (λ v. IsLine v (old.number + 1) (first_after old.first this) (latest_after old.latest this) pool shown line.line
-    line.after) stands.view_is line.is))) in
+    line.after) stands.options_is line.is))) in
     let texts =
-    texts_item view before item (Some shown) (text ++ old.output.items) line.line pool line.after shows drained.texts is in
+    texts_item options before item (Some shown) (text ++ old.output.items) line.line pool line.after shows drained.texts is in
     let output : (text ++ old.output.items) ++ line.line ≡ text ++ new.output.items =
     append_assoc text old.output.items line.line ∙ ap (λ (t : List ℕ). text ++ t) (sym line.output) in
     record {
       more = drained.more ++ item ∷ [];
       after = line.after;
-      stands = subst (λ s. Stands view new read s line.after) all (record {
-        view_is = line.view ∙ stands.view_is;
+      stands = subst (λ s. Stands options new read s line.after) all (record {
+        options_is = line.options ∙ stands.options_is;
         reads = reads;
-        within = one_more old.number old.view.most view.most new.number fewer stands.within
-            (ap (λ v. v.most) stands.view_is) line.number;
+        within = one_more old.number old.options.most options.most new.number fewer stands.within
+            (ap (λ v. v.most) stands.options_is) line.number;
         number = line.number ∙ number ∙ sym (ap (λ p. p.number) behind);
         first = line.first ∙ first ∙ sym (ap (λ p. p.first) behind);
         latest = line.latest ∙ latest ∙ sym (ap (λ p. p.latest) behind);
         pooled = line.pooled;
       });
-      texts = subst (λ s. AreAllTexts view s (text ++ new.output.items) line.after) all
-          (subst (λ (t : List ℕ). AreAllTexts view (before ++ item ∷ []) t line.after) output texts);
+      texts = subst (λ s. AreAllTexts options s (text ++ new.output.items) line.after) all
+          (subst (λ (t : List ℕ). AreAllTexts options (before ++ item ∷ []) t line.after) output texts);
     }
 
 -- a packet was read, and its text put together
-pub drains_packet : (view : View) (old new : Session) (moved : CaptureReader) (read : List ℕ) (items : List Item)
-    (text : List ℕ) → (drained : Drained view old read items text)
+pub drains_packet : (options : DumpOptions) (old new : Session) (moved : CaptureReader) (read : List ℕ) (items : List Item)
+    (text : List ℕ) → (drained : Drained options old read items text)
     → (found : (item : Item) × ReadsMore moved read (items ++ drained.more) item
     × ShowsItem moved (stage_behind at_start (items ++ drained.more)) item)
     → ((before : PoolHistory) → HoldsPooling before old.pooling
     → PushesLine (record old { capture = moved }) new before (reader_shown moved))
-    → new.capture ≡ moved → old.number ≢ old.view.most → Drained view new read items text
-drains_packet view old new moved read items text drained found push capture fewer =
+    → new.capture ≡ moved → old.number ≢ old.options.most → Drained options new read items text
+drains_packet options old new moved read items text drained found push capture fewer =
     let before = items ++ drained.more in
     let line = push drained.after drained.stands.pooled in
-    drains_shown view old new read items text drained found.0 (reader_shown moved) found.2.shown
+    drains_shown options old new read items text drained found.0 (reader_shown moved) found.2.shown
     (subst (λ r. ReadsMore r read before found.0) (sym capture) found.1)
     (record {
-      view = line.view;
+      options = line.options;
       line = line.line;
       after = line.after;
       is = line.is;
@@ -184,70 +184,70 @@ drains_packet view old new moved read items text drained found push capture fewe
     }) fewer
 
 -- something else was read, and the session knows what it knew
-pub drains_other : (view : View) (old new : Session) (read : List ℕ) (items : List Item) (text : List ℕ)
-    → (drained : Drained view old read items text) → (item : Item)
+pub drains_other : (options : DumpOptions) (old new : Session) (read : List ℕ) (items : List Item) (text : List ℕ)
+    → (drained : Drained options old read items text) → (item : Item)
     → IsOther (stage_behind at_start (items ++ drained.more)) item
-    → ReadsMore new.capture read (items ++ drained.more) item → new.view ≡ old.view → new.number ≡ old.number
+    → ReadsMore new.capture read (items ++ drained.more) item → new.options ≡ old.options → new.number ≡ old.number
     → new.first ≡ old.first → new.latest ≡ old.latest → new.pooling ≡ old.pooling
-    → new.output.items ≡ old.output.items → Drained view new read items text
-drains_other view old new read items text drained item shows reads same number first latest pooling output =
+    → new.output.items ≡ old.output.items → Drained options new read items text
+drains_other options old new read items text drained item shows reads same number first latest pooling output =
     let before = items ++ drained.more in
     let stands = drained.stands in
     let behind = behind_item before item None shows in
     let all : before ++ item ∷ [] ≡ items ++ (drained.more ++ item ∷ []) =
     append_assoc items drained.more (item ∷ []) in
     let texts =
-    texts_item view before item None (text ++ old.output.items) [] drained.after drained.after shows drained.texts
+    texts_item options before item None (text ++ old.output.items) [] drained.after drained.after shows drained.texts
     (refl, refl) in
     record {
       more = drained.more ++ item ∷ [];
       after = drained.after;
-      stands = subst (λ s. Stands view new read s drained.after) all (record {
-        view_is = same ∙ stands.view_is;
+      stands = subst (λ s. Stands options new read s drained.after) all (record {
+        options_is = same ∙ stands.options_is;
         reads = reads;
-        within = subst (λ n. n ≤ view.most) (sym number) stands.within;
+        within = subst (λ n. n ≤ options.most) (sym number) stands.within;
         number = number ∙ stands.number ∙ sym (ap (λ p. p.number) behind);
         first = first ∙ stands.first ∙ sym (ap (λ p. p.first) behind);
         latest = latest ∙ stands.latest ∙ sym (ap (λ p. p.latest) behind);
         pooled = subst (HoldsPooling drained.after) (sym pooling) stands.pooled;
       });
-      texts = subst (λ s. AreAllTexts view s (text ++ new.output.items) drained.after) all
-          (subst (λ (t : List ℕ). AreAllTexts view (before ++ item ∷ []) (text ++ t) drained.after) (sym output)
-          (subst (λ (t : List ℕ). AreAllTexts view (before ++ item ∷ []) t drained.after)
+      texts = subst (λ s. AreAllTexts options s (text ++ new.output.items) drained.after) all
+          (subst (λ (t : List ℕ). AreAllTexts options (before ++ item ∷ []) (text ++ t) drained.after) (sym output)
+          (subst (λ (t : List ℕ). AreAllTexts options (before ++ item ∷ []) t drained.after)
           (append-nil (text ++ old.output.items)) texts));
     }
 
 -- nothing more was read, and the capture stands so
-pub drains_end : (view : View) (old new : Session) (standing : Standing) (read : List ℕ) (items : List Item)
-    (text : List ℕ) → (drained : Drained view old read items text) → Reads new.capture read (items ++ drained.more)
-    → new.view ≡ old.view → new.number ≡ old.number → new.first ≡ old.first → new.latest ≡ old.latest
+pub drains_end : (options : DumpOptions) (old new : Session) (standing : Standing) (read : List ℕ) (items : List Item)
+    (text : List ℕ) → (drained : Drained options old read items text) → Reads new.capture read (items ++ drained.more)
+    → new.options ≡ old.options → new.number ≡ old.number → new.first ≡ old.first → new.latest ≡ old.latest
     → new.pooling ≡ old.pooling → new.output.items ≡ old.output.items
-    → StandsSo view standing read (items ++ drained.more) → Drains view new standing read items text
-drains_end view old new standing read items text drained reads same number first latest pooling output so = (
+    → StandsSo options standing read (items ++ drained.more) → Drains options new standing read items text
+drains_end options old new standing read items text drained reads same number first latest pooling output so = (
   record {
     more = drained.more;
     after = drained.after;
     stands = record {
-      view_is = same ∙ drained.stands.view_is;
+      options_is = same ∙ drained.stands.options_is;
       reads = reads;
-      within = subst (λ n. n ≤ view.most) (sym number) drained.stands.within;
+      within = subst (λ n. n ≤ options.most) (sym number) drained.stands.within;
       number = number ∙ drained.stands.number;
       first = first ∙ drained.stands.first;
       latest = latest ∙ drained.stands.latest;
       pooled = subst (HoldsPooling drained.after) (sym pooling) drained.stands.pooled;
     };
-    texts = subst (λ (t : List ℕ). AreAllTexts view (items ++ drained.more) (text ++ t) drained.after) (sym output)
+    texts = subst (λ (t : List ℕ). AreAllTexts options (items ++ drained.more) (text ++ t) drained.after) (sym output)
         drained.texts;
   },
   so,
 )
 
 -- as many packets were read as are wanted
-pub enough_read : (view : View) (session : Session) (read : List ℕ) (items : List Item) (history : PoolHistory)
-    → Stands view session read items history → session.number ≡ session.view.most → StandsSo view Enough read items
-enough_read view session read items history stands all = (
+pub enough_read : (options : DumpOptions) (session : Session) (read : List ℕ) (items : List Item) (history : PoolHistory)
+    → Stands options session read items history → session.number ≡ session.options.most → StandsSo options Enough read items
+enough_read options session read items history stands all = (
   (reader_rest session.capture, stands.reads.fits, stands.reads.parts),
-  sym stands.number ∙ all ∙ ap (λ v. v.most) stands.view_is,
+  sym stands.number ∙ all ∙ ap (λ v. v.most) stands.options_is,
 )
 
 -- fewer were read
@@ -255,11 +255,11 @@ fewer : (number most wanted packets : ℕ) → number ≢ most → number ≤ wa
     → packets < wanted
 fewer number most wanted packets not_all within same count = omega (arith, not_all, within, same, count)
 
-pub fewer_read : (view : View) (session : Session) (read : List ℕ) (items : List Item) (history : PoolHistory)
-    → Stands view session read items history → session.number ≢ session.view.most → AreFewer view items
-fewer_read view session read items history stands not_all =
-    fewer session.number session.view.most view.most (packets_in items) not_all stands.within
-    (ap (λ v. v.most) stands.view_is) stands.number
+pub fewer_read : (options : DumpOptions) (session : Session) (read : List ℕ) (items : List Item) (history : PoolHistory)
+    → Stands options session read items history → session.number ≢ session.options.most → AreFewer options items
+fewer_read options session read items history stands not_all =
+    fewer session.number session.options.most options.most (packets_in items) not_all stands.within
+    (ap (λ v. v.most) stands.options_is) stands.number
 
 -- a capture that is refused whatever follows is refused where nothing does
 pub refused_here : (read : List ℕ) (found : List Item × CaptureError)
@@ -279,10 +279,10 @@ counts_packet old new moved number capture total less counts =
 
 -- the text of a packet was put together
 pub pushes : (old new : Session) (shown one : PlainShown) (this : Option ℕ) (first : Option ℕ) (latest : ℕ)
-    (before : PoolHistory) → new.view ≡ old.view → shown ≡ one → this ≡ instant_in shown → first ≡ first_after old.first this
+    (before : PoolHistory) → new.options ≡ old.options → shown ≡ one → this ≡ instant_in shown → first ≡ first_after old.first this
     → latest ≡ latest_after old.latest this → new.number ≡ old.number + 1 → new.first ≡ first → new.latest ≡ latest
     → (line : List ℕ) × (after : PoolHistory)
-    × IsLine old.view (old.number + 1) first latest before shown line after
+    × IsLine old.options (old.number + 1) first latest before shown line after
     × HoldsPooling after new.pooling × (new.output.items ≡ old.output.items ++ line)
     → PushesLine old new before one
 pushes old new shown one this first latest before same same_one is_this is_first is_latest number new_first new_latest
@@ -293,13 +293,13 @@ pushes old new shown one this first latest before same same_one is_this is_first
     let latests : latest ≡ latest_after old.latest (instant_in one) =
     is_latest ∙ ap (λ (t : Option ℕ). latest_after old.latest t) when in
     record {
-      view = same;
+      options = same;
       line = line;
       after = after;
-      is = subst (λ (l : ℕ). IsLine old.view (old.number + 1) (first_after old.first (instant_in one)) l before one line after)
+      is = subst (λ (l : ℕ). IsLine old.options (old.number + 1) (first_after old.first (instant_in one)) l before one line after)
           latests
-          (subst (λ (f : Option ℕ). IsLine old.view (old.number + 1) f latest before one line after) firsts
-          (subst (λ p. IsLine old.view (old.number + 1) first latest before p line after) same_one is));
+          (subst (λ (f : Option ℕ). IsLine old.options (old.number + 1) f latest before one line after) firsts
+          (subst (λ p. IsLine old.options (old.number + 1) first latest before p line after) same_one is));
       pooled = pooled;
       output = output;
       number = number;
@@ -308,25 +308,25 @@ pushes old new shown one this first latest before same same_one is_this is_first
     }
 
 -- nothing was read yet
-pub drains_start : (view : View) (old new : Session) → new.capture ≡ old.capture → new.view ≡ old.view
+pub drains_start : (options : DumpOptions) (old new : Session) → new.capture ≡ old.capture → new.options ≡ old.options
     → new.number ≡ old.number → new.first ≡ old.first → new.latest ≡ old.latest → new.pooling ≡ old.pooling
     → new.output.items ≡ [] → (read : List ℕ) (items : List Item) (text : List ℕ) (history : PoolHistory)
-    → Stands view old read items history → AreAllTexts view items text history → Drained view new read items text
-drains_start view old new capture same number first latest pooling output read items text history stands texts =
+    → Stands options old read items history → AreAllTexts options items text history → Drained options new read items text
+drains_start options old new capture same number first latest pooling output read items text history stands texts =
     let none = sym (append-nil items) in
     record {
       more = [];
       after = history;
-      stands = subst (λ s. Stands view new read s history) none (record {
-        view_is = same ∙ stands.view_is;
+      stands = subst (λ s. Stands options new read s history) none (record {
+        options_is = same ∙ stands.options_is;
         reads = subst (λ r. Reads r read items) (sym capture) stands.reads;
-        within = subst (λ n. n ≤ view.most) (sym number) stands.within;
+        within = subst (λ n. n ≤ options.most) (sym number) stands.within;
         number = number ∙ stands.number;
         first = first ∙ stands.first;
         latest = latest ∙ stands.latest;
         pooled = subst (HoldsPooling history) (sym pooling) stands.pooled;
       });
-      texts = subst (λ s. AreAllTexts view s (text ++ new.output.items) history) none
-          (subst (λ (t : List ℕ). AreAllTexts view items t history)
+      texts = subst (λ s. AreAllTexts options s (text ++ new.output.items) history) none
+          (subst (λ (t : List ℕ). AreAllTexts options items t history)
           (sym (ap (λ (t : List ℕ). text ++ t) output ∙ append-nil text)) texts);
     }

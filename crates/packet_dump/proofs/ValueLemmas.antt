@@ -16,8 +16,8 @@ use Rattle.packet_dump.specs.declared.options.Awaited.{Awaited}
 use Rattle.packet_dump.specs.declared.options.Awaited.TheVariants.{Count, Only, Timeout, Limit}
 use Rattle.packet_dump.specs.declared.options.Word.{Word}
 use Rattle.packet_dump.specs.declared.options.Word.TheVariants as word
-use Rattle.packet_dump.specs.declared.view.Kind.{Kind}
-use Rattle.packet_dump.specs.declared.view.Kind.TheVariants as kind
+use Rattle.packet_dump.specs.declared.dump_options.Kind.{Kind}
+use Rattle.packet_dump.specs.declared.dump_options.Kind.TheVariants as kind
 
 -- ---- a choice by a test
 

@@ -10,17 +10,17 @@ use Rattle.packet_dump.specs.Shown.{first_after, instant_in, latest_after}
 use Rattle.capture_reader.specs.declared.refusal.CaptureError.{CaptureError}
 use Rattle.packet_dump.specs.declared.ending.Ending.{Ending}
 use Rattle.packet_dump.specs.declared.ending.Ending.TheVariants.{Whole, Enough, Broken}
-use Rattle.packet_dump.specs.declared.view.View.{View}
+use Rattle.packet_dump.specs.declared.dump_options.DumpOptions.{DumpOptions}
 
 -- ---- one packet
 
 -- What is written of a packet, of which the first time and the last are these: its line, and then what the pool says of
 -- the fragment that it carries; and what became of the pool.
-abbrev pub IsLine : View → ℕ → Option ℕ → ℕ → PoolHistory → PlainShown → List ℕ → PoolHistory → Type 0
-IsLine view number first latest before shown text after =
+abbrev pub IsLine : DumpOptions → ℕ → Option ℕ → ℕ → PoolHistory → PlainShown → List ℕ → PoolHistory → Type 0
+IsLine options number first latest before shown text after =
     (content : Content) × (more : List ℕ) × Holds shown.link shown.bytes content
-    × IsPooled view (start_text number first shown) before latest content more after
-    × (text ≡ shown_text view number first shown content ++ more)
+    × IsPooled options (start_text number first shown) before latest content more after
+    × (text ≡ shown_text options number first shown content ++ more)
 
 -- ---- many lines
 
@@ -55,38 +55,38 @@ progress_behind before [] = before
 progress_behind before (item ∷ items) = progress_behind (progress_after before item) items
 
 -- what is written of an item that shows this, and what became of the pool: what is no packet has no text
-abbrev pub IsShownText : View → Progress → PoolHistory → Option PlainShown → List ℕ → PoolHistory → Type 0
-IsShownText view before pool (Some shown) text after =
-    IsLine view (before.number + 1) (first_after before.first (instant_in shown))
+abbrev pub IsShownText : DumpOptions → Progress → PoolHistory → Option PlainShown → List ℕ → PoolHistory → Type 0
+IsShownText options before pool (Some shown) text after =
+    IsLine options (before.number + 1) (first_after before.first (instant_in shown))
     (latest_after before.latest (instant_in shown)) pool shown text after
-IsShownText view before pool None text after = (text ≡ []) × (after ≡ pool)
+IsShownText options before pool None text after = (text ≡ []) × (after ≡ pool)
 
 -- what is written of an item
-abbrev pub IsItemText : View → Progress → PoolHistory → Item → List ℕ → PoolHistory → Type 0
-IsItemText view before pool item text after = IsShownText view before pool (shown_in before.stage item) text after
+abbrev pub IsItemText : DumpOptions → Progress → PoolHistory → Item → List ℕ → PoolHistory → Type 0
+IsItemText options before pool item text after = IsShownText options before pool (shown_in before.stage item) text after
 
 -- the text is that of these items, one behind the other, and this became of the pool
-abbrev pub AreTexts : View → Progress → PoolHistory → List Item → List ℕ → PoolHistory → Type 0
-AreTexts view before pool [] text after = (text ≡ []) × (after ≡ pool)
-AreTexts view before pool (item ∷ items) text after =
-    (one rest : List ℕ) × (next : PoolHistory) × IsItemText view before pool item one next × (text ≡ one ++ rest)
-    × AreTexts view (progress_after before item) next items rest after
+abbrev pub AreTexts : DumpOptions → Progress → PoolHistory → List Item → List ℕ → PoolHistory → Type 0
+AreTexts options before pool [] text after = (text ≡ []) × (after ≡ pool)
+AreTexts options before pool (item ∷ items) text after =
+    (one rest : List ℕ) × (next : PoolHistory) × IsItemText options before pool item one next × (text ≡ one ++ rest)
+    × AreTexts options (progress_after before item) next items rest after
 
 -- how many packets these items are
 abbrev pub packets_in : List Item → ℕ
 packets_in items = (progress_behind none_read items).number
 
 -- the text is that of these items on a new pool, from the first on, and this became of the pool
-abbrev pub AreAllTexts : View → List Item → List ℕ → PoolHistory → Type 0
-AreAllTexts view items text after = AreTexts view none_read (new_pool view.limit) items text after
+abbrev pub AreAllTexts : DumpOptions → List Item → List ℕ → PoolHistory → Type 0
+AreAllTexts options items text after = AreTexts options none_read (new_pool options.limit) items text after
 
 -- the text is that of these items, which have no more packets than are wanted
-abbrev pub AreShown : View → List Item → List ℕ → Type 0
-AreShown view items text = (packets_in items ≤ view.most) × (after : PoolHistory) × AreAllTexts view items text after
+abbrev pub AreShown : DumpOptions → List Item → List ℕ → Type 0
+AreShown options items text = (packets_in items ≤ options.most) × (after : PoolHistory) × AreAllTexts options items text after
 
 -- these items have fewer packets than are wanted
-abbrev pub AreFewer : View → List Item → Type 0
-AreFewer view items = packets_in items < view.most
+abbrev pub AreFewer : DumpOptions → List Item → Type 0
+AreFewer options items = packets_in items < options.most
 
 -- ---- whole runs
 
@@ -103,22 +103,22 @@ IsRefused false read found = (more : List ℕ) → RefusesCapture (read ++ more)
 -- it begins with as many as are wanted, and what was written is their lines; or it is refused with this error behind
 -- fewer, which are so many, and what was written is their lines. Only where as many were read as are wanted, or it is
 -- refused whatever follows, need the reader not have ended.
-abbrev pub IsDump : View → Bool → Ending → List ℕ → List ℕ → Type 0
-IsDump view ended Whole read written =
-    (ended ≡ true) × (items : List Item) × IsCapture read items × AreFewer view items × AreShown view items written
-IsDump view ended Enough read written =
-    (items : List Item) × Begin read items × (packets_in items ≡ view.most) × AreShown view items written
-IsDump view ended (Broken packets error) read written =
-    (items : List Item) × IsRefused ended read (items, error) × AreFewer view items × (packets ≡ packets_in items)
-    × AreShown view items written
+abbrev pub IsDump : DumpOptions → Bool → Ending → List ℕ → List ℕ → Type 0
+IsDump options ended Whole read written =
+    (ended ≡ true) × (items : List Item) × IsCapture read items × AreFewer options items × AreShown options items written
+IsDump options ended Enough read written =
+    (items : List Item) × Begin read items × (packets_in items ≡ options.most) × AreShown options items written
+IsDump options ended (Broken packets error) read written =
+    (items : List Item) × IsRefused ended read (items, error) × AreFewer options items × (packets ≡ packets_in items)
+    × AreShown options items written
 
 -- what was written begins the lines of the packets at the front of what was read
-abbrev pub BeginsDump : View → List ℕ → List ℕ → Type 0
-BeginsDump view read written =
-    (items : List Item) × (more : List ℕ) × Begin read items × AreShown view items (written ++ more)
+abbrev pub BeginsDump : DumpOptions → List ℕ → List ℕ → Type 0
+BeginsDump options read written =
+    (items : List Item) × (more : List ℕ) × Begin read items × AreShown options items (written ++ more)
 
 -- what was written is the lines of a dump, and where a summary is wanted its text behind them
-abbrev pub IsSummedDump : Bool → View → Bool → Ending → List ℕ → List ℕ → Type 0
-IsSummedDump wanted view ended ending read written =
-    (lines summary : List ℕ) × IsDump view ended ending read lines × (written ≡ lines ++ summary)
+abbrev pub IsSummedDump : Bool → DumpOptions → Bool → Ending → List ℕ → List ℕ → Type 0
+IsSummedDump wanted options ended ending read written =
+    (lines summary : List ℕ) × IsDump options ended ending read lines × (written ≡ lines ++ summary)
     × (wanted ≡ false → summary ≡ [])

@@ -1,7 +1,7 @@
 -- The texts of errors, and the exit status.
-use Rattle.std.specs.Prelude.{ℕ, List, Option, Some, None, Result, Ok, Err, codes}
+use Rattle.std.specs.Prelude.{ℕ, ◌==◌, ◌/◌, if◌then◌else◌, List, Option, Some, None, Result, Ok, Err, codes}
 use Rattle.capture_reader.specs.declared.refusal.Refusal.{Refusal}
-use Rattle.capture_reader.specs.declared.refusal.Refusal.TheVariants.{UnsupportedLinkType}
+use Rattle.capture_reader.specs.declared.refusal.Refusal.TheVariants.{UnknownMagic}
 use Rattle.line_io.specs.declared.run_error.RunError.{RunError}
 use Rattle.line_io.specs.declared.run_error.RunError.TheVariants.{Read, Write, OutOfMemory}
 use Rattle.packet_dump.specs.declared.ending.Ending.{Ending}
@@ -20,8 +20,13 @@ status_of (Ok Enough) = 0
 status_of (Ok (Broken packets error)) = 1
 status_of (Err error) = 1
 
+-- what can be done about a file that begins so: with the first bytes of gzip (RFC 1952, 2.3.1) or of zstd (RFC 8878, 3.1.1)
+abbrev pub magic_hint : ℕ → Option (List ℕ)
+magic_hint magic =
+    if magic / 65536 == 0x1f8b then Some (codes "packet_dump: it is compressed: gzip -dc FILE | packet_dump") else
+    (if magic == 0x28b52ffd then Some (codes "packet_dump: it is compressed: zstd -dc FILE | packet_dump") else None)
+
 -- what can be done about a capture that is refused so
 abbrev pub hint_text : Refusal → Option (List ℕ)
-hint_text (UnsupportedLinkType link) = Some (codes
-    "packet_dump: what is read is Ethernet, raw IP, and Linux cooked captures (tcpdump -y LINUX_SLL -i any)")
+hint_text (UnknownMagic magic) = magic_hint magic
 hint_text other = None

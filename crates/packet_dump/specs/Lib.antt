@@ -5,6 +5,7 @@ pub mod IcmpTexts
 pub mod LayerTexts
 pub mod Links
 pub mod Nets
+pub mod Openings
 pub mod PacketLines
 pub mod PacketCalls
 pub mod PoolLines

@@ -17,8 +17,8 @@ use Rattle.packet_dump.specs.declared.options.Request.{Request}
 use Rattle.packet_dump.specs.declared.options.UsageError.{UsageError}
 use Rattle.packet_dump.specs.declared.options.Word.{Word}
 use Rattle.packet_dump.specs.declared.options.Word.TheVariants as word
-use Rattle.packet_dump.specs.declared.view.Kind.{Kind}
-use Rattle.packet_dump.specs.declared.view.Kind.TheVariants as kind
+use Rattle.packet_dump.specs.declared.dump_options.Kind.{Kind}
+use Rattle.packet_dump.specs.declared.dump_options.Kind.TheVariants as kind
 
 -- the words that begin with `-`, with what they are
 abbrev pub word_table : List (List ℕ × Word)
@@ -71,7 +71,7 @@ first_state = record { settings = default_settings; named = false; awaited = Non
 abbrev pub reading_state : Reading → State
 reading_state reading = record {
   settings = record {
-    view = reading.view;
+    options = reading.options;
     path = option_map (λ name. name.now) reading.path;
     summary = reading.summary;
   };

@@ -11,9 +11,9 @@ use Rattle.packet_dump.specs.declared.options.Request.{Request}
 use Rattle.packet_dump.specs.declared.options.Request.TheVariants as request
 use Rattle.packet_dump.specs.declared.options.UsageError.{UsageError}
 use Rattle.packet_dump.specs.declared.options.UsageError.TheVariants as usage
-use Rattle.packet_dump.specs.declared.view.Kind.{Kind}
-use Rattle.packet_dump.specs.declared.view.Kind.TheVariants as kind
-use Rattle.packet_dump.specs.declared.view.View.{View}
+use Rattle.packet_dump.specs.declared.dump_options.Kind.{Kind}
+use Rattle.packet_dump.specs.declared.dump_options.Kind.TheVariants as kind
+use Rattle.packet_dump.specs.declared.dump_options.DumpOptions.{DumpOptions}
 
 -- the word of a kind of packets
 abbrev pub kind_name : Kind → List ℕ
@@ -102,14 +102,14 @@ Begin words (item ∷ items) rest =
 
 -- what is shown of a capture, of which file, if of one, and whether a summary follows
 pub record Settings : Type 0 where
-  pub view : View
+  pub options : DumpOptions
   pub path : Option (List ℕ)
   pub summary : Bool
 
 -- where nothing is asked for
 abbrev pub default_settings : Settings
 default_settings = record {
-  view = record {
+  options = record {
     only = None;
     most = 18446744073709551615;
     hex = false;
@@ -121,22 +121,22 @@ default_settings = record {
   summary = false;
 }
 
--- the view, with what the item says of it
-abbrev pub view_with : View → Item → View
-view_with view hex = record view { hex = true }
-view_with view reassemble = record view { reassemble = true }
-view_with view (count number) = record view { most = number }
-view_with view (only kind) = record view { only = Some kind }
-view_with view (timeout seconds) = record view { timeout = seconds }
-view_with view (limit bytes) = record view { limit = bytes }
-view_with view item = view
+-- the options, with what the item says of it
+abbrev pub options_with : DumpOptions → Item → DumpOptions
+options_with options hex = record options { hex = true }
+options_with options reassemble = record options { reassemble = true }
+options_with options (count number) = record options { most = number }
+options_with options (only kind) = record options { only = Some kind }
+options_with options (timeout seconds) = record options { timeout = seconds }
+options_with options (limit bytes) = record options { limit = bytes }
+options_with options item = options
 
 -- the settings, with what the item says of them
 abbrev pub with_item : Settings → Item → Settings
 with_item settings summary = record settings { summary = true }
 with_item settings (file name) = record settings { path = Some name }
 with_item settings standard_input = settings
-with_item settings item = record settings { view = view_with settings.view item }
+with_item settings item = record settings { options = options_with settings.options item }
 
 -- what the items ask for: of several that say the same thing, the last decides
 abbrev pub settings_of : List Item → Settings
@@ -159,8 +159,8 @@ pub data Fault : Type 0 where
 abbrev pub asked_of : Request → Asked
 asked_of request.Help = help
 asked_of request.Version = version
-asked_of (request.Dump view path summarized) =
-    dump (record { view = view; path = option_map (λ name. name.now) path; summary = summarized })
+asked_of (request.Dump options path summarized) =
+    dump (record { options = options; path = option_map (λ name. name.now) path; summary = summarized })
 
 -- the error says this
 abbrev pub fault_of : UsageError → Fault

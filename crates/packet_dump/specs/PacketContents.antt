@@ -1,9 +1,6 @@
 -- What a packet holds, and which packets are shown.
-use Rattle.std.specs.Prelude.{◌≡◌, ℕ, ◌+◌, ◌/◌, ◌%◌, ◌==◌, if◌then◌else◌, Bool, true, false, IsTrue, IsFalse, List, [], ◌∷◌, ◌++◌, Option, Some, None, codes}
+use Rattle.std.specs.Prelude.{◌≡◌, ℕ, ◌+◌, ◌/◌, ◌%◌, ◌==◌, if◌then◌else◌, Bool, true, false, List, [], ◌∷◌, ◌++◌, Option, Some, None, codes, drop}
 use Rattle.std.specs.Fmt.{decimal}
-use Rattle.capture_reader.specs.Classic.{knows_link}
-use Rattle.etherparse.specs.Types.Entry.{Entry}
-use Rattle.etherparse.specs.Types.Entry.TheVariants.{Ethernet, LinuxSll, Ip}
 use Rattle.etherparse.specs.Types.SliceError.{SliceError}
 use Rattle.etherparse.specs.Frame.{IsFrame}
 use Rattle.etherparse.specs.FrameBytes.{last_payload}
@@ -15,9 +12,11 @@ use Rattle.etherparse.specs.TransportParts.{TransportLayer}
 use Rattle.line_io.specs.Lines.{line_feed, space}
 use Rattle.packet_dump.specs.Addresses.{hex_pair}
 use Rattle.packet_dump.specs.LayerTexts.{layers_text}
+use Rattle.packet_dump.specs.Openings.{opening_of}
 use Rattle.packet_dump.specs.SliceErrorTexts.{refusal_text}
-use Rattle.packet_dump.specs.declared.view.Kind.{Kind}
-use Rattle.packet_dump.specs.declared.view.Kind.TheVariants.{Udp, Tcp, Icmp, Arp, Refused}
+use Rattle.packet_dump.specs.declared.openings.Opening.{Opening}
+use Rattle.packet_dump.specs.declared.dump_options.Kind.{Kind}
+use Rattle.packet_dump.specs.declared.dump_options.Kind.TheVariants.{Udp, Tcp, Icmp, Arp, Refused}
 
 -- the layers of a frame, or why bytes are none, or the link type of bytes that are not read
 pub data Content : Type 0 where
@@ -25,15 +24,15 @@ pub data Content : Type 0 where
   refusal : SliceError → Content
   other_link : ℕ → Content
 
--- what packets of a link type begin with: Ethernet, Linux cooked captures, or IP for all others that are read
-abbrev pub entry_of : ℕ → Entry
-entry_of link = if link == 1 then Ethernet else (if link == 113 then LinuxSll else Ip)
-
 -- bytes of this link type hold this
 abbrev pub Holds : ℕ → List ℕ → Content → Type 0
-Holds link bytes (frame layers) = IsTrue (knows_link link) × IsFrame (entry_of link) bytes layers
-Holds link bytes (refusal error) = IsTrue (knows_link link) × RefusesFrame (entry_of link) bytes error
-Holds link bytes (other_link number) = IsFalse (knows_link link) × (number ≡ link)
+Holds link bytes (frame layers) =
+    (opening : Opening) × (opening_of link bytes ≡ Some opening)
+    × IsFrame opening.entry (drop opening.skipped bytes) layers
+Holds link bytes (refusal error) =
+    (opening : Opening) × (opening_of link bytes ≡ Some opening)
+    × RefusesFrame opening.entry (drop opening.skipped bytes) error
+Holds link bytes (other_link number) = (opening_of link bytes ≡ None) × (number ≡ link)
 
 -- its text
 abbrev pub content_text : Content → List ℕ

@@ -1,6 +1,6 @@
 -- What is written of payloads that are put together from fragments, and of fragments that the pool refuses.
 use Rattle.std.specs.Prelude.{◌≡◌, ℕ, ◌-◌, ◌*◌, ◌/◌, if◌then◌else◌, Bool, true, false, List, [], ◌∷◌, ◌++◌, Option, Some, None, codes}
-use Rattle.etherparse.specs.Layer.{slices}
+use Rattle.etherparse.specs.Readings.{slices}
 use Rattle.etherparse.specs.Types.TcpHeaderSliceError.{HeaderSliceError}
 use Rattle.etherparse.specs.Types.TcpHeaderSliceError.TheVariants as header_error
 use Rattle.etherparse.specs.Types.IpDefragError.{IpDefragError}
@@ -17,9 +17,9 @@ use Rattle.packet_dump.specs.LayerTexts.{outer_text, protocol_text}
 use Rattle.packet_dump.specs.PacketCalls.{PoolHistory, frame_call, table_behind, with_call, with_sweep}
 use Rattle.packet_dump.specs.SliceErrorTexts.{refusal_text}
 use Rattle.packet_dump.specs.Transports.{len_text, transport_text}
-use Rattle.packet_dump.specs.declared.view.Kind.{Kind}
-use Rattle.packet_dump.specs.declared.view.Kind.TheVariants.{Refused}
-use Rattle.packet_dump.specs.declared.view.View.{View}
+use Rattle.packet_dump.specs.declared.dump_options.Kind.{Kind}
+use Rattle.packet_dump.specs.declared.dump_options.Kind.TheVariants.{Refused}
+use Rattle.packet_dump.specs.declared.dump_options.DumpOptions.{DumpOptions}
 
 -- ---- what a payload holds
 
@@ -66,9 +66,9 @@ abbrev pub closing_text : Bool → List ℕ → List ℕ
 closing_text hex bytes = bytes_text hex bytes ++ line_feed ∷ []
 
 -- the line, which is there where its kind is one that is shown
-abbrev pub further_line : View → List ℕ → Layers → Option Kind → List ℕ → List ℕ → List ℕ
-further_line view start layers kind said bytes =
-    if shows_kind view.only kind then opening_text start layers ++ said ++ closing_text view.hex bytes else []
+abbrev pub further_line : DumpOptions → List ℕ → Layers → Option Kind → List ℕ → List ℕ → List ℕ
+further_line options start layers kind said bytes =
+    if shows_kind options.only kind then opening_text start layers ++ said ++ closing_text options.hex bytes else []
 
 -- what is said of a payload that was put together
 abbrev pub payload_text : ℕ → List ℕ → Inner → List ℕ
@@ -79,62 +79,62 @@ abbrev pub unread_text : HeaderSliceError → List ℕ
 unread_text error = codes " reassembled" ++ refusal_text (frame_error error)
 
 -- the line of a payload
-abbrev pub payload_line : View → List ℕ → Layers → ℕ → List ℕ → Inner → List ℕ
-payload_line view start layers number bytes inner =
-    further_line view start layers (inner_kind inner) (payload_text number bytes inner) (inner_bytes bytes inner)
+abbrev pub payload_line : DumpOptions → List ℕ → Layers → ℕ → List ℕ → Inner → List ℕ
+payload_line options start layers number bytes inner =
+    further_line options start layers (inner_kind inner) (payload_text number bytes inner) (inner_bytes bytes inner)
 
 -- why the pool refuses a fragment
 abbrev pub pool_refusal_text : IpDefragError → List ℕ
 pool_refusal_text error = codes " not reassembled: " ++ error_text error
 
 -- the line of a fragment that it refuses
-abbrev pub refused_line : View → List ℕ → Layers → IpDefragError → List ℕ
-refused_line view start layers error = further_line view start layers (Some Refused) (pool_refusal_text error) []
+abbrev pub refused_line : DumpOptions → List ℕ → Layers → IpDefragError → List ℕ
+refused_line options start layers error = further_line options start layers (Some Refused) (pool_refusal_text error) []
 
 -- what is written of the pool's answer to a frame with these layers
-abbrev pub IsAnswerText : View → List ℕ → Layers → Answer → List ℕ → Type 0
-IsAnswerText view start layers (payload_handed_out payload) text =
+abbrev pub IsAnswerText : DumpOptions → List ℕ → Layers → Answer → List ℕ → Type 0
+IsAnswerText options start layers (payload_handed_out payload) text =
     (inner : Inner) × IsInner payload.ip_number.0 payload.bytes inner
-    × (text ≡ payload_line view start layers payload.ip_number.0 payload.bytes inner)
-IsAnswerText view start layers (fragment_refused error) text = text ≡ refused_line view start layers error
-IsAnswerText view start layers nothing_handed_out text = text ≡ []
-IsAnswerText view start layers streams_dropped text = text ≡ []
-IsAnswerText view start layers buffer_returned text = text ≡ []
+    × (text ≡ payload_line options start layers payload.ip_number.0 payload.bytes inner)
+IsAnswerText options start layers (fragment_refused error) text = text ≡ refused_line options start layers error
+IsAnswerText options start layers nothing_handed_out text = text ≡ []
+IsAnswerText options start layers streams_dropped text = text ≡ []
+IsAnswerText options start layers buffer_returned text = text ≡ []
 
 -- ---- what packets do
 
 -- the instant before which a stream is too old, at a packet of this one
-abbrev pub oldest_from : View → ℕ → ℕ
-oldest_from view this = this - view.timeout * 1000000000
+abbrev pub oldest_from : DumpOptions → ℕ → ℕ
+oldest_from options this = this - options.timeout * 1000000000
 
 -- where a second began, old streams are dropped
-abbrev pub swept_at : View → PoolHistory → ℕ → PoolHistory
-swept_at view before this = with_sweep before (this / 1000000000) (oldest_from view this)
+abbrev pub swept_at : DumpOptions → PoolHistory → ℕ → PoolHistory
+swept_at options before this = with_sweep before (this / 1000000000) (oldest_from options this)
 
 -- what is written of the pool's answer to a frame that came at this instant
-abbrev pub IsCallText : View → List ℕ → PoolHistory → Layers → ℕ → List ℕ → Type 0
-IsCallText view start before layers this text =
-    IsAnswerText view start layers (answer_to before.limit (table_behind before) (frame_call layers this)) text
+abbrev pub IsCallText : DumpOptions → List ℕ → PoolHistory → Layers → ℕ → List ℕ → Type 0
+IsCallText options start before layers this text =
+    IsAnswerText options start layers (answer_to before.limit (table_behind before) (frame_call layers this)) text
 
 -- The pool is given a frame behind such a drop, and this is written of its answer.
-abbrev pub GivesFrame : View → List ℕ → PoolHistory → ℕ → Layers → List ℕ → PoolHistory → Type 0
-GivesFrame view start before this layers text after =
-    let swept = swept_at view before this in
-    IsCallText view start swept layers this text × (after ≡ with_call swept (frame_call layers this))
+abbrev pub GivesFrame : DumpOptions → List ℕ → PoolHistory → ℕ → Layers → List ℕ → PoolHistory → Type 0
+GivesFrame options start before this layers text after =
+    let swept = swept_at options before this in
+    IsCallText options start swept layers this text × (after ≡ with_call swept (frame_call layers this))
 
 -- nothing is done and written
 abbrev pub DoesNothing : PoolHistory → List ℕ → PoolHistory → Type 0
 DoesNothing before text after = (text ≡ []) × (after ≡ before)
 
 -- a frame is given where payloads are put together
-abbrev pub GivesWhere : Bool → View → List ℕ → PoolHistory → ℕ → Layers → List ℕ → PoolHistory → Type 0
-GivesWhere true view start before this layers text after = GivesFrame view start before this layers text after
-GivesWhere false view start before this layers text after = DoesNothing before text after
+abbrev pub GivesWhere : Bool → DumpOptions → List ℕ → PoolHistory → ℕ → Layers → List ℕ → PoolHistory → Type 0
+GivesWhere true options start before this layers text after = GivesFrame options start before this layers text after
+GivesWhere false options start before this layers text after = DoesNothing before text after
 
 -- What is written of the fragment that a packet carries which came at this instant, and what becomes of the pool. What
 -- is refused or not read does nothing.
-abbrev pub IsPooled : View → List ℕ → PoolHistory → ℕ → Content → List ℕ → PoolHistory → Type 0
-IsPooled view start before this (frame layers) text after =
-    GivesWhere view.reassemble view start before this layers text after
-IsPooled view start before this (refusal error) text after = DoesNothing before text after
-IsPooled view start before this (other_link number) text after = DoesNothing before text after
+abbrev pub IsPooled : DumpOptions → List ℕ → PoolHistory → ℕ → Content → List ℕ → PoolHistory → Type 0
+IsPooled options start before this (frame layers) text after =
+    GivesWhere options.reassemble options start before this layers text after
+IsPooled options start before this (refusal error) text after = DoesNothing before text after
+IsPooled options start before this (other_link number) text after = DoesNothing before text after

@@ -11,7 +11,7 @@ use Rattle.packet_dump.specs.declared.pooling.Pooling.{Pooling}
 use Rattle.packet_dump.specs.declared.session.Session.{Session}
 use Rattle.packet_dump.specs.declared.session.Standing.{Standing}
 use Rattle.packet_dump.specs.declared.session.Standing.TheVariants.{MayEnd, Enough, Cut, Refused}
-use Rattle.packet_dump.specs.declared.view.View.{View}
+use Rattle.packet_dump.specs.declared.dump_options.DumpOptions.{DumpOptions}
 
 -- this became of the pool
 pub record HoldsPooling (history : PoolHistory) (pooling : Pooling) : Type 0 where
@@ -20,11 +20,11 @@ pub record HoldsPooling (history : PoolHistory) (pooling : Pooling) : Type 0 whe
 
 -- The session shows so much, took these bytes, read these items at their front, and knows how many packets, which are
 -- no more than are wanted, and when the first and the last came. This became of the pool.
-pub record Stands (view : View) (session : Session) (read : List ℕ) (items : List Item) (history : PoolHistory)
+pub record Stands (options : DumpOptions) (session : Session) (read : List ℕ) (items : List Item) (history : PoolHistory)
     : Type 0 where
-  pub view_is : session.view ≡ view
+  pub options_is : session.options ≡ options
   pub reads : Reads session.capture read items
-  pub within : session.number ≤ view.most
+  pub within : session.number ≤ options.most
   pub number : session.number ≡ (progress_behind none_read items).number
   pub first : session.first ≡ (progress_behind none_read items).first
   pub latest : session.latest ≡ (progress_behind none_read items).latest
@@ -39,31 +39,31 @@ abbrev pub Counts : Session → Type 0
 Counts session = session.number ≤ reader_offset session.capture
 
 -- how a capture stands behind these bytes, of which these items were read
-abbrev pub StandsSo : View → Standing → List ℕ → List Item → Type 0
-StandsSo view MayEnd read items = AreFewer view items × IsCapture read items
-StandsSo view Enough read items = Begin read items × (packets_in items ≡ view.most)
-StandsSo view (Cut error) read items = AreFewer view items × RefusesCapture read (items, error)
-StandsSo view (Refused error) read items =
-    AreFewer view items × ((more : List ℕ) → RefusesCapture (read ++ more) (items, error))
+abbrev pub StandsSo : DumpOptions → Standing → List ℕ → List Item → Type 0
+StandsSo options MayEnd read items = AreFewer options items × IsCapture read items
+StandsSo options Enough read items = Begin read items × (packets_in items ≡ options.most)
+StandsSo options (Cut error) read items = AreFewer options items × RefusesCapture read (items, error)
+StandsSo options (Refused error) read items =
+    AreFewer options items × ((more : List ℕ) → RefusesCapture (read ++ more) (items, error))
 
 -- more items were read, and their text was put together
-pub record Drained (view : View) (session : Session) (read : List ℕ) (items : List Item) (text : List ℕ) : Type 0 where
+pub record Drained (options : DumpOptions) (session : Session) (read : List ℕ) (items : List Item) (text : List ℕ) : Type 0 where
   pub more : List Item
   pub after : PoolHistory
-  pub stands : Stands view session read (items ++ more) after
-  pub texts : AreAllTexts view (items ++ more) (text ++ session.output.items) after
+  pub stands : Stands options session read (items ++ more) after
+  pub texts : AreAllTexts options (items ++ more) (text ++ session.output.items) after
 
 -- the same, and the capture stands so
-abbrev pub Drains : View → Session → Standing → List ℕ → List Item → List ℕ → Type 0
-Drains view session standing read items text =
-    (drained : Drained view session read items text) × StandsSo view standing read (items ++ drained.more)
+abbrev pub Drains : DumpOptions → Session → Standing → List ℕ → List Item → List ℕ → Type 0
+Drains options session standing read items text =
+    (drained : Drained options session read items text) × StandsSo options standing read (items ++ drained.more)
 
 -- a packet was counted, and its text put together behind what became of the pool
 pub record PushesLine (old new : Session) (before : PoolHistory) (shown : PlainShown) : Type 0 where
-  pub view : new.view ≡ old.view
+  pub options : new.options ≡ old.options
   pub line : List ℕ
   pub after : PoolHistory
-  pub is : IsLine old.view (old.number + 1) (first_after old.first (instant_in shown))
+  pub is : IsLine old.options (old.number + 1) (first_after old.first (instant_in shown))
       (latest_after old.latest (instant_in shown)) before shown line after
   pub pooled : HoldsPooling after new.pooling
   pub output : new.output.items ≡ old.output.items ++ line

@@ -1,5 +1,5 @@
 -- Why bytes are no frame, in the words of the errors themselves.
-use Rattle.std.specs.Prelude.{ℕ, List, ◌++◌, codes}
+use Rattle.std.specs.Prelude.{ℕ, List, [], ◌++◌, codes}
 use Rattle.std.specs.Fmt.{decimal}
 use Rattle.etherparse.specs.Names.{layer_name, len_source_name}
 use Rattle.etherparse.specs.Types.LenError.{LenError}
@@ -51,9 +51,21 @@ reason_text (Ipv6Exts exts_error.HopByHopNotAtStart) = codes "HopByHopNotAtStart
 reason_text (Ipv6Exts (exts_error.IpAuth auth_error.ZeroPayloadLen)) = codes "ZeroPayloadLen"
 reason_text (Tcp (tcp_error.DataOffsetTooSmall data_offset)) = codes "DataOffsetTooSmall " ++ decimal data_offset
 
+-- the layer that is refused, which the words of an error do not name but where bytes are missing
+abbrev pub refused_layer : SliceError → List ℕ
+refused_layer (Len error) = []
+refused_layer (LinuxSll error) = codes "LinuxSll "
+refused_layer (Macsec error) = codes "Macsec "
+refused_layer (Ip error) = codes "Ip "
+refused_layer (Ipv4 error) = codes "Ipv4 "
+refused_layer (Ipv6 error) = codes "Ipv6 "
+refused_layer (Ipv4Exts error) = codes "Ipv4Exts "
+refused_layer (Ipv6Exts error) = codes "Ipv6Exts "
+refused_layer (Tcp error) = codes "Tcp "
+
 -- that they are refused, a space before it
 abbrev pub refusal_text : SliceError → List ℕ
-refusal_text error = codes " refused " ++ reason_text error
+refusal_text error = codes " refused " ++ refused_layer error ++ reason_text error
 
 -- what an error is counted as: of too few bytes the layer, and of others what is wrong
 abbrev pub error_name : SliceError → List ℕ

@@ -6,10 +6,10 @@ ghost use Rattle.line_io.specs.Transfers.{Transfers};
 ghost use Rattle.line_io.specs.WatchedWords.{has_ended, has_failed, inner_of, reads_left};
 ghost use Rattle.packet_dump.specs.Dumps.{BeginsDump, IsDump};
 
+use crate::dump_options::DumpOptions;
 use crate::ending::Ending;
 use crate::session::Session;
 use crate::summary::Summary;
-use crate::view::View;
 use line_io::{RunError, Watched, zeros};
 use std::alloc::Global;
 use std::io::{Read, Write};
@@ -27,7 +27,7 @@ pub const MOST_READS: u64 = 0x8000_0000_0000;
 /// is counted in the summary, as far as that is wanted.
 pub fn run<R: Read, W: Write>(
     alloc: Global,
-    view: View,
+    options: DumpOptions,
     summary: &mut Summary,
     reader: &mut Watched<R>,
     writer: &mut Watched<W>,
@@ -38,9 +38,9 @@ pub fn run<R: Read, W: Write>(
     requires writer_sound { has_failed writer.old ≡ false }
 
     // What was written is the lines of what was read, and at an error begins them.
-    ensures ok { IfOk result (λ ending. Transfers (IsDump view (has_ended reader.new) ending)
+    ensures ok { IfOk result (λ ending. Transfers (IsDump options (has_ended reader.new) ending)
         R.remaining reader.old reader.new W.contents writer.old writer.new) }
-    ensures err { OnErr result (Transfers (BeginsDump view) R.remaining reader.old reader.new
+    ensures err { OnErr result (Transfers (BeginsDump options) R.remaining reader.old reader.new
         W.contents writer.old writer.new) }
 
     // A reader that has ended was read to its end, but where it still gives bytes after that many reads.
@@ -53,7 +53,7 @@ pub fn run<R: Read, W: Write>(
 {
     let mut buffer = zeros(alloc, PIECE_LEN)?;
     let piece = buffer.as_mut_slice();
-    let mut session = Session::new(alloc, view);
+    let mut session = Session::new(alloc, options);
     'pieces: loop {
         let standing = session.drain(summary)?;
         writer.write_all(session.output.as_slice())?;

@@ -1,78 +1,69 @@
 //! The line of a packet.
 
-ghost use Rattle.std.specs.Prelude.{◌≡◌, ◌<◌, ◌++◌, ℕ, IsTrue, List, OnOk};
-ghost use Rattle.capture_reader.specs.Classic.{knows_link};
+ghost use Rattle.std.specs.Prelude.{◌≡◌, ◌<◌, ◌++◌, ℕ, List, OnOk};
 ghost use Rattle.capture_reader.specs.Readers.{shown_of};
 ghost use Rattle.etherparse.specs.Layers.{layers_of};
-ghost use Rattle.packet_dump.specs.PacketContents.{bytes_text, entry_of, frame, in_row_text, other_link, refusal};
+ghost use Rattle.packet_dump.specs.PacketContents.{bytes_text, frame, in_row_text, other_link, refusal};
 ghost use Rattle.packet_dump.specs.PacketContents.{row_start, rows_text};
 ghost use Rattle.packet_dump.specs.Dumps.{IsLine};
-ghost use Rattle.packet_dump.specs.PacketLines.{cut_text, end_text, fraction_text, shown_text, since_text};
-ghost use Rattle.packet_dump.specs.PacketLines.{seconds_in, span_text, start_text, time_text};
+ghost use Rattle.packet_dump.specs.PacketLines.{cut_text, end_text, fraction_text, moment_text, parts_start};
+ghost use Rattle.packet_dump.specs.PacketLines.{parts_text, seconds_in, since_text, span_text, time_text};
 ghost use Rattle.packet_dump.specs.PacketCalls.{PoolHistory};
 ghost use Rattle.packet_dump.specs.PoolLines.{IsPooled};
 ghost use Rattle.packet_dump.specs.Sessions.{HoldsPooling};
 
 use crate::addresses::push_pair;
+use crate::dump_options::{DumpOptions, Kind};
 use crate::layers::push_layers;
+use crate::openings::{opening_of, push_front};
 use crate::pooling::Pooling;
 use crate::refusals::push_refusal;
 use crate::shown::{instant_of, is_fine};
 use crate::summary::Summary;
-use crate::view::{Kind, View};
-use capture_reader::{Shown, Time, knows_link};
+use capture_reader::{Shown, Time};
+use etherparse::SlicedPacket;
 use etherparse::err::packet::SliceError;
-use etherparse::{Entry, SlicedPacket};
 use line_io::decimals;
 use std::alloc::AllocError;
 
-/// Appends the line of a packet, whose time is counted from the first one's, where it is of a kind that is shown, and
-/// then what the pool says of the fragment that it carries, which came at the latest instant.
+/// What the line of a packet is made from.
+#[derive(Clone, Copy)]
+pub struct LineParts<'a> {
+    /// How many packets were read, this one among them.
+    pub number: u64,
+    /// When the first packet came of which that is known, from which times are counted.
+    pub first: Option<u128>,
+    /// When the last one came of which that is known.
+    pub latest: u128,
+    /// The packet.
+    pub shown: Shown<'a>,
+}
+
+/// Appends the line of a packet, where it is of a kind that is shown, and then what the pool says of the fragment that
+/// it carries.
 pub fn push_line(
     output: &mut Vec<u8>,
     pooling: &mut Pooling,
     summary: &mut Summary,
-    view: &View,
-    number: u64,
-    first: Option<u128>,
-    latest: u128,
-    shown: &Shown<'_>,
+    options: &DumpOptions,
+    parts: &LineParts<'_>,
 ) -> Result<(), AllocError>
     ensures { OnOk result ((before : PoolHistory) → HoldsPooling before pooling.old →
-        (line : List ℕ) × (after : PoolHistory)
-        × IsLine view.now number first latest before (shown_of shown.now) line after
+        (line : List ℕ) × (after : PoolHistory) × IsLine options.now parts.now.number parts.now.first parts.now.latest
+        before (shown_of parts.now.shown) line after
         × HoldsPooling after pooling.new × (output.new.items ≡ output.old.items ++ line)) }
 {
-    if knows_link(shown.link_type) {
-        push_read(output, pooling, summary, view, number, first, latest, shown)
-    } else {
-        push_other(output, view, number, first, shown)
-    }
-}
-
-/// The same of a packet whose link type is read.
-fn push_read(
-    output: &mut Vec<u8>,
-    pooling: &mut Pooling,
-    summary: &mut Summary,
-    view: &View,
-    number: u64,
-    first: Option<u128>,
-    latest: u128,
-    shown: &Shown<'_>,
-) -> Result<(), AllocError>
-    requires { IsTrue (knows_link shown.now.link_type) }
-    ensures { OnOk result ((before : PoolHistory) → HoldsPooling before pooling.old →
-        (line : List ℕ) × (after : PoolHistory)
-        × IsLine view.now number first latest before (shown_of shown.now) line after
-        × HoldsPooling after pooling.new × (output.new.items ≡ output.old.items ++ line)) }
-{
-    match SlicedPacket::from_entry(entry_of(shown.link_type), shown.bytes) {
+    let bytes = parts.shown.bytes;
+    let Some(opening) = opening_of(parts.shown.link_type, bytes) else {
+        summary.count_unread(parts.shown.link_type)?;
+        return push_other(output, options, parts);
+    };
+    match SlicedPacket::from_entry(opening.entry, &bytes[opening.skipped..]) {
         Ok(frame) => {
-            summary.count_frame(&frame);
-            push_whole(output, pooling, view, number, first, latest, shown, &frame)
+            summary.count_frame(&frame, opening.is_cooked());
+            push_whole(output, pooling, options, parts, &frame)
         }
-        Err(error) => push_refused(output, summary, view, number, first, shown, &error),
+        Err(error) => push_refused(output, summary, options, parts, &error),
     }
 }
 
@@ -80,23 +71,19 @@ fn push_read(
 fn push_whole(
     output: &mut Vec<u8>,
     pooling: &mut Pooling,
-    view: &View,
-    number: u64,
-    first: Option<u128>,
-    latest: u128,
-    shown: &Shown<'_>,
+    options: &DumpOptions,
+    parts: &LineParts<'_>,
     sliced: &SlicedPacket<'_>,
 ) -> Result<(), AllocError>
     ensures { OnOk result ((before : PoolHistory) → HoldsPooling before pooling.old →
         (more : List ℕ) × (after : PoolHistory)
-        × IsPooled view.now (start_text number first (shown_of shown.now)) before latest
-        (frame (layers_of sliced.now)) more after
+        × IsPooled options.now (parts_start parts.now) before parts.now.latest (frame (layers_of sliced.now)) more after
         × HoldsPooling after pooling.new × (output.new.items ≡ output.old.items
-        ++ (shown_text view.now number first (shown_of shown.now) (frame (layers_of sliced.now)) ++ more))) }
+        ++ (parts_text options.now parts.now (frame (layers_of sliced.now)) ++ more))) }
 {
-    push_frame(output, view, number, first, shown, sliced)?;
-    if view.reassemble {
-        pooling.give(output, view, number, first, latest, shown, sliced)
+    push_frame(output, options, parts, sliced)?;
+    if options.reassemble {
+        pooling.give(output, options, parts, sliced)
     } else {
         Ok(())
     }
@@ -105,76 +92,75 @@ fn push_whole(
 /// Appends the line of a packet that is a frame, where its kind is shown.
 fn push_frame(
     output: &mut Vec<u8>,
-    view: &View,
-    number: u64,
-    first: Option<u128>,
-    shown: &Shown<'_>,
+    options: &DumpOptions,
+    parts: &LineParts<'_>,
     sliced: &SlicedPacket<'_>,
 ) -> Result<(), AllocError>
-    ensures { OnOk result (output.new.items ≡ output.old.items
-        ++ shown_text view.now number first (shown_of shown.now) (frame (layers_of sliced.now))) }
+    ensures { OnOk result (output.new.items
+        ≡ output.old.items ++ parts_text options.now parts.now (frame (layers_of sliced.now))) }
 {
-    if !view.shows(Kind::of(sliced)) {
+    if !options.shows(Kind::of(sliced)) {
         return Ok(());
     }
-    push_start(output, number, first, shown)?;
+    push_start(output, parts)?;
     push_layers(output, sliced)?;
-    push_end(output, shown, view.hex, sliced.payload())
+    push_end(output, &parts.shown, options.hex, sliced.payload())
 }
 
 /// Appends the line of a packet that is refused, where such packets are shown.
 fn push_refused(
     output: &mut Vec<u8>,
     summary: &mut Summary,
-    view: &View,
-    number: u64,
-    first: Option<u128>,
-    shown: &Shown<'_>,
+    options: &DumpOptions,
+    parts: &LineParts<'_>,
     error: &SliceError,
 ) -> Result<(), AllocError>
-    ensures { OnOk result (output.new.items ≡ output.old.items
-        ++ shown_text view.now number first (shown_of shown.now) (refusal error.now)) }
+    ensures { OnOk result (output.new.items
+        ≡ output.old.items ++ parts_text options.now parts.now (refusal error.now)) }
 {
     summary.count_refusal(error)?;
-    if !view.shows(Some(Kind::Refused)) {
+    if !options.shows(Some(Kind::Refused)) {
         return Ok(());
     }
-    push_start(output, number, first, shown)?;
+    push_start(output, parts)?;
     push_refusal(output, error)?;
-    push_end(output, shown, view.hex, shown.bytes)
+    push_end(output, &parts.shown, options.hex, parts.shown.bytes)
 }
 
 /// Appends the line of a packet whose link type is not read, where all packets are shown.
 fn push_other(
     output: &mut Vec<u8>,
-    view: &View,
-    number: u64,
-    first: Option<u128>,
-    shown: &Shown<'_>,
+    options: &DumpOptions,
+    parts: &LineParts<'_>,
 ) -> Result<(), AllocError>
-    ensures { OnOk result (output.new.items ≡ output.old.items
-        ++ shown_text view.now number first (shown_of shown.now) (other_link shown.now.link_type)) }
+    ensures { OnOk result (output.new.items
+        ≡ output.old.items ++ parts_text options.now parts.now (other_link parts.now.shown.link_type)) }
 {
-    if !view.shows(None) {
+    if !options.shows(None) {
         return Ok(());
     }
-    push_start(output, number, first, shown)?;
-    decimals::push_behind(output, b" link ", u64::from(shown.link_type))?;
-    push_end(output, shown, view.hex, shown.bytes)
+    push_start(output, parts)?;
+    decimals::push_behind(output, b" link ", u64::from(parts.shown.link_type))?;
+    push_end(output, &parts.shown, options.hex, parts.shown.bytes)
 }
 
-/// Appends what the line of a packet begins with: its number, and its time since the first.
-pub fn push_start(
-    output: &mut Vec<u8>,
-    number: u64,
-    first: Option<u128>,
-    shown: &Shown<'_>,
-) -> Result<(), AllocError>
-    ensures { OnOk result (output.new.items ≡ output.old.items ++ start_text number first (shown_of shown.now)) }
+/// Appends what the line of a packet begins with: its number, its time since the first, and what is told of a header that
+/// the program reads itself.
+pub fn push_start(output: &mut Vec<u8>, parts: &LineParts<'_>) -> Result<(), AllocError>
+    ensures { OnOk result (output.new.items ≡ output.old.items ++ parts_start parts.now) }
 {
-    decimals::push(output, number)?;
+    push_moment(output, parts)?;
+    push_front(output, parts.shown.link_type, parts.shown.bytes)
+}
+
+/// Appends the number of a packet, and its time since the first.
+fn push_moment(output: &mut Vec<u8>, parts: &LineParts<'_>) -> Result<(), AllocError>
+    ensures { OnOk result (output.new.items
+        ≡ output.old.items ++ moment_text parts.now.number parts.now.first (shown_of parts.now.shown)) }
+{
+    decimals::push(output, parts.number)?;
     output.push(b' ')?;
-    push_time(output, first, shown.time)
+    push_time(output, parts.first, parts.shown.time)
 }
 
 /// Appends what the line of a packet ends with: how much was kept where that is not all, bytes where they are wanted,
@@ -229,17 +215,6 @@ fn push_row_start(output: &mut Vec<u8>, index: usize) -> Result<(), AllocError>
     push_pair(output, (index / 65_536 % 256) as u8)?;
     push_pair(output, (index / 256 % 256) as u8)?;
     push_pair(output, (index % 256) as u8)
-}
-
-/// What packets of a link type begin with.
-fn entry_of(link_type: u16) -> Entry
-    ensures { result ≡ entry_of link_type }
-{
-    match link_type {
-        1 => Entry::Ethernet,
-        113 => Entry::LinuxSll,
-        _ => Entry::Ip,
-    }
 }
 
 /// Appends the time since the first packet, where it is known.

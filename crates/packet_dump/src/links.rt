@@ -42,7 +42,7 @@ fn push_sll(output: &mut Vec<u8>, frame: &LinuxSllSlice<'_>) -> Result<(), Alloc
 }
 
 /// Which way a packet of a Linux cooked capture went.
-fn way_name(packet_type: u16) -> &'static str
+pub fn way_name(packet_type: u16) -> &'static str
     ensures { result.now ≡ way_name packet_type }
 {
     match packet_type {
@@ -58,7 +58,7 @@ fn way_name(packet_type: u16) -> &'static str
 }
 
 /// Appends a sender's address, where it has bytes.
-fn push_sender(output: &mut Vec<u8>, address: &[u8]) -> Result<(), AllocError>
+pub fn push_sender(output: &mut Vec<u8>, address: &[u8]) -> Result<(), AllocError>
     ensures { OnOk result (output.new.items ≡ output.old.items ++ sender_text address.now) }
 {
     if address.is_empty() {

@@ -12,9 +12,10 @@ ghost use Rattle.std.specs.Process.{exit_status};
 ghost use Rattle.line_io.specs.Transfers.{Transfers};
 ghost use Rattle.line_io.specs.WatchedWords.{has_ended, has_failed, inner_of, reads_left};
 ghost use Rattle.packet_dump.specs.Dumps.{BeginsDump, IsSummedDump};
-ghost use Rattle.packet_dump.specs.ErrorTexts.{hint_text, status_of};
+ghost use Rattle.packet_dump.specs.ErrorTexts.{hint_text, magic_hint, status_of};
 
 mod addresses;
+pub mod dump_options;
 pub mod ending;
 pub mod engine;
 mod icmp_messages;
@@ -22,23 +23,23 @@ mod layers;
 mod lines;
 mod links;
 mod nets;
+mod openings;
 mod options;
 mod pool_lines;
 mod pooling;
-mod progress;
 mod refusals;
 mod session;
 mod shown;
+mod source;
 pub mod summary;
 mod transports;
-pub mod view;
 
+use crate::dump_options::DumpOptions;
 use crate::ending::{Ending, error_text};
 use crate::engine::{MOST_READS, run};
 use crate::options::{Request, UsageError, parse};
-use crate::progress::{LONG, Progress};
+use crate::source::{LONG, Source};
 use crate::summary::Summary;
-use crate::view::View;
 use capture_reader::Refusal;
 use line_io::{RunError, Watched};
 use std::alloc::Global;
@@ -69,6 +70,13 @@ input is read.
   --help             this text
   --version          the version
 
+Read are Ethernet (link type 1), IP alone (12, 14, 101, 228, 229), the loopback of
+BSD (0, 108) and Linux cooked captures (113, 276). A packet of another link type
+has a line with its number, as: 7 1.500000 link 105
+
+A summary follows a live run where only tcpdump is interrupted:
+tcpdump -U -w - | (trap '' INT; packet_dump --summary)
+
 It ends with 0, with 1 where the capture is none or is cut, a file cannot be
 read or a line not be written, and with 2 where the command line is wrong.
 ";
@@ -78,7 +86,10 @@ const VERSION: &str = "packet_dump 0.1.0\n";
 
 fn main(rt: HostRuntime) -> ExitCode {
     let Ok(args) = env::args(&rt) else {
-        return said(&rt, "packet_dump: the arguments cannot be read", 1);
+        let line =
+            "packet_dump: the arguments cannot be read; a file whose name is not UTF-8 is read as \
+            packet_dump < FILE";
+        return said(&rt, line, 1);
     };
     let mut words = Vec::new(rt.alloc());
     for word in args {
@@ -95,11 +106,11 @@ fn main(rt: HostRuntime) -> ExitCode {
         Ok(Request::Version) => printed(&mut Watched::new(rt.stdout(), 0), VERSION),
         Ok(
             Request::Dump {
-                view,
+                options,
                 path,
                 summary,
             },
-        ) => dump(&rt, view, path, summary),
+        ) => dump(&rt, options, path, summary),
         Err(error) => refused(&rt, &error),
     }
 }
@@ -148,50 +159,47 @@ fn refused(rt: &impl Eprint, error: &UsageError<'_>) -> ExitCode
 }
 
 /// Writes the lines of a file or of standard input, and the summary where it is wanted.
-fn dump(rt: &HostRuntime, view: View, path: Option<&str>, wanted: bool) -> ExitCode {
+fn dump(rt: &HostRuntime, options: DumpOptions, path: Option<&str>, wanted: bool) -> ExitCode {
     let mut writer = Watched::new(rt.stdout(), 0);
     let Some(path) = path else {
-        let mut reader = Watched::new(rt.stdin(), MOST_READS);
-        let outcome = dump_reader(rt.alloc(), view, wanted, &mut reader, &mut writer);
-        return ended(rt, outcome);
+        let input = Source::new(rt.stdin(), rt, "standard input", None);
+        let mut reader = Watched::new(input, MOST_READS);
+        let outcome = dump_reader(rt.alloc(), options, wanted, &mut reader, &mut writer);
+        return ended(rt, None, outcome);
     };
     match fs::open(rt, path) {
-        Ok(file) => ended(rt, dump_file(rt, view, wanted, file, &mut writer)),
-        Err(_) => {
-            let _ = eprintln!(rt; "packet_dump: {path} cannot be opened");
+        Ok(file) => {
+            let len = shown_len(rt, &file);
+            let mut reader = Watched::new(Source::new(file, rt, path, len), MOST_READS);
+            let outcome = dump_reader(rt.alloc(), options, wanted, &mut reader, &mut writer);
+            ended(rt, Some(path), outcome)
+        }
+        Err(error) => {
+            let _ = eprintln!(rt; "packet_dump: {path}: {error}");
             ExitCode::from(1)
         }
     }
 }
 
-/// Writes the lines of a file, and the summary where it is wanted. How far the file was read is said where that takes
-/// long and nobody sees the lines come.
-fn dump_file<W: Write>(
-    rt: &HostRuntime,
-    view: View,
-    wanted: bool,
-    file: fs::File,
-    writer: &mut Watched<W>,
-) -> Result<Ending, RunError>
-    requires { has_failed writer.old ≡ false }
-    ensures write { (result ≡ Err RunError.Write) ↔ (has_failed writer.new ≡ true) }
-{
+/// How many bytes a file has, where it is told how far it was read: it takes long, nobody sees the lines come, and
+/// standard error is a terminal.
+fn shown_len(rt: &HostRuntime, file: &fs::File) -> Option<u64> {
     match file.metadata() {
-        Ok(metadata) if metadata.len() >= LONG && !rt.stdout().is_terminal() => {
-            let mut reader = Watched::new(Progress::new(file, rt, metadata.len()), MOST_READS);
-            dump_reader(rt.alloc(), view, wanted, &mut reader, writer)
+        Ok(metadata) if metadata.len() >= LONG && rt.stderr().is_terminal() => {
+            if rt.stdout().is_terminal() {
+                None
+            } else {
+                Some(metadata.len())
+            }
         }
-        _ => {
-            let mut reader = Watched::new(file, MOST_READS);
-            dump_reader(rt.alloc(), view, wanted, &mut reader, writer)
-        }
+        _ => None,
     }
 }
 
 /// Writes the lines of what a reader gives, which is read as often as may be, and the summary where it is wanted.
 fn dump_reader<R: Read, W: Write>(
     alloc: Global,
-    view: View,
+    options: DumpOptions,
     wanted: bool,
     reader: &mut Watched<R>,
     writer: &mut Watched<W>,
@@ -200,15 +208,15 @@ fn dump_reader<R: Read, W: Write>(
     requires reader_open { has_ended reader.old ≡ false }
     requires reads { reads_left reader.old ≡ 2 ^ 47 }
     requires writer_sound { has_failed writer.old ≡ false }
-    ensures ok { IfOk result (λ ending. Transfers (IsSummedDump wanted view (has_ended reader.new) ending)
+    ensures ok { IfOk result (λ ending. Transfers (IsSummedDump wanted options (has_ended reader.new) ending)
         R.remaining reader.old reader.new W.contents writer.old writer.new) }
-    ensures err { OnErr result (wanted ≡ false → Transfers (BeginsDump view) R.remaining reader.old reader.new
+    ensures err { OnErr result (wanted ≡ false → Transfers (BeginsDump options) R.remaining reader.old reader.new
         W.contents writer.old writer.new) }
     ensures read { (result ≡ Err RunError.Read) ↔ (has_failed reader.new ≡ true) }
     ensures write { (result ≡ Err RunError.Write) ↔ (has_failed writer.new ≡ true) }
 {
     let mut summary = Summary::new(alloc, wanted);
-    let ending = run(alloc, view, &mut summary, reader, writer)?;
+    let ending = run(alloc, options, &mut summary, reader, writer)?;
     if wanted {
         summarized(alloc, &summary, writer)?;
     }
@@ -231,32 +239,48 @@ fn summarized<W: Write>(
     writer.write_all(text.as_bytes())
 }
 
-/// How the program ends after a run.
-fn ended(rt: &impl Eprint, outcome: Result<Ending, RunError>) -> ExitCode
+/// How the program ends after a run over the file of this name, or over standard input. Why a read failed was said then.
+fn ended(rt: &impl Eprint, path: Option<&str>, outcome: Result<Ending, RunError>) -> ExitCode
     ensures { exit_status result ≡ status_of outcome }
 {
     match outcome {
         Ok(Ending::Whole | Ending::Enough) => ExitCode::SUCCESS,
         Ok(Ending::Broken { packets, error }) => {
-            let _ = eprintln!(rt; "packet_dump: {packets} packets were read; {error}");
+            let _ = match path {
+                Some(path) => {
+                    eprintln!(rt; "packet_dump: {path}: {packets} packets were read; {error}")
+                }
+                None => eprintln!(rt; "packet_dump: {packets} packets were read; {error}"),
+            };
             if let Some(line) = hint(error.refusal) {
                 let _ = rt.eprintln(line);
             }
             ExitCode::from(1)
         }
+        Err(RunError::Read) => ExitCode::from(1),
         Err(error) => said(rt, error_text(&error), 1),
     }
 }
 
-/// What can be done about a file that is not read.
+/// What can be done about a capture that is refused.
 fn hint(refusal: Refusal) -> Option<&'static str>
     ensures { option_copied result ≡ hint_text refusal }
 {
     match refusal {
-        Refusal::UnsupportedLinkType { .. } => Some(
-            "packet_dump: what is read is Ethernet, raw IP, and Linux cooked captures \
-            (tcpdump -y LINUX_SLL -i any)",
-        ),
+        Refusal::UnknownMagic { magic } => magic_hint(magic),
         _ => None,
+    }
+}
+
+/// What can be done about a file that begins so.
+fn magic_hint(magic: u32) -> Option<&'static str>
+    ensures { option_copied result ≡ magic_hint magic }
+{
+    if magic / 65_536 == 0x1f8b {
+        Some("packet_dump: it is compressed: gzip -dc FILE | packet_dump")
+    } else if magic == 0x28b5_2ffd {
+        Some("packet_dump: it is compressed: zstd -dc FILE | packet_dump")
+    } else {
+        None
     }
 }

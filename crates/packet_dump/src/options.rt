@@ -2,11 +2,11 @@
 
 ghost use Rattle.std.specs.Prelude.{◌≡◌, IfOk, IfErr, IfSome, IfNone, OnOk};
 ghost use Rattle.packet_dump.specs.Options.{Asked, Fault, IsRequest, IsValue, Item, RefusesWords, answer_of, asked_of};
-ghost use Rattle.packet_dump.specs.Options.{bad_value, fault_of, is_dashed, kind_name, option_word, texts, view_with};
+ghost use Rattle.packet_dump.specs.Options.{bad_value, fault_of, is_dashed, kind_name, option_word, texts, options_with};
 ghost use Rattle.packet_dump.specs.OptionSteps.{StepGives, finished, first_state, reading_state, step, word_named};
-ghost use Rattle.packet_dump.specs.declared.view.Kind.{Kind};
+ghost use Rattle.packet_dump.specs.declared.dump_options.Kind.{Kind};
 
-use crate::view::{Kind, View};
+use crate::dump_options::{DumpOptions, Kind};
 
 /// What a command line asks for.
 #[derive(Drop)]
@@ -17,7 +17,7 @@ pub enum Request<'a> {
     Version,
     /// The lines of a capture: of the file of this name, or of standard input where there is none.
     Dump {
-        view: View,
+        options: DumpOptions,
         path: Option<&'a str>,
         /// Whether a summary follows.
         summary: bool,
@@ -114,7 +114,7 @@ fn begins_with_dash(text: &str) -> bool
 /// What the words so far ask.
 #[derive(Drop)]
 pub struct Reading<'a> {
-    view: View,
+    options: DumpOptions,
     path: Option<&'a str>,
     summary: bool,
     /// Whether a file is named, or standard input.
@@ -129,7 +129,7 @@ impl<'a> Reading<'a> {
         ensures { reading_state result ≡ first_state }
     {
         Reading {
-            view: View {
+            options: DumpOptions {
                 only: None,
                 most: u64::MAX,
                 hex: false,
@@ -149,16 +149,16 @@ impl<'a> Reading<'a> {
         ensures { StepGives (step (reading_state self.old) text.now) (reading_state self.new) result }
     {
         if let Some(option) = self.awaited {
-            set(&mut self.view, option, text)?;
+            set(&mut self.options, option, text)?;
             self.awaited = None;
             return Ok(None);
         }
         match Word::of(text) {
             Word::Help => return Ok(Some(Request::Help)),
             Word::Version => return Ok(Some(Request::Version)),
-            Word::Hex => self.view.hex = true,
+            Word::Hex => self.options.hex = true,
             Word::Summary => self.summary = true,
-            Word::Reassemble => self.view.reassemble = true,
+            Word::Reassemble => self.options.reassemble = true,
             Word::Option(option) => self.awaited = Some(option),
             Word::Unknown => return Err(UsageError::UnknownOption(text)),
             Word::StandardInput | Word::File if self.is_named => {
@@ -180,7 +180,7 @@ impl<'a> Reading<'a> {
         match self.awaited {
             Some(option) => Err(UsageError::NoValue(option.word())),
             None => Ok(Request::Dump {
-                view: self.view,
+                options: self.options,
                 path: self.path,
                 summary: self.summary,
             }),
@@ -205,27 +205,27 @@ pub fn parse(words: &[String]) -> Result<Request<'_>, UsageError<'_>>
 }
 
 /// Sets an option to the value that a word says.
-fn set<'a>(view: &mut View, option: Awaited, text: &'a str) -> Result<(), UsageError<'a>>
-    ensures ok { OnOk result ((item : Item) × IsValue option text.now item × (view.new ≡ view_with view.old item)) }
+fn set<'a>(options: &mut DumpOptions, option: Awaited, text: &'a str) -> Result<(), UsageError<'a>>
+    ensures ok { OnOk result ((item : Item) × IsValue option text.now item × (options.new ≡ options_with options.old item)) }
     ensures err { IfErr result (λ error. fault_of error ≡ bad_value option text.now) }
     ensures bad { IfErr result (λ _. (item : Item) → IsValue option text.now item → ⊥) }
 {
     match option {
         Awaited::Count => {
-            view.most = text
+            options.most = text
                 .parse::<u64>()
                 .map_err(|_| UsageError::NotACount(text))?;
         }
         Awaited::Only => {
-            view.only = Some(kind_of(text).ok_or(UsageError::NotAKind(text))?);
+            options.only = Some(kind_of(text).ok_or(UsageError::NotAKind(text))?);
         }
         Awaited::Timeout => {
-            view.timeout = text
+            options.timeout = text
                 .parse::<u32>()
                 .map_err(|_| UsageError::NotATimeout(text))?;
         }
         Awaited::Limit => {
-            view.limit = text
+            options.limit = text
                 .parse::<u16>()
                 .map_err(|_| UsageError::NotALimit(text))?;
         }

@@ -2,99 +2,101 @@
 
 ghost use Rattle.std.specs.Prelude.{◌≡◌, ◌++◌, ℕ, IfOk, IsFalse, List, OnOk};
 ghost use Rattle.std.specs.Option.{option_map};
-ghost use Rattle.capture_reader.specs.Readers.{shown_of};
 ghost use Rattle.etherparse.specs.Pools.{plain_frame_answer, wants_memory};
 ghost use Rattle.etherparse.specs.FragmentRefusals.{is_want_of_memory};
 ghost use Rattle.etherparse.specs.IpDefragErrorTexts.{error_text};
 ghost use Rattle.etherparse.specs.Layers.{layers_of};
 ghost use Rattle.etherparse.specs.TransportParts.{payload_in, transport_layer_of};
-ghost use Rattle.packet_dump.specs.PacketLines.{start_text};
+ghost use Rattle.packet_dump.specs.PacketLines.{parts_start};
 ghost use Rattle.packet_dump.specs.PoolLines.{Inner, IsAnswerText, IsInner, closing_text, frame_error, inner_text};
 ghost use Rattle.packet_dump.specs.PoolLines.{opening_text, part, payload_line, payload_text, pool_refusal_text};
 ghost use Rattle.packet_dump.specs.PoolLines.{refused_line, unread, unread_text};
 
+use crate::dump_options::{DumpOptions, Kind};
 use crate::layers::{push_outer, push_protocol};
-use crate::lines::{push_rows, push_start};
+use crate::lines::{LineParts, push_rows, push_start};
 use crate::refusals::push_refusal;
 use crate::transports::{push_len, push_transport};
-use crate::view::{Kind, View};
-use capture_reader::Shown;
 use etherparse::defrag::{IpDefragError, IpDefragPayloadVec};
 use etherparse::err::packet::SliceError;
 use etherparse::err::tcp::HeaderSliceError;
 use etherparse::{IpNumber, SlicedPacket, TransportSlice};
 use std::alloc::{AllocError, Global};
 
+/// What lines behind that of a packet are made from.
+#[derive(Clone, Copy)]
+struct Further<'a, 'b> {
+    options: DumpOptions,
+    /// What they begin with.
+    start: &'a [u8],
+    /// The packet's layers.
+    sliced: &'a SlicedPacket<'b>,
+}
+
 /// Appends what the pool answered to a frame: the line of a payload that was put together, or of a fragment that is
 /// refused. Want of memory has none, and is an error here.
 pub fn push_answer(
     output: &mut Vec<u8>,
-    view: &View,
-    number: u64,
-    first: Option<u128>,
-    shown: &Shown<'_>,
+    options: &DumpOptions,
+    parts: &LineParts<'_>,
     sliced: &SlicedPacket<'_>,
     answer: &Result<Option<IpDefragPayloadVec>, IpDefragError>,
 ) -> Result<(), AllocError>
     ensures memory { OnOk result (IsFalse (wants_memory answer.now)) }
     ensures text { OnOk result ((text : List ℕ)
-        × IsAnswerText view.now (start_text number first (shown_of shown.now)) (layers_of sliced.now)
-        (plain_frame_answer answer.now) text × (output.new.items ≡ output.old.items ++ text)) }
+        × IsAnswerText options.now (parts_start parts.now) (layers_of sliced.now) (plain_frame_answer answer.now) text
+        × (output.new.items ≡ output.old.items ++ text)) }
 {
     if let Ok(None) = answer {
         return Ok(());
     }
-    let start = start_of(*output.allocator(), number, first, shown)?;
-    push_told(output, view, start.as_slice(), sliced, answer)
+    let start = start_of(*output.allocator(), parts)?;
+    let further = Further {
+        options: *options,
+        start: start.as_slice(),
+        sliced,
+    };
+    push_answer_line(output, &further, answer)
 }
 
 /// What the line of a packet begins with.
-fn start_of(
-    alloc: Global,
-    number: u64,
-    first: Option<u128>,
-    shown: &Shown<'_>,
-) -> Result<Vec<u8>, AllocError>
-    ensures { IfOk result (λ start. start.items ≡ start_text number first (shown_of shown.now)) }
+fn start_of(alloc: Global, parts: &LineParts<'_>) -> Result<Vec<u8>, AllocError>
+    ensures { IfOk result (λ start. start.items ≡ parts_start parts.now) }
 {
     let mut start = Vec::new(alloc);
-    push_start(&mut start, number, first, shown)?;
+    push_start(&mut start, parts)?;
     Ok(start)
 }
 
-/// The same of a line that begins so.
-fn push_told(
+/// Appends the line of an answer, if it has one.
+fn push_answer_line(
     output: &mut Vec<u8>,
-    view: &View,
-    start: &[u8],
-    sliced: &SlicedPacket<'_>,
+    further: &Further<'_, '_>,
     answer: &Result<Option<IpDefragPayloadVec>, IpDefragError>,
 ) -> Result<(), AllocError>
     ensures memory { OnOk result (IsFalse (wants_memory answer.now)) }
     ensures text { OnOk result ((text : List ℕ)
-        × IsAnswerText view.now start.now (layers_of sliced.now) (plain_frame_answer answer.now) text
-        × (output.new.items ≡ output.old.items ++ text)) }
+        × IsAnswerText further.now.options further.now.start.now (layers_of further.now.sliced.now)
+        (plain_frame_answer answer.now) text × (output.new.items ≡ output.old.items ++ text)) }
 {
     match answer {
-        Ok(found) => push_found(output, view, start, sliced, found),
-        Err(error) => push_pool_error(output, view, start, sliced, error),
+        Ok(found) => push_found(output, further, found),
+        Err(error) => push_pool_error(output, further, error),
     }
 }
 
 /// Appends the line of a payload, where one was put together.
 fn push_found(
     output: &mut Vec<u8>,
-    view: &View,
-    start: &[u8],
-    sliced: &SlicedPacket<'_>,
+    further: &Further<'_, '_>,
     found: &Option<IpDefragPayloadVec>,
 ) -> Result<(), AllocError>
     ensures { OnOk result ((text : List ℕ)
-        × IsAnswerText view.now start.now (layers_of sliced.now) (plain_frame_answer (Ok found.now)) text
-        × (output.new.items ≡ output.old.items ++ text)) }
+        × IsAnswerText further.now.options further.now.start.now (layers_of further.now.sliced.now)
+        (plain_frame_answer (Ok found.now)) text × (output.new.items ≡ output.old.items ++ text)) }
 {
     match found {
-        Some(payload) => push_payload(output, view, start, sliced, payload),
+        Some(payload) => push_payload(output, further, payload),
         None => Ok(()),
     }
 }
@@ -102,45 +104,42 @@ fn push_found(
 /// Appends the line of a payload that was put together.
 fn push_payload(
     output: &mut Vec<u8>,
-    view: &View,
-    start: &[u8],
-    sliced: &SlicedPacket<'_>,
+    further: &Further<'_, '_>,
     payload: &IpDefragPayloadVec,
 ) -> Result<(), AllocError>
     ensures { OnOk result ((inner : Inner) × IsInner payload.now.ip_number.0 payload.now.payload.items inner
-        × (output.new.items ≡ output.old.items ++ payload_line view.now start.now (layers_of sliced.now)
-        payload.now.ip_number.0 payload.now.payload.items inner)) }
+        × (output.new.items ≡ output.old.items ++ payload_line further.now.options further.now.start.now
+        (layers_of further.now.sliced.now) payload.now.ip_number.0 payload.now.payload.items inner)) }
 {
     let bytes = payload.payload.as_slice();
     match TransportSlice::from_ip_number(payload.ip_number, false, bytes) {
-        Ok(part) => push_part(output, view, start, sliced, payload.ip_number, bytes, &part),
-        Err(error) => push_unread(output, view, start, sliced, payload.ip_number, bytes, error),
+        Ok(part) => push_part(output, further, payload.ip_number, bytes, &part),
+        Err(error) => push_unread(output, further, payload.ip_number, bytes, error),
     }
 }
 
 /// Appends the line of a payload that has a transport layer, or need have none.
 fn push_part(
     output: &mut Vec<u8>,
-    view: &View,
-    start: &[u8],
-    sliced: &SlicedPacket<'_>,
+    further: &Further<'_, '_>,
     number: IpNumber,
     bytes: &[u8],
     transport: &Option<TransportSlice<'_>>,
 ) -> Result<(), AllocError>
-    ensures { OnOk result (output.new.items ≡ output.old.items ++ payload_line view.now start.now
-        (layers_of sliced.now) number.0 bytes.now (part (option_map transport_layer_of transport.now))) }
+    ensures { OnOk result (output.new.items ≡ output.old.items ++ payload_line further.now.options further.now.start.now
+        (layers_of further.now.sliced.now) number.0 bytes.now
+        (part (option_map transport_layer_of transport.now))) }
 {
-    if !view.shows(Kind::of_part(transport)) {
+    if !further.options.shows(Kind::of_part(transport)) {
         return Ok(());
     }
-    push_opening(output, start, sliced)?;
-    push_part_said(output, number, bytes, transport)?;
-    push_closing(output, view.hex, bytes_of_part(bytes, transport))
+    push_opening(output, further)?;
+    push_reassembled(output, number, bytes, transport)?;
+    push_closing(output, further.options.hex, bytes_of_part(bytes, transport))
 }
 
-/// Appends what is said of a payload that has a transport layer, or need have none.
-fn push_part_said(
+/// Appends what is told of a payload that has a transport layer, or need have none.
+fn push_reassembled(
     output: &mut Vec<u8>,
     number: IpNumber,
     bytes: &[u8],
@@ -185,26 +184,24 @@ fn bytes_of_part<'a>(bytes: &'a [u8], transport: &Option<TransportSlice<'a>>) ->
 /// Appends the line of a payload that has no transport layer where it must have one.
 fn push_unread(
     output: &mut Vec<u8>,
-    view: &View,
-    start: &[u8],
-    sliced: &SlicedPacket<'_>,
+    further: &Further<'_, '_>,
     number: IpNumber,
     bytes: &[u8],
     error: HeaderSliceError,
 ) -> Result<(), AllocError>
-    ensures { OnOk result (output.new.items ≡ output.old.items ++ payload_line view.now start.now
-        (layers_of sliced.now) number.0 bytes.now (unread error)) }
+    ensures { OnOk result (output.new.items ≡ output.old.items ++ payload_line further.now.options further.now.start.now
+        (layers_of further.now.sliced.now) number.0 bytes.now (unread error)) }
 {
-    if !view.shows(Some(Kind::Refused)) {
+    if !further.options.shows(Some(Kind::Refused)) {
         return Ok(());
     }
-    push_opening(output, start, sliced)?;
-    push_unread_said(output, error)?;
-    push_closing(output, view.hex, bytes)
+    push_opening(output, further)?;
+    push_reassembled_refusal(output, error)?;
+    push_closing(output, further.options.hex, bytes)
 }
 
-/// Appends what is said of a payload that has no transport layer where it must have one.
-fn push_unread_said(output: &mut Vec<u8>, error: HeaderSliceError) -> Result<(), AllocError>
+/// Appends why a payload has no transport layer where it must have one.
+fn push_reassembled_refusal(output: &mut Vec<u8>, error: HeaderSliceError) -> Result<(), AllocError>
     ensures { OnOk result (output.new.items ≡ output.old.items ++ unread_text error) }
 {
     output.extend_from_slice(b" reassembled")?;
@@ -224,24 +221,22 @@ fn frame_error(error: HeaderSliceError) -> SliceError
 /// Appends the line of a fragment that the pool refuses. Want of memory has none, and is an error here.
 fn push_pool_error(
     output: &mut Vec<u8>,
-    view: &View,
-    start: &[u8],
-    sliced: &SlicedPacket<'_>,
+    further: &Further<'_, '_>,
     error: &IpDefragError,
 ) -> Result<(), AllocError>
     ensures memory { OnOk result (IsFalse (is_want_of_memory error.now)) }
-    ensures text { OnOk result (output.new.items
-        ≡ output.old.items ++ refused_line view.now start.now (layers_of sliced.now) error.now) }
+    ensures text { OnOk result (output.new.items ≡ output.old.items ++ refused_line further.now.options
+        further.now.start.now (layers_of further.now.sliced.now) error.now) }
 {
     if let IpDefragError::AllocationFailure { .. } = error {
         return Err(AllocError);
     }
-    if !view.shows(Some(Kind::Refused)) {
+    if !further.options.shows(Some(Kind::Refused)) {
         return Ok(());
     }
-    push_opening(output, start, sliced)?;
+    push_opening(output, further)?;
     push_pool_refusal(output, error)?;
-    push_closing(output, view.hex, b"")
+    push_closing(output, further.options.hex, b"")
 }
 
 /// Appends why a fragment is refused, in the words of the error.
@@ -261,16 +256,12 @@ fn push_pool_reason(output: &mut Vec<u8>, error: &IpDefragError) -> Result<(), A
 }
 
 /// Appends what a line begins with that stands behind that of a packet, and the packet's layers outside its IP payload.
-fn push_opening(
-    output: &mut Vec<u8>,
-    start: &[u8],
-    sliced: &SlicedPacket<'_>,
-) -> Result<(), AllocError>
+fn push_opening(output: &mut Vec<u8>, further: &Further<'_, '_>) -> Result<(), AllocError>
     ensures { OnOk result (output.new.items
-        ≡ output.old.items ++ opening_text start.now (layers_of sliced.now)) }
+        ≡ output.old.items ++ opening_text further.now.start.now (layers_of further.now.sliced.now)) }
 {
-    output.extend_from_slice(start)?;
-    push_outer(output, sliced)
+    output.extend_from_slice(further.start)?;
+    push_outer(output, further.sliced)
 }
 
 /// Appends what it ends with: bytes where they are wanted, and the line feed.

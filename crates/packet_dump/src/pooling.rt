@@ -1,16 +1,16 @@
 //! The pool in which fragments are put together.
 
 ghost use Rattle.std.specs.Prelude.{◌≡◌, ◌++◌, nat_le, ℕ, List, OnOk};
-ghost use Rattle.capture_reader.specs.Readers.{shown_of};
 ghost use Rattle.etherparse.specs.Layers.{layers_of};
-ghost use Rattle.packet_dump.specs.PacketLines.{start_text};
+ghost use Rattle.packet_dump.specs.PacketLines.{parts_start};
 ghost use Rattle.packet_dump.specs.PacketCalls.{PoolHistory, frame_call, new_pool, with_call, with_sweep};
 ghost use Rattle.packet_dump.specs.PoolLines.{GivesFrame, IsCallText, oldest_from};
 ghost use Rattle.packet_dump.specs.Sessions.{HoldsPooling};
 
+use crate::dump_options::DumpOptions;
+use crate::lines::LineParts;
 use crate::pool_lines::push_answer;
-use crate::view::View;
-use capture_reader::Shown;
+use crate::summary::Fragments;
 use etherparse::SlicedPacket;
 use etherparse::defrag::{IpDefragError, IpDefragPayloadVec, IpDefragPool};
 use etherparse::laws::defrag::one_more_call;
@@ -28,6 +28,8 @@ pub struct Pooling {
     reassembled: u64,
     /// How many fragments were refused.
     refused: u64,
+    /// How many streams were dropped that were not complete.
+    given_up: u64,
 }
 
 impl Pooling {
@@ -40,49 +42,45 @@ impl Pooling {
             swept: 0,
             reassembled: 0,
             refused: 0,
+            given_up: 0,
         }
     }
 
-    /// Gives a frame that came at an instant to the pool, behind a drop of what is too old where a second began, and
-    /// appends what it answers. A payload that is handed out goes back to the pool.
+    /// Gives the frame of a packet to the pool at the latest instant, behind a drop of what is too old where a second
+    /// began, and appends what it answers. A payload that is handed out goes back to the pool.
     pub fn give(
         &mut self,
         output: &mut Vec<u8>,
-        view: &View,
-        number: u64,
-        first: Option<u128>,
-        this: u128,
-        shown: &Shown<'_>,
+        options: &DumpOptions,
+        parts: &LineParts<'_>,
         sliced: &SlicedPacket<'_>,
     ) -> Result<(), AllocError>
         ensures { OnOk result ((before : PoolHistory) → HoldsPooling before self.old →
             (text : List ℕ) × (after : PoolHistory)
-            × GivesFrame view.now (start_text number first (shown_of shown.now)) before this (layers_of sliced.now)
+            × GivesFrame options.now (parts_start parts.now) before parts.now.latest (layers_of sliced.now)
             text after × HoldsPooling after self.new × (output.new.items ≡ output.old.items ++ text)) }
     {
-        self.sweep(this / 1_000_000_000, oldest_from(view, this));
-        self.give_at(output, view, number, first, this, shown, sliced)
+        let this = parts.latest;
+        self.sweep(this / 1_000_000_000, oldest_from(options, this));
+        self.give_at(output, options, parts, sliced)
     }
 
-    /// Gives a frame that came at an instant to the pool, and appends what it answers.
+    /// Gives the frame of a packet to the pool, and appends what it answers.
     fn give_at(
         &mut self,
         output: &mut Vec<u8>,
-        view: &View,
-        number: u64,
-        first: Option<u128>,
-        this: u128,
-        shown: &Shown<'_>,
+        options: &DumpOptions,
+        parts: &LineParts<'_>,
         sliced: &SlicedPacket<'_>,
     ) -> Result<(), AllocError>
         ensures { OnOk result ((before : PoolHistory) → HoldsPooling before self.old → (text : List ℕ)
-            × IsCallText view.now (start_text number first (shown_of shown.now)) before (layers_of sliced.now) this text
-            × HoldsPooling (with_call before (frame_call (layers_of sliced.now) this)) self.new
+            × IsCallText options.now (parts_start parts.now) before (layers_of sliced.now) parts.now.latest text
+            × HoldsPooling (with_call before (frame_call (layers_of sliced.now) parts.now.latest)) self.new
             × (output.new.items ≡ output.old.items ++ text)) }
     {
         one_more_call::<u128, u64, u128>();
-        let answer = self.pool.process_sliced_packet(sliced, this, 0);
-        push_answer(output, view, number, first, shown, sliced, &answer)?;
+        let answer = self.pool.process_sliced_packet(sliced, parts.latest, 0);
+        push_answer(output, options, parts, sliced, &answer)?;
         self.give_back(answer);
         Ok(())
     }
@@ -98,11 +96,19 @@ impl Pooling {
         }
         one_more_call::<u128, u64, u128>();
         self.swept = second;
+        let given_up = Cell::new(self.given_up);
         self.pool.retain(
             |kept: &u128| -> bool
                 ensures { result ≡ nat_le oldest kept.now }
-            { *kept >= oldest },
+            {
+                let stays = *kept >= oldest;
+                if !stays {
+                    given_up.set(given_up.get().saturating_add(1));
+                }
+                stays
+            },
         );
+        self.given_up = given_up.get();
     }
 
     /// Counts an answer, and gives its payload back to the pool, if it has one.
@@ -119,18 +125,18 @@ impl Pooling {
         }
     }
 
-    /// How many payloads were handed out.
-    pub fn reassembled(&self) -> u64 {
-        self.reassembled
-    }
-
-    /// How many fragments were refused.
-    pub fn refused(&self) -> u64 {
-        self.refused
+    /// What became of fragments.
+    pub fn fragments(&mut self) -> Fragments {
+        Fragments {
+            reassembled: self.reassembled,
+            not_reassembled: self.refused,
+            given_up: self.given_up,
+            open: self.open(),
+        }
     }
 
     /// How many streams are not complete.
-    pub fn open(&mut self) -> u64 {
+    fn open(&mut self) -> u64 {
         let streams = Cell::new(0_u64);
         self.pool.retain(|_: &u128| -> bool {
             streams.set(streams.get().saturating_add(1));
@@ -141,8 +147,8 @@ impl Pooling {
 }
 
 /// The instant before which a stream is too old, at a packet of this one.
-fn oldest_from(view: &View, this: u128) -> u128
-    ensures { result ≡ oldest_from view.now this }
+fn oldest_from(options: &DumpOptions, this: u128) -> u128
+    ensures { result ≡ oldest_from options.now this }
 {
-    this.saturating_sub(u128::from(view.timeout) * 1_000_000_000)
+    this.saturating_sub(u128::from(options.timeout) * 1_000_000_000)
 }

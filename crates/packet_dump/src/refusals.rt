@@ -1,19 +1,37 @@
 //! The text of a refusal.
 
 ghost use Rattle.std.specs.Prelude.{◌≡◌, ◌++◌, OnOk};
-ghost use Rattle.packet_dump.specs.SliceErrorTexts.{len_error_text, limit_text, needed_text, reason_text, refusal_text};
+ghost use Rattle.packet_dump.specs.SliceErrorTexts.{len_error_text, limit_text, needed_text, reason_text, refusal_text, refused_layer};
 
 use etherparse::err::packet::SliceError;
 use etherparse::err::{LenError, ip, ip_auth, ipv4, ipv6, ipv6_exts, linux_sll, macsec, tcp};
 use line_io::decimals;
 use std::alloc::AllocError;
 
-/// Appends the text of a refusal, a space before it.
+/// Appends the text of a refusal, a space before it: the layer's name, and the words of the error.
 pub fn push_refusal(output: &mut Vec<u8>, error: &SliceError) -> Result<(), AllocError>
     ensures { OnOk result (output.new.items ≡ output.old.items ++ refusal_text error.now) }
 {
     output.extend_from_slice(b" refused ")?;
+    output.extend_from_slice(refused_layer(error).as_bytes())?;
     push_reason(output, error)
+}
+
+/// The layer that is refused, which the words of an error do not name but where bytes are missing.
+fn refused_layer(error: &SliceError) -> &'static str
+    ensures { result.now ≡ refused_layer error.now }
+{
+    match error {
+        SliceError::Len(_) => "",
+        SliceError::LinuxSll(_) => "LinuxSll ",
+        SliceError::Macsec(_) => "Macsec ",
+        SliceError::Ip(_) => "Ip ",
+        SliceError::Ipv4(_) => "Ipv4 ",
+        SliceError::Ipv6(_) => "Ipv6 ",
+        SliceError::Ipv4Exts(_) => "Ipv4Exts ",
+        SliceError::Ipv6Exts(_) => "Ipv6Exts ",
+        SliceError::Tcp(_) => "Tcp ",
+    }
 }
 
 /// Appends why bytes are refused, in the words of the error. It costs what is written, where `write!` costs several

@@ -7,14 +7,14 @@ ghost use Rattle.packet_dump.specs.Dumps.{AreAllTexts};
 ghost use Rattle.packet_dump.specs.PacketCalls.{PoolHistory, new_pool};
 ghost use Rattle.packet_dump.specs.Sessions.{Counts, Drains, HoldsPooling, PushesLine, Stands, ending_of, ends_run};
 ghost use Rattle.packet_dump.specs.Sessions.{taken_by};
-ghost use Rattle.packet_dump.specs.declared.view.View.{View};
+ghost use Rattle.packet_dump.specs.declared.dump_options.DumpOptions.{DumpOptions};
 
+use crate::dump_options::DumpOptions;
 use crate::ending::Ending;
-use crate::lines::push_line;
+use crate::lines::{LineParts, push_line};
 use crate::pooling::Pooling;
 use crate::shown::{first_after, instant_in, latest_after};
 use crate::summary::Summary;
-use crate::view::View;
 use capture_reader::{Advance, CaptureError, CaptureReader};
 use std::alloc::{AllocError, Global};
 
@@ -46,7 +46,7 @@ impl Standing {
 /// The reader of a capture, how many packets it read, when the first and the last came, and the pool of fragments.
 #[derive(Drop)]
 pub struct Session {
-    view: View,
+    options: DumpOptions,
     capture: CaptureReader,
     number: u64,
     /// When the first packet came of which that is known, in nanoseconds.
@@ -60,18 +60,18 @@ pub struct Session {
 
 impl Session {
     /// Nothing was read.
-    pub fn new(alloc: Global, view: View) -> Session
-        ensures stands { Stands view result [] [] (new_pool view.limit) }
+    pub fn new(alloc: Global, options: DumpOptions) -> Session
+        ensures stands { Stands options result [] [] (new_pool options.limit) }
         ensures taken { taken_by result ≡ 0 }
         ensures counts { Counts result }
     {
         Session {
-            view,
+            options,
             capture: CaptureReader::new(alloc),
             number: 0,
             first: None,
             latest: 0,
-            pooling: Pooling::new(alloc, view.limit),
+            pooling: Pooling::new(alloc, options.limit),
             output: Vec::new(alloc),
         }
     }
@@ -79,8 +79,8 @@ impl Session {
     /// Takes the next bytes.
     pub fn take(&mut self, piece: &[u8]) -> Result<(), AllocError>
         requires room { taken_by self.old + length piece.now < 2 ^ 64 }
-        ensures stands { OnOk result ((view : View) (read : List ℕ) (items : List Item) (history : PoolHistory) →
-            Stands view self.old read items history → Stands view self.new (read ++ piece.now) items history) }
+        ensures stands { OnOk result ((options : DumpOptions) (read : List ℕ) (items : List Item) (history : PoolHistory) →
+            Stands options self.old read items history → Stands options self.new (read ++ piece.now) items history) }
         ensures taken { OnOk result (taken_by self.new ≡ taken_by self.old + length piece.now) }
         ensures counts { Counts self.old → Counts self.new }
     {
@@ -91,15 +91,15 @@ impl Session {
     pub fn drain(&mut self, summary: &mut Summary) -> Result<Standing, AllocError>
         requires room { taken_by self.old < 2 ^ 64 }
         requires counts { Counts self.old }
-        ensures drains { IfOk result (λ standing. (view : View) (read : List ℕ) (items : List Item) (text : List ℕ)
-            (history : PoolHistory) → Stands view self.old read items history →
-            AreAllTexts view items text history → Drains view self.new standing read items text) }
+        ensures drains { IfOk result (λ standing. (options : DumpOptions) (read : List ℕ) (items : List Item) (text : List ℕ)
+            (history : PoolHistory) → Stands options self.old read items history →
+            AreAllTexts options items text history → Drains options self.new standing read items text) }
         ensures taken { OnOk result (taken_by self.new ≡ taken_by self.old) }
         ensures counts { OnOk result (Counts self.new) }
     {
         self.output.clear();
         'items: loop {
-            if self.number == self.view.most {
+            if self.number == self.options.most {
                 return Ok(Standing::Enough);
             }
             match self.capture.advance() {
@@ -128,7 +128,9 @@ impl Session {
 
     /// Counts what became of fragments.
     pub fn count_pool(&mut self, summary: &mut Summary) {
-        summary.count_pool(&mut self.pooling);
+        if self.options.reassemble {
+            summary.count_fragments(self.pooling.fragments());
+        }
     }
 
     /// Appends the line of the packet that was read last.
@@ -147,16 +149,19 @@ impl Session {
         self.number += 1;
         self.first = first;
         self.latest = latest;
-        let view = self.view;
+        let options = self.options;
+        let parts = LineParts {
+            number: self.number,
+            first,
+            latest,
+            shown,
+        };
         push_line(
             &mut self.output,
             &mut self.pooling,
             summary,
-            &view,
-            self.number,
-            first,
-            latest,
-            &shown,
+            &options,
+            &parts,
         )
     }
 }

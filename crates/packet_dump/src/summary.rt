@@ -3,7 +3,6 @@
 ghost use Rattle.std.specs.Prelude.{◌≡◌, ◌+◌, ◌-◌, ◌^◌, min};
 ghost use Rattle.packet_dump.specs.SliceErrorTexts.{error_name};
 
-use crate::pooling::Pooling;
 use capture_reader::Shown;
 use etherparse::err::packet::SliceError;
 use etherparse::err::{ip, ip_auth, ipv4, ipv6_exts, linux_sll, macsec};
@@ -41,11 +40,23 @@ pub struct Summary {
     refused: u64,
     /// How often packets were refused with each error, by its name.
     errors: Vec<(&'static str, u64)>,
-    reassembled: u64,
+    /// How many packets were not read, by their link type.
+    unread: Vec<(u16, u64)>,
+    /// What became of fragments, where payloads are put together.
+    fragments: Option<Fragments>,
+}
+
+/// What became of fragments.
+#[derive(Clone, Copy)]
+pub struct Fragments {
+    /// How many payloads were put together.
+    pub reassembled: u64,
     /// How many fragments the pool refused.
-    not_reassembled: u64,
-    /// How many streams of fragments were not complete at the end.
-    open: u64,
+    pub not_reassembled: u64,
+    /// How many streams were given up that were not complete.
+    pub given_up: u64,
+    /// How many streams were not complete at the end.
+    pub open: u64,
 }
 
 impl Summary {
@@ -72,9 +83,8 @@ impl Summary {
             },
             refused: 0,
             errors: Vec::new(alloc),
-            reassembled: 0,
-            not_reassembled: 0,
-            open: 0,
+            unread: Vec::new(alloc),
+            fragments: None,
         }
     }
 
@@ -87,10 +97,13 @@ impl Summary {
         }
     }
 
-    /// Counts the layers of a frame.
-    pub fn count_frame(&mut self, frame: &SlicedPacket<'_>) {
+    /// Counts the layers of a frame, in front of which the header of a Linux cooked capture may stand.
+    pub fn count_frame(&mut self, frame: &SlicedPacket<'_>, cooked: bool) {
         if self.wanted {
             self.layers.count(frame);
+            if cooked {
+                more(&mut self.layers.linux_sll, 1);
+            }
         }
     }
 
@@ -111,12 +124,25 @@ impl Summary {
         Ok(())
     }
 
+    /// Counts a packet of a link type that is not read.
+    pub fn count_unread(&mut self, link_type: u16) -> Result<(), AllocError> {
+        if !self.wanted {
+            return Ok(());
+        }
+        for (known, times) in self.unread.iter_mut() {
+            if *known == link_type {
+                more(times, 1);
+                return Ok(());
+            }
+        }
+        self.unread.push((link_type, 1))?;
+        Ok(())
+    }
+
     /// Counts what became of fragments.
-    pub fn count_pool(&mut self, pooling: &mut Pooling) {
+    pub fn count_fragments(&mut self, fragments: Fragments) {
         if self.wanted {
-            self.reassembled = pooling.reassembled();
-            self.not_reassembled = pooling.refused();
-            self.open = pooling.open();
+            self.fragments = Some(fragments);
         }
     }
 
@@ -131,10 +157,29 @@ impl Summary {
             text.push_str("  ")?;
             push_count(&mut text, name, *times)?;
         }
-        push_count(&mut text, "reassembled", self.reassembled)?;
-        push_count(&mut text, "not reassembled", self.not_reassembled)?;
-        push_count(&mut text, "streams open", self.open)?;
+        self.push_unread(&mut text)?;
+        if let Some(fragments) = &self.fragments {
+            push_count(&mut text, "reassembled", fragments.reassembled)?;
+            push_count(&mut text, "not reassembled", fragments.not_reassembled)?;
+            push_count(&mut text, "given up", fragments.given_up)?;
+            push_count(&mut text, "open at the end", fragments.open)?;
+        }
         Ok(text)
+    }
+
+    /// Appends how many packets were not read, by their link types, where there were any.
+    fn push_unread(&self, text: &mut String) -> Result<(), AllocError> {
+        let mut all = 0;
+        for (_, times) in &self.unread {
+            more(&mut all, *times);
+        }
+        if all > 0 {
+            push_count(text, "not read", all)?;
+        }
+        for (link_type, times) in &self.unread {
+            write!(text, "  link {link_type}: {times}\n")?;
+        }
+        Ok(())
     }
 }
 

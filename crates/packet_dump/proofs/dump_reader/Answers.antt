@@ -13,10 +13,10 @@ returns-clause-ok g c =
     elim c.if-wanted.branch [
       | then-wanted+in_ok-summarized w ↦
           rw w.writer-is
-          (Moves-summed c.args.wanted c.args.view ended c.in_ok-ending.ending had has held holds
+          (Moves-summed c.args.wanted c.args.options ended c.in_ok-ending.ending had has held holds
           (g.W.Write.contents (inner_of w.summarized.new.writer)) w.if-wanted.true c.in_ok-ending.ensures.ok
           w.in_ok-summarized.ensures.all)
       | else-wanted w ↦
           rw w.writer-is
-          (Moves-unsummed c.args.wanted c.args.view ended c.in_ok-ending.ending had has held holds c.in_ok-ending.ensures.ok)
+          (Moves-unsummed c.args.wanted c.args.options ended c.in_ok-ending.ending had has held holds c.in_ok-ending.ensures.ok)
     ]

@@ -12,7 +12,7 @@ use Rattle.packet_dump.proofs.engine.run.Goals as goal
 
 pub pieces-init : goal.pieces-init
 pieces-init g c = (
-  Moves-new c.args.view c.new-session.result (g.R.Read.remaining (inner_of c.args.reader.now))
+  Moves-new c.args.options c.new-session.result (g.R.Read.remaining (inner_of c.args.reader.now))
       (g.W.Write.contents (inner_of c.args.writer.now)) c.new-session.ensures.stands,
   c.requires.reader_sound,
   c.requires.writer_sound,
@@ -29,7 +29,7 @@ returns-in_err-write_all-clause-err g c =
     let holds = contents (inner_of c.pieces.writer) in
     let then_holds = contents (inner_of c.write_all.new.self) in
     at_exit c.from_residual-in_err-write_all.result
-    (Moves-front c.args.view c.pieces.session c.drain.new.self c.in_ok-standing.standing (remaining (inner_of c.args.reader.now))
+    (Moves-front c.args.options c.pieces.session c.drain.new.self c.in_ok-standing.standing (remaining (inner_of c.args.reader.now))
     (remaining (inner_of c.pieces.reader)) (contents (inner_of c.args.writer.now)) holds then_holds
     c.pieces.invariant.0 c.in_ok-standing.ensures.drains
     (subst (AppendsFront holds then_holds) c.as_slice.ensures.value c.in_err-write_all.ensures.front))
@@ -43,9 +43,9 @@ returns-then-ends_run-clause-ok g c =
     let held = contents (inner_of c.args.writer.now) in
     let holds = contents (inner_of c.pieces.writer) in
     let then_holds = contents (inner_of c.write_all.new.self) in
-    subst (λ e. Moves (IsDump c.args.view (has_ended c.pieces.reader) e) had has held then_holds)
+    subst (λ e. Moves (IsDump c.args.options (has_ended c.pieces.reader) e) had has held then_holds)
     (sym c.ending-ending.ensures)
-    (Moves-ended c.args.view (has_ended c.pieces.reader) c.pieces.session c.drain.new.self c.in_ok-standing.standing had has held holds then_holds
+    (Moves-ended c.args.options (has_ended c.pieces.reader) c.pieces.session c.drain.new.self c.in_ok-standing.standing had has held holds then_holds
     c.pieces.invariant.0 c.in_ok-standing.ensures.drains
     (subst (λ e. ends_run c.in_ok-standing.standing e ≡ true) c.ended.ensures (sym c.if-ends_run.ensures))
     (subst (Appends holds then_holds) c.as_slice.ensures.value c.in_ok-write_all.ensures.all))
@@ -61,9 +61,9 @@ returns-in_err-count-clause-err g c =
     let holds = contents (inner_of c.pieces.writer) in
     let then_holds = contents (inner_of c.write_all.new.self) in
     at_exit c.from_residual-in_err-count.result
-    (Moves-begun c.args.view c.drain.new.self had then_has held then_holds
-    (Moves-kept c.args.view c.drain.new.self had has then_has held then_holds
-    (Moves-drained c.args.view c.pieces.session c.drain.new.self c.in_ok-standing.standing had has held holds then_holds
+    (Moves-begun c.args.options c.drain.new.self had then_has held then_holds
+    (Moves-kept c.args.options c.drain.new.self had has then_has held then_holds
+    (Moves-drained c.args.options c.pieces.session c.drain.new.self c.in_ok-standing.standing had has held holds then_holds
     c.pieces.invariant.0 c.in_ok-standing.ensures.drains
     (subst (Appends holds then_holds) c.as_slice.ensures.value c.in_ok-write_all.ensures.all))
     c.in_err-count.ensures.bytes))
@@ -79,8 +79,8 @@ returns-in_err-take-clause-err g c =
     let holds = contents (inner_of c.pieces.writer) in
     let then_holds = contents (inner_of c.write_all.new.self) in
     at_exit c.from_residual-in_err-take.result
-    (Moves-piece c.args.view c.drain.new.self (take c.in_ok-count.count c.read.new.piece) had has then_has held then_holds
-    (Moves-drained c.args.view c.pieces.session c.drain.new.self c.in_ok-standing.standing had has held holds then_holds
+    (Moves-piece c.args.options c.drain.new.self (take c.in_ok-count.count c.read.new.piece) had has then_has held then_holds
+    (Moves-drained c.args.options c.pieces.session c.drain.new.self c.in_ok-standing.standing had has held holds then_holds
     c.pieces.invariant.0 c.in_ok-standing.ensures.drains
     (subst (Appends holds then_holds) c.as_slice.ensures.value c.in_ok-write_all.ensures.all))
     c.in_ok-count.ensures.bytes.0)
@@ -99,9 +99,9 @@ pieces-preserved g c =
     let taken = c.in_ok-take.ensures in
     let counted = c.in_ok-count.ensures.counted in
     let before = c.pieces.invariant.5 in (
-      Moves-taken c.args.view c.drain.new.self c.take.new.self (take c.in_ok-count.count c.read.new.piece) had has then_has held
+      Moves-taken c.args.options c.drain.new.self c.take.new.self (take c.in_ok-count.count c.read.new.piece) had has then_has held
           then_holds
-          (Moves-drained c.args.view c.pieces.session c.drain.new.self c.in_ok-standing.standing had has held holds then_holds
+          (Moves-drained c.args.options c.pieces.session c.drain.new.self c.in_ok-standing.standing had has held holds then_holds
           c.pieces.invariant.0 drained.drains
           (subst (Appends holds then_holds) c.as_slice.ensures.value c.in_ok-write_all.ensures.all))
           c.in_ok-count.ensures.bytes.0 taken.stands,
@@ -116,6 +116,6 @@ pieces-preserved g c =
 pub returns-in_err-standing-clause-err : goal.returns-in_err-standing-clause-err
 returns-in_err-standing-clause-err g c =
     at_exit c.from_residual-in_err-standing.result
-    (Moves-begun c.args.view c.pieces.session (g.R.Read.remaining (inner_of c.args.reader.now))
+    (Moves-begun c.args.options c.pieces.session (g.R.Read.remaining (inner_of c.args.reader.now))
     (g.R.Read.remaining (inner_of c.pieces.reader)) (g.W.Write.contents (inner_of c.args.writer.now))
     (g.W.Write.contents (inner_of c.pieces.writer)) c.pieces.invariant.0)

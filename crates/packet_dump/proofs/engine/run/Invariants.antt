@@ -8,7 +8,7 @@ use Rattle.packet_dump.proofs.engine.run.Given as goal
 
 abbrev pub invariant-pieces : goal.invariant-pieces
 invariant-pieces g l =
-    Moves (Told l.fn.view l.session)
+    Moves (Told l.fn.options l.session)
     (g.R.Read.remaining (inner_of l.initial.reader)) (g.R.Read.remaining (inner_of l.reader))
     (g.W.Write.contents (inner_of l.initial.writer)) (g.W.Write.contents (inner_of l.writer))
     × (has_failed l.reader ≡ false) × (has_failed l.writer ≡ false) × (length l.piece ≡ 65536)

@@ -7,15 +7,15 @@ use Rattle.packet_dump.proofs.pool_lines.push_found.Goals as goal
 
 pub returns-in-Some : goal.returns-in-Some
 returns-in-Some c =
-    let view = c.args.view.now in
-    let start = c.args.start.now in
-    let layers = layers_of c.args.sliced.now in
+    let options = c.args.further.now.options in
+    let start = c.args.further.now.start.now in
+    let layers = layers_of c.args.further.now.sliced.now in
     let payload = c.in-Some.payload in
     let same : Some payload ≡ c.args.found.now = sym c.in-Some.is in
     on_ok_weaker c.push_payload.result
     (λ told.
-    let line = payload_line view start layers payload.ip_number.0 payload.payload.items told.0 in (
+    let line = payload_line options start layers payload.ip_number.0 payload.payload.items told.0 in (
       line,
-      subst (λ f. IsAnswerText view start layers (plain_frame_answer (Ok f)) line) same (told.0, told.1, refl),
+      subst (λ f. IsAnswerText options start layers (plain_frame_answer (Ok f)) line) same (told.0, told.1, refl),
       told.2,
     )) c.push_payload.ensures

@@ -17,7 +17,7 @@ returns-in-Ok c =
       subst (λ b. IsInner number b inner) same c.in-Ok.ensures.ok,
       pushed ∙ ap
           (λ (b : List ℕ). c.args.output.now.items
-          ++ payload_line c.args.view.now c.args.start.now (layers_of c.args.sliced.now) number b inner) same,
+          ++ payload_line c.args.further.now.options c.args.further.now.start.now (layers_of c.args.further.now.sliced.now) number b inner) same,
     )) c.push_part.ensures
 
 pub returns-in-Err : goal.returns-in-Err
@@ -31,5 +31,5 @@ returns-in-Err c =
       subst (λ b. IsInner number b inner) same c.in-Err.ensures.err,
       pushed ∙ ap
           (λ (b : List ℕ). c.args.output.now.items
-          ++ payload_line c.args.view.now c.args.start.now (layers_of c.args.sliced.now) number b inner) same,
+          ++ payload_line c.args.further.now.options c.args.further.now.start.now (layers_of c.args.further.now.sliced.now) number b inner) same,
     )) c.push_unread.ensures

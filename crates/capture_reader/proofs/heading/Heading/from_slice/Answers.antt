@@ -1,5 +1,5 @@
-use Rattle.std.proofs.Common.{◌≡◌, ℕ, Some, ap, sym, ◌∙◌, arith}
-use Rattle.capture_reader.specs.Classic.{knows_link, link_of, style_in, style_of}
+use Rattle.std.proofs.Common.{◌≡◌, Some, ap, sym, arith}
+use Rattle.capture_reader.specs.Classic.{style_in, style_of}
 use Rattle.capture_reader.proofs.ClassicLemmas.{Passes, read_with}
 use Rattle.capture_reader.proofs.heading.Heading.from_slice.Goals as goal
 
@@ -9,13 +9,10 @@ returns-clause-ok c =
     let magic = ap style_of (sym c.word32-magic.ensures) in
     let said = c.style_of.ensures in
     let style : style_in bytes ≡ Some (c.in-Some.order, c.in-Some.resolution) = cc (magic, said, c.in-Some.is) in
-    let network = ap (λ (n : ℕ). knows_link (link_of n)) (sym c.word32-4.ensures) in
-    let link = ap knows_link (sym c.link_type-link_type.ensures) in
     let passed : Passes (c.in-Some.order, c.in-Some.resolution) bytes = record {
       long = omega arith;
       major = omega (arith, c.word16-major.ensures);
       minor = omega (arith, c.word16-minor.ensures);
-      link = network ∙ link ∙ sym c.knows_link.ensures ∙ c.if-not-knows_link.false;
     } in
     rw (c.word32.ensures, c.word32-2.ensures, c.word32-3.ensures, c.word32-4.ensures)
     (read_with (c.in-Some.order, c.in-Some.resolution) bytes (λ i. omega (arith, c.type_inv.bytes i)) style passed)

@@ -1,9 +1,8 @@
 use Rattle.std.proofs.Common.{subst}
-use Rattle.capture_reader.specs.Readers.{shown_of}
 use Rattle.etherparse.specs.Calls.{Answer}
 use Rattle.etherparse.specs.Pools.{fragment_in}
 use Rattle.etherparse.specs.Layers.{layers_of}
-use Rattle.packet_dump.specs.PacketLines.{start_text}
+use Rattle.packet_dump.specs.PacketLines.{parts_start}
 use Rattle.packet_dump.specs.PacketCalls.{frame_call, with_call}
 use Rattle.packet_dump.specs.PoolLines.{IsAnswerText}
 use Rattle.packet_dump.proofs.PoolLemmas.{HoldsHistory-frame, frame_answered}
@@ -12,7 +11,7 @@ use Rattle.packet_dump.proofs.pooling.Pooling.give_at.Goals as goal
 pub returns : goal.returns
 returns c = λ before held.
     let layers = layers_of c.args.sliced.now in
-    let start = start_text c.args.number c.args.first (shown_of c.args.shown.now) in
+    let start = parts_start c.args.parts.now in
     let carried = fragment_in c.args.sliced.now in
     let old = c.args.self.now.pool in
     let new = c.process_sliced_packet-answer.new.self in
@@ -21,11 +20,11 @@ returns c = λ before held.
     let enough = c.in_ok-push_answer.ensures.memory in
     let told = c.in_ok-push_answer.ensures.text in (
       told.0,
-      subst (λ (a : Answer). IsAnswerText c.args.view.now start layers a told.0)
-          (frame_answered old new carried c.args.this 0 answer takes enough before held.held) told.1,
-      c.give_back.ensures (with_call before (frame_call layers c.args.this)) (record {
+      subst (λ (a : Answer). IsAnswerText c.args.options.now start layers a told.0)
+          (frame_answered old new carried c.args.parts.now.latest 0 answer takes enough before held.held) told.1,
+      c.give_back.ensures (with_call before (frame_call layers c.args.parts.now.latest)) (record {
         swept = held.swept;
-        held = HoldsHistory-frame c.one_more_call.ensures old new carried c.args.this 0 answer takes enough before held.held;
+        held = HoldsHistory-frame c.one_more_call.ensures old new carried c.args.parts.now.latest 0 answer takes enough before held.held;
       }),
       told.2,
     )

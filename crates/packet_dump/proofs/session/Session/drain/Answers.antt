@@ -7,8 +7,8 @@ use Rattle.packet_dump.proofs.session.Session.drain.Goals as goal
 
 pub items-init : goal.items-init
 items-init c = (
-  λ view read items text history stands texts.
-      drains_start view c.args.self.now _ refl refl refl refl refl refl c.clear.ensures.items read items text history stands
+  λ options read items text history stands texts.
+      drains_start options c.args.self.now _ refl refl refl refl refl refl c.clear.ensures.items read items text history stands
       texts,
   refl,
   c.requires.counts,
@@ -18,9 +18,9 @@ pub items-preserved-in-Continue-1 : goal.items-preserved-in-Continue-1
 items-preserved-in-Continue-1 c =
     let advanced = rw c.in-Ok-Packet.field-0-is at c.in-Ok-Packet.ensures in
     let pushed = c.in_ok-push_packet-in-Ok-Packet.ensures in (
-      λ view read items text history stands texts.
-          let drained = c.items.invariant.0 view read items text history stands texts in
-          drains_packet view c.items.self c.push_packet.new.self c.advance.new.self read items text drained
+      λ options read items text history stands texts.
+          let drained = c.items.invariant.0 options read items text history stands texts in
+          drains_packet options c.items.self c.push_packet.new.self c.advance.new.self read items text drained
           (advanced.reads read (items ++ drained.more) drained.stands.reads) pushed.line pushed.capture c.if-self.false,
       ap (λ r. reader_offset r + reader_left r) pushed.capture ∙ advanced.total ∙ c.items.invariant.1,
       counts_packet c.items.self c.push_packet.new.self c.advance.new.self pushed.counts pushed.capture
@@ -30,10 +30,10 @@ items-preserved-in-Continue-1 c =
 pub items-preserved : goal.items-preserved
 items-preserved c =
     let advanced = rw c.in-Ok-Other.field-0-is at c.in-Ok-Other.ensures in (
-      λ view read items text history stands texts.
-          let drained = c.items.invariant.0 view read items text history stands texts in
+      λ options read items text history stands texts.
+          let drained = c.items.invariant.0 options read items text history stands texts in
           let found = advanced.reads read (items ++ drained.more) drained.stands.reads in
-          drains_other view c.items.self _ read items text drained found.0 found.1 found.2 refl refl refl refl refl refl,
+          drains_other options c.items.self _ read items text drained found.0 found.1 found.2 refl refl refl refl refl refl,
       advanced.total ∙ c.items.invariant.1,
       counts_kept _ _ _ c.items.invariant.2 advanced.grows,
     )
@@ -41,11 +41,11 @@ items-preserved c =
 pub returns-in-Ok-MayEnd-clause-drains : goal.returns-in-Ok-MayEnd-clause-drains
 returns-in-Ok-MayEnd-clause-drains c =
     let advanced = rw c.in-Ok-MayEnd.field-0-is at c.in-Ok-MayEnd.ensures in
-    λ view read items text history stands texts.
-    let drained = c.items.invariant.0 view read items text history stands texts in
+    λ options read items text history stands texts.
+    let drained = c.items.invariant.0 options read items text history stands texts in
     let found = advanced.reads read (items ++ drained.more) drained.stands.reads in
-    drains_end view c.items.self _ standing.MayEnd read items text drained found.0 refl refl refl refl refl refl
-    (fewer_read view c.items.self read (items ++ drained.more) drained.after drained.stands c.if-self.false, found.1)
+    drains_end options c.items.self _ standing.MayEnd read items text drained found.0 refl refl refl refl refl refl
+    (fewer_read options c.items.self read (items ++ drained.more) drained.after drained.stands c.if-self.false, found.1)
 
 pub returns-in-Ok-MayEnd-clause-counts : goal.returns-in-Ok-MayEnd-clause-counts
 returns-in-Ok-MayEnd-clause-counts c = counts_kept _ _ _ c.items.invariant.2 c.in-Ok-MayEnd.ensures.grows
@@ -53,29 +53,29 @@ returns-in-Ok-MayEnd-clause-counts c = counts_kept _ _ _ c.items.invariant.2 c.i
 pub returns-in-Ok-Cut-clause-drains : goal.returns-in-Ok-Cut-clause-drains
 returns-in-Ok-Cut-clause-drains c =
     let advanced = rw c.in-Ok-Cut.field-0-is at c.in-Ok-Cut.ensures in
-    λ view read items text history stands texts.
-    let drained = c.items.invariant.0 view read items text history stands texts in
+    λ options read items text history stands texts.
+    let drained = c.items.invariant.0 options read items text history stands texts in
     let found = advanced.reads read (items ++ drained.more) drained.stands.reads in
-    drains_end view c.items.self _ (standing.Cut c.in-Ok-Cut.error) read items text drained found.0 refl refl refl refl refl refl
-    (fewer_read view c.items.self read (items ++ drained.more) drained.after drained.stands c.if-self.false, found.1)
+    drains_end options c.items.self _ (standing.Cut c.in-Ok-Cut.error) read items text drained found.0 refl refl refl refl refl refl
+    (fewer_read options c.items.self read (items ++ drained.more) drained.after drained.stands c.if-self.false, found.1)
 
 pub returns-in-Ok-Cut-clause-counts : goal.returns-in-Ok-Cut-clause-counts
 returns-in-Ok-Cut-clause-counts c = counts_kept _ _ _ c.items.invariant.2 c.in-Ok-Cut.ensures.grows
 
 pub returns-in-Err-clause-drains : goal.returns-in-Err-clause-drains
 returns-in-Err-clause-drains c =
-    λ view read items text history stands texts.
-    let drained = c.items.invariant.0 view read items text history stands texts in
+    λ options read items text history stands texts.
+    let drained = c.items.invariant.0 options read items text history stands texts in
     let found = c.in-Err.ensures.reads read (items ++ drained.more) drained.stands.reads in
-    drains_end view c.items.self _ (standing.Refused c.in-Err.error) read items text drained found.0 refl refl refl refl refl refl
-    (fewer_read view c.items.self read (items ++ drained.more) drained.after drained.stands c.if-self.false, found.1)
+    drains_end options c.items.self _ (standing.Refused c.in-Err.error) read items text drained found.0 refl refl refl refl refl refl
+    (fewer_read options c.items.self read (items ++ drained.more) drained.after drained.stands c.if-self.false, found.1)
 
 pub returns-in-Err-clause-counts : goal.returns-in-Err-clause-counts
 returns-in-Err-clause-counts c = counts_kept _ _ _ c.items.invariant.2 c.in-Err.ensures.grows
 
 pub returns-then-self-clause-drains : goal.returns-then-self-clause-drains
 returns-then-self-clause-drains c =
-    λ view read items text history stands texts.
-    let drained = c.items.invariant.0 view read items text history stands texts in
-    drains_end view c.items.self _ standing.Enough read items text drained drained.stands.reads refl refl refl refl refl refl
-    (enough_read view c.items.self read (items ++ drained.more) drained.after drained.stands c.if-self.true)
+    λ options read items text history stands texts.
+    let drained = c.items.invariant.0 options read items text history stands texts in
+    drains_end options c.items.self _ standing.Enough read items text drained drained.stands.reads refl refl refl refl refl refl
+    (enough_read options c.items.self read (items ++ drained.more) drained.after drained.stands c.if-self.true)

@@ -4,14 +4,14 @@ use Rattle.capture_reader.specs.Readers.{reader_left}
 use Rattle.packet_dump.specs.Dumps.{AreAllTexts}
 use Rattle.packet_dump.specs.PacketCalls.{PoolHistory}
 use Rattle.packet_dump.specs.Sessions.{Counts, Drained, Stands, taken_by}
-use Rattle.packet_dump.specs.declared.view.View.{View}
+use Rattle.packet_dump.specs.declared.dump_options.DumpOptions.{DumpOptions}
 use Rattle.packet_dump.proofs.session.Session.drain.Given as goal
 
 abbrev pub invariant-items : goal.invariant-items
 invariant-items l =
-    ((view : View) (read : List ℕ) (items : List Item) (text : List ℕ) (history : PoolHistory)
-    → Stands view l.fn.self read items history → AreAllTexts view items text history
-    → Drained view l.self read items text) × (taken_by l.self ≡ taken_by l.fn.self) × Counts l.self
+    ((options : DumpOptions) (read : List ℕ) (items : List Item) (text : List ℕ) (history : PoolHistory)
+    → Stands options l.fn.self read items history → AreAllTexts options items text history
+    → Drained options l.self read items text) × (taken_by l.self ≡ taken_by l.fn.self) × Counts l.self
 
 abbrev pub decreases-items : goal.decreases-items
 decreases-items l = reader_left l.self.capture

@@ -1,6 +1,6 @@
 use Rattle.std.proofs.Common.{arith}
 use Rattle.capture_reader.proofs.SaysLemmas.{says_other}
-use Rattle.capture_reader.proofs.block.Frame.content.Goals as goal
+use Rattle.capture_reader.proofs.block.Framing.content.Goals as goal
 
 pub section-requires : goal.section-requires
 section-requires c = let least = rw c.in-SectionHeader.is at c.requires in omega (arith, least)
@@ -37,6 +37,15 @@ returns-in-EnhancedPacket-clause-ok c = rw c.in-EnhancedPacket.is c.enhanced.ens
 
 pub returns-in-EnhancedPacket-clause-err : goal.returns-in-EnhancedPacket-clause-err
 returns-in-EnhancedPacket-clause-err c = rw c.in-EnhancedPacket.is c.enhanced.ensures.err
+
+pub obsolete-requires : goal.obsolete-requires
+obsolete-requires c = let least = rw c.in-ObsoletePacket.is at c.requires in omega (arith, least)
+
+pub returns-in-ObsoletePacket-clause-ok : goal.returns-in-ObsoletePacket-clause-ok
+returns-in-ObsoletePacket-clause-ok c = rw c.in-ObsoletePacket.is c.obsolete.ensures.ok
+
+pub returns-in-ObsoletePacket-clause-err : goal.returns-in-ObsoletePacket-clause-err
+returns-in-ObsoletePacket-clause-err c = rw c.in-ObsoletePacket.is c.obsolete.ensures.err
 
 pub returns-in-Other-clause-ok : goal.returns-in-Other-clause-ok
 returns-in-Other-clause-ok c =

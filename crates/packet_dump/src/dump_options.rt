@@ -67,7 +67,7 @@ impl Kind {
 
 /// What is shown of a capture.
 #[derive(Clone, Copy, Debug)]
-pub struct View {
+pub struct DumpOptions {
     /// The kind of packets that are shown; all are where there is none.
     pub only: Option<Kind>,
     /// How many packets are read, at most.
@@ -82,7 +82,7 @@ pub struct View {
     pub limit: u16,
 }
 
-impl View {
+impl DumpOptions {
     /// Whether packets of a kind are shown.
     pub fn shows(&self, kind: Option<Kind>) -> bool
         ensures { result ≡ shows_kind self.now.only kind }

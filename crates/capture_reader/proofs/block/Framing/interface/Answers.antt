@@ -2,7 +2,7 @@ use Rattle.std.proofs.Common.{◌<◌, length, arith}
 use Rattle.std.proofs.lemmas.Grind.{common_steps}
 use Rattle.capture_reader.specs.Blocks.{most_interfaces}
 use Rattle.capture_reader.proofs.SaysLemmas.{says_interface}
-use Rattle.capture_reader.proofs.block.Frame.interface.Goals as goal
+use Rattle.capture_reader.proofs.block.Framing.interface.Goals as goal
 
 pub returns-in-Ok-clause-ok : goal.returns-in-Ok-clause-ok
 returns-in-Ok-clause-ok c =

@@ -1,0 +1,58 @@
+//! Blocks that come in parts: those that are longer than may be kept, and of a kind that is not read.
+
+ghost use Rattle.std.specs.Prelude.{◌≡◌, ◌≤◌, ◌<◌, ◌^◌, ◌++◌, true, IfErr, IfOk, OnOk, drop, length};
+ghost use Rattle.ep_base.specs.Tables.{Refuses};
+ghost use Rattle.capture_reader.specs.Captures.{FitsFront, back_rows, begins_long, long_rows};
+ghost use Rattle.capture_reader.specs.Numbers.{word32, word32_at};
+
+use crate::block::{Block, MOST_BLOCK, kind_of};
+use crate::byte_order::ByteOrder;
+use crate::refusal::Refusal;
+
+/// How many bytes of such a block are read at a time, 64 KiB.
+pub(crate) const MOST_STRETCH: u32 = 65_536;
+
+/// Whether bytes begin with such a block.
+pub(crate) fn begins_long(order: ByteOrder, bytes: &[u8]) -> bool
+    ensures { result ≡ begins_long order bytes.now }
+{
+    bytes.len() >= Block::FRONT_LEN
+        && kind_of(order.word32(bytes, 0)).is_other()
+        && order.word32(bytes, 4) > MOST_BLOCK
+}
+
+/// How many bytes such a block has, of which the front stands there.
+pub(crate) fn front_len(order: ByteOrder, bytes: &[u8]) -> Result<u32, Refusal>
+    requires { begins_long order bytes.now ≡ true }
+    ensures fits { IfOk result (FitsFront (word32_at order bytes.now 0)) }
+    ensures parts { IfOk result (λ len. bytes.now
+        ≡ (word32 order (word32_at order bytes.now 0) ++ word32 order len) ++ drop 8 bytes.now) }
+    ensures long { OnOk result (8 ≤ length bytes.now) }
+    ensures err { IfErr result (Refuses (long_rows order bytes.now)) }
+{
+    let len = order.word32(bytes, 4);
+    if len % 4 != 0 {
+        return Err(Refusal::BlockLength { len });
+    }
+    Ok(len)
+}
+
+/// Checks the length that stands behind such a block of so many bytes.
+pub(crate) fn check_back(order: ByteOrder, len: u32, bytes: &[u8]) -> Result<(), Refusal>
+    ensures fits { OnOk result (len < 2 ^ 32) }
+    ensures parts { OnOk result (bytes.now ≡ word32 order len ++ drop 4 bytes.now) }
+    ensures long { OnOk result (4 ≤ length bytes.now) }
+    ensures err { IfErr result (Refuses (back_rows order len bytes.now)) }
+{
+    if bytes.len() < 4 {
+        return Err(Refusal::Cut {
+            required_len: 4,
+            len: bytes.len(),
+        });
+    }
+    let trailing = order.word32(bytes, 0);
+    if trailing != len {
+        return Err(Refusal::TrailingLength { len, trailing });
+    }
+    Ok(())
+}

@@ -1,0 +1,99 @@
+-- What packets of a link type begin with. Of some the program reads the header itself, and the library what is behind it.
+use Rattle.std.specs.Prelude.{ℕ, ◌+◌, ◌*◌, ◌==◌, ◌&&◌, ◌||◌, not, nat_le, if◌then◌else◌, Bool, List, [], ◌++◌, Option, Some}
+use Rattle.std.specs.Prelude.{None, codes, length, min, slice_index, slice_range, take}
+use Rattle.std.specs.Fmt.{decimal}
+use Rattle.etherparse.specs.Bytes.{word_at}
+use Rattle.etherparse.specs.EtherTypes.{ipv4_type, ipv6_type}
+use Rattle.etherparse.specs.LinuxSll.{knows_hardware}
+use Rattle.etherparse.specs.Types.Entry.{Entry}
+use Rattle.etherparse.specs.Types.Entry.TheVariants.{Ethernet, LinuxSll, EtherType, Ip}
+use Rattle.packet_dump.specs.Links.{sender_text, way_name}
+use Rattle.packet_dump.specs.declared.openings.Opening.{Opening}
+
+-- all bytes are the library's, which begin so
+abbrev pub whole_of : Entry → Opening
+whole_of entry = record { entry = entry; skipped = 0 }
+
+-- so many bytes are read here, and say this ether type of what is behind them
+abbrev pub behind_front : ℕ → ℕ → Opening
+behind_front skipped type = record { entry = EtherType (record { 0 = type }); skipped = skipped }
+
+-- IP alone: of either version (12 and 14 on BSD, 101), IPv4 (228) or IPv6 (229)
+abbrev pub is_bare_ip : ℕ → Bool
+is_bare_ip link = (link == 12) || (link == 14) || (link == 101) || (link == 228) || (link == 229)
+
+-- ---- loopback of BSD (0, and 108 of OpenBSD): four bytes, which say the family of addresses
+
+-- the family, whose number stands in the last byte or in the first, by the byte order of the machine
+abbrev pub family_in : List ℕ → ℕ
+family_in bytes =
+    if (word_at bytes 0 == 0) && (slice_index bytes 2 == 0) then slice_index bytes 3 else
+    (if (slice_index bytes 1 == 0) && (word_at bytes 2 == 0) then slice_index bytes 0 else 0)
+
+-- the family of IPv6, whose number differs by the system: Linux, NetBSD and OpenBSD, FreeBSD, macOS
+abbrev pub is_ipv6_family : ℕ → Bool
+is_ipv6_family family = (family == 10) || (family == 24) || (family == 28) || (family == 30)
+
+-- what stands behind the number of a family: of 2 IPv4
+abbrev pub family_opening : ℕ → Option Opening
+family_opening family =
+    if family == 2 then Some (behind_front 4 ipv4_type) else
+    (if is_ipv6_family family then Some (behind_front 4 ipv6_type) else None)
+
+abbrev pub loopback_opening : List ℕ → Option Opening
+loopback_opening bytes = if nat_le 4 (length bytes) then family_opening (family_in bytes) else None
+
+-- ---- Linux cooked captures
+
+-- Whether the header of a capture of version 1 is read here: that of a hardware type which the library refuses. Its
+-- protocol is an ether type.
+abbrev pub reads_sll : List ℕ → Bool
+reads_sll bytes = nat_le 16 (length bytes) && (nat_le (word_at bytes 0) 7 && not (knows_hardware (word_at bytes 2)))
+
+abbrev pub sll_opening : List ℕ → Opening
+sll_opening bytes = if reads_sll bytes then behind_front 16 (word_at bytes 14) else whole_of LinuxSll
+
+-- the hardware types whose protocol is no ether type: Frame Relay, IEEE 802.11 with a radiotap header, netlink
+abbrev pub has_no_type : ℕ → Bool
+has_no_type hardware = (hardware == 770) || (hardware == 803) || (hardware == 824)
+
+-- Whether the header of a capture of version 2 (276) is read: 20 bytes, of the protocol (2), nothing (2), the number of
+-- the interface (4), the hardware type (2), which way the packet went (1), and the length (1) and bytes (8) of an address.
+abbrev pub reads_sll2 : List ℕ → Bool
+reads_sll2 bytes = nat_le 20 (length bytes) && not (has_no_type (word_at bytes 8))
+
+abbrev pub sll2_opening : List ℕ → Option Opening
+sll2_opening bytes = if reads_sll2 bytes then Some (behind_front 20 (word_at bytes 0)) else None
+
+-- ---- all of them
+
+abbrev pub opening_of : ℕ → List ℕ → Option Opening
+opening_of link bytes =
+    if link == 1 then Some (whole_of Ethernet) else
+    (if is_bare_ip link then Some (whole_of Ip) else
+    (if link == 113 then Some (sll_opening bytes) else
+    (if (link == 0) || (link == 108) then loopback_opening bytes else
+    (if link == 276 then sll2_opening bytes else None))))
+
+-- what is told of a header that is read here: which way the packet went, and the sender's address
+unfoldable pub sll_front : List ℕ → List ℕ
+sll_front bytes =
+    codes " sll " ++ way_name (word_at bytes 0) ++ sender_text (take (min (word_at bytes 4) 8) (slice_range bytes 6 14))
+
+-- the number of the interface
+abbrev pub sll2_interface : List ℕ → ℕ
+sll2_interface bytes = 65536 * word_at bytes 4 + word_at bytes 6
+
+-- which way the packet went
+abbrev pub way_text : ℕ → List ℕ
+way_text way = codes " " ++ way_name way
+
+unfoldable pub sll2_front : List ℕ → List ℕ
+sll2_front bytes =
+    (codes " sll2 interface " ++ decimal (sll2_interface bytes)) ++ way_text (slice_index bytes 10)
+    ++ sender_text (take (min (slice_index bytes 11) 8) (slice_range bytes 12 20))
+
+abbrev pub front_text : ℕ → List ℕ → List ℕ
+front_text link bytes =
+    if (link == 113) && reads_sll bytes then sll_front bytes else
+    (if (link == 276) && reads_sll2 bytes then sll2_front bytes else [])
