@@ -1,7 +1,10 @@
 pub mod HeldStepLemmas
+pub mod ManyLemmas
+pub mod SentLemmas
 pub mod PlaceLemmas
 pub mod PlainLemmas
 pub mod RoomLemmas
 pub mod TagLemmas
+pub mod TaggedLemmas
 pub mod TextLemmas
 pub mod TextLengthLemmas

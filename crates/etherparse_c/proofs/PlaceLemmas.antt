@@ -1,7 +1,7 @@
 -- Where in a frame the bytes are that C is told of.
 use Rattle.std.proofs.Common.{◌≡◌, ℕ, ◌+◌, ◌-◌, ◌≤◌, List, [], ◌∷◌, ◌++◌, length, take, drop, Option, refl, sym, ap, subst, ◌∙◌, arith, append_assoc, length-append}
 use Rattle.std.proofs.Math.Seq.{drop-append_seam, take-append_seam}
-use Rattle.etherparse.specs.Layer.{Reading, slices}
+use Rattle.etherparse.specs.Readings.{Reading, slices}
 use Rattle.etherparse.specs.LinkExtensions.{LinkExtension, EncodesTag}
 use Rattle.etherparse.specs.LinkSlices.{LinkLayer}
 use Rattle.etherparse.specs.TransportParts.{TransportLayer, EncodesTransport}

@@ -5,7 +5,7 @@ use Rattle.std.proofs.lemmas.List.{append_assoc, drop_at, drop-drop, take-append
 use Rattle.etherparse.specs.Bytes.{bit}
 use Rattle.etherparse.specs.IpNumbers.{authentication_number, tcp_number, udp_number}
 use Rattle.etherparse.specs.IpPayload.{IpPayload}
-use Rattle.etherparse.specs.Layer.{cut_by, slices}
+use Rattle.etherparse.specs.Readings.{cut_by, slices}
 use Rattle.etherparse.specs.Tables.{parts_of}
 use Rattle.etherparse.specs.Types.EtherType.{EtherType}
 use Rattle.etherparse.specs.Types.LenSource.{LenSource}

@@ -1,5 +1,7 @@
 -- The texts of refusals.
 use Rattle.std.proofs.Common.{◌≡◌, Some, refl}
+use Rattle.std.specs.Option.{option_map}
+use Rattle.refusal_texts.specs.ReasonTexts.{reason_text_with}
 use Rattle.etherparse.specs.Types.IpHeaderError.TheVariants as ip_error
 use Rattle.etherparse.specs.Types.IpAuthHeaderError.TheVariants as auth_error
 use Rattle.etherparse.specs.Types.Ipv4HeaderError.TheVariants as ipv4_error
@@ -15,7 +17,7 @@ use Rattle.etherparse.specs.Types.LenSource.TheVariants as source
 use Rattle.etherparse.specs.Types.SliceError.TheVariants.{Len, LinuxSll, Macsec, Ip, Ipv4, Ipv6, Ipv4Exts, Ipv6Exts, Tcp}
 use Rattle.etherparse_c.specs.Description.{source_number}
 use Rattle.etherparse_c.specs.RefusalNumbers.{layer_number, refusal_part}
-use Rattle.etherparse_c.specs.RefusalTexts.{AreTextsOfRefusals, layer_told, len_text_told, source_told}
+use Rattle.etherparse_c.specs.RefusalTexts.{AreTextsOfRefusals, layer_told, len_told, source_told}
 
 -- the number of a layer is its own
 layer_back : (it : Layer) → layer_told (layer_number it) ≡ Some it
@@ -51,7 +53,9 @@ source_back source.UdpHeaderLen = refl
 source_back source.ArpAddrLengths = refl
 
 pub texts_of_refusals : AreTextsOfRefusals
-texts_of_refusals (Len error) = λ i. len_text_told (refusal_part (Len error)) (layer_back error.layer i) (source_back error.len_source i)
+texts_of_refusals (Len error) =
+    λ i. option_map (λ it. reason_text_with it 0)
+    (len_told (refusal_part (Len error)) (layer_back error.layer i) (source_back error.len_source i))
 texts_of_refusals (LinuxSll (linux_sll_error.UnsupportedPacketTypeField number)) = refl
 texts_of_refusals (LinuxSll (linux_sll_error.UnsupportedArpHardwareId number)) = refl
 texts_of_refusals (Macsec macsec_error.UnexpectedVersion) = refl

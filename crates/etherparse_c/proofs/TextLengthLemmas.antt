@@ -1,19 +1,22 @@
 -- How long the texts of refusals are.
-use Rattle.std.proofs.Common.{◌≡◌, ℕ, zero, suc, ◌==◌, ◌<◌, ◌≤◌, ◌^◌, arith, Bool, true, false, if◌then◌else◌}
+use Rattle.std.proofs.Common.{◌≡◌, ℕ, zero, suc, ◌==◌, ◌<◌, ◌≤◌, ◌^◌, ◌++◌, arith, Bool, true, false, if◌then◌else◌}
 use Rattle.std.proofs.Common.{List, length, length-append, Option, Some, None}
 use Rattle.std.proofs.lemmas.Fmt.{decimal-digits_of, length-decimal-le_succ}
 use Rattle.std.proofs.lemmas.Int.Digits.{length-digits_of-le}
 use Rattle.std.proofs.lemmas.List.{length-map}
 use Rattle.std.proofs.lemmas.Option.{MatchOption-at_some}
 use Rattle.std.specs.Fmt.{decimal}
-use Rattle.std.specs.Prelude.{IfSome, ⊤}
+use Rattle.std.specs.Option.{option_map}
+use Rattle.std.specs.Prelude.{IfSome, ⊤, codes}
 use Rattle.etherparse.specs.Names.{layer_name, len_source_name}
 use Rattle.etherparse.specs.Types.Layer.{Layer}
 use Rattle.etherparse.specs.Types.Layer.TheVariants as layer
+use Rattle.etherparse.specs.Types.LenError.{LenError}
 use Rattle.etherparse.specs.Types.LenSource.{LenSource}
 use Rattle.etherparse.specs.Types.LenSource.TheVariants as source
-use Rattle.etherparse_c.specs.RefusalTexts.{kind_text, kind_text_told, layer_told, len_text, len_text_told, numbered}
-use Rattle.etherparse_c.specs.RefusalTexts.{numbered_kind_name, source_told, text_told}
+use Rattle.etherparse.specs.Types.SliceError.{SliceError}
+use Rattle.refusal_texts.specs.ReasonTexts.{len_error_text, limit_text, needed_text, reason_text_with}
+use Rattle.etherparse_c.specs.RefusalTexts.{content_told, error_told, layer_told, len_told, source_told, text_told}
 use Rattle.etherparse_c.specs.declared.packet.Refusal.{Refusal}
 
 -- ---- the parts of a text
@@ -60,18 +63,19 @@ source_name_fits source.ArpAddrLengths = omega arith
 -- ---- texts
 
 -- the longest text: two names and three numbers of 20 bytes each, and 41 bytes between them
-len_text_fits : (refusal : Refusal) (layer : Layer) (end : LenSource) → refusal.required_len < 2 ^ 64
-    → refusal.len < 2 ^ 64 → refusal.layer_start_offset < 2 ^ 64 → length (len_text refusal layer end) ≤ 141
-len_text_fits refusal layer end required len offset =
-    let layer_fits = layer_name_fits layer in
-    let end_fits = source_name_fits end in
-    let required_fits = decimal_fits refusal.required_len required in
-    let len_fits = decimal_fits refusal.len len in
-    let offset_fits = decimal_fits refusal.layer_start_offset offset in
+len_error_fits : (error : LenError) → error.required_len < 2 ^ 64 → error.len < 2 ^ 64
+    → error.layer_start_offset < 2 ^ 64 → length (len_error_text error) ≤ 141
+unfolding needed_text limit_text
+len_error_fits error required len offset =
+    let layer_fits = layer_name_fits error.layer in
+    let end_fits = source_name_fits error.len_source in
+    let required_fits = decimal_fits error.required_len required in
+    let len_fits = decimal_fits error.len len in
+    let offset_fits = decimal_fits error.layer_start_offset offset in
     simp length-append (omega arith)
 
-numbered_fits : (name : List ℕ) (number : ℕ) → length name ≤ 33 → number < 2 ^ 64
-    → length (numbered name number) ≤ 141
+numbered_fits : (name : List ℕ) (number : ℕ) → length name ≤ 34 → number < 2 ^ 64
+    → length (name ++ decimal number) ≤ 141
 numbered_fits name number name_fits small =
     let number_fits = decimal_fits number small in
     simp length-append (omega arith)
@@ -84,38 +88,46 @@ either : {X : Type 0} (Holds : X → Type 0) (first : Bool) (one other : Option 
 either Holds true one other of_one of_other = of_one
 either Holds false one other of_one of_other = of_other
 
-len_text_told_fits : (refusal : Refusal) (layer : Option Layer) (end : Option LenSource)
+-- the text of the error has room, whatever 64 bits say of the number
+abbrev HasRoom : ℕ → SliceError → Type 0
+HasRoom number error = length (reason_text_with error number) ≤ 141
+
+len_told_fits : (refusal : Refusal) (layer : Option Layer) (end : Option LenSource)
     → refusal.required_len < 2 ^ 64 → refusal.len < 2 ^ 64 → refusal.layer_start_offset < 2 ^ 64
-    → IfSome (len_text_told refusal layer end) (λ text. length text ≤ 141)
-len_text_told_fits refusal None end required len offset = tt
-len_text_told_fits refusal (Some layer) None required len offset = tt
-len_text_told_fits refusal (Some layer) (Some end) required len offset =
-    len_text_fits refusal layer end required len offset
+    → IfSome (len_told refusal layer end) (HasRoom refusal.number)
+len_told_fits refusal None end required len offset = tt
+len_told_fits refusal (Some layer) None required len offset = tt
+len_told_fits refusal (Some layer) (Some end) required len offset = len_error_fits _ required len offset
 
-kind_name_fits : (kind : ℕ) → IfSome (numbered_kind_name kind) (λ name. length name ≤ 33)
-kind_name_fits kind =
-    either _ (kind == 2) _ _ (omega arith) (either _ (kind == 3) _ _ (omega arith)
-    (either _ (kind == 6) _ _ (omega arith) (either _ (kind == 7) _ _ (omega arith)
-    (either _ (kind == 8) _ _ (omega arith) (either _ (kind == 9) _ _ (omega arith)
-    (either _ (kind == 10) _ _ (omega arith) (either _ (kind == 14) _ _ (omega arith) tt)))))))
+content_told_fits : (kind number : ℕ) → number < 2 ^ 64 → IfSome (content_told kind) (HasRoom number)
+content_told_fits kind number small =
+    let numbered : (name : List ℕ) → length name ≤ 34 → length (name ++ decimal number) ≤ 141 =
+    λ name fits. numbered_fits name number fits small in
+    let at : (n : ℕ) (one other : Option SliceError) → IfSome one (HasRoom number) → IfSome other (HasRoom number)
+    → IfSome (if kind == n then one else other) (HasRoom number) =
+    λ n one other. either (HasRoom number) (kind == n) one other in
+    at 2 _ _ (numbered (codes "UnsupportedPacketTypeField ") (omega arith))
+    (at 3 _ _ (numbered (codes "UnsupportedArpHardwareId ") (omega arith))
+    (at 4 _ _ (omega arith) (at 5 _ _ (omega arith)
+    (at 6 _ _ (numbered (codes "UnsupportedIpVersion ") (omega arith))
+    (at 7 _ _ (numbered (codes "Ipv4HeaderLengthSmallerThanHeader ") (omega arith))
+    (at 8 _ _ (numbered (codes "UnexpectedVersion ") (omega arith))
+    (at 9 _ _ (numbered (codes "HeaderLengthSmallerThanHeader ") (omega arith))
+    (at 10 _ _ (numbered (codes "UnexpectedVersion ") (omega arith))
+    (at 11 _ _ (omega arith) (at 12 _ _ (omega arith) (at 13 _ _ (omega arith)
+    (at 14 _ _ (numbered (codes "DataOffsetTooSmall ") (omega arith)) tt))))))))))))
 
-kind_text_fits : (kind : ℕ) → IfSome (kind_text kind) (λ text. length text ≤ 141)
-kind_text_fits kind =
-    either _ (kind == 4) _ _ (omega arith) (either _ (kind == 5) _ _ (omega arith)
-    (either _ (kind == 11) _ _ (omega arith) (either _ (kind == 12) _ _ (omega arith)
-    (either _ (kind == 13) _ _ (omega arith) tt))))
-
-kind_text_told_fits : (name text : Option (List ℕ)) (number : ℕ) → IfSome name (λ name. length name ≤ 33)
-    → IfSome text (λ text. length text ≤ 141) → number < 2 ^ 64
-    → IfSome (kind_text_told name text number) (λ text. length text ≤ 141)
-kind_text_told_fits None text number name_fits text_fits small = text_fits
-kind_text_told_fits (Some name) text number name_fits text_fits small = numbered_fits name number name_fits small
+-- what holds of the error holds of its text
+text_fits : (told : Option SliceError) (number : ℕ) → IfSome told (HasRoom number)
+    → IfSome (option_map (λ error. reason_text_with error number) told) (λ text. length text ≤ 141)
+text_fits None number fits = tt
+text_fits (Some error) number fits = fits
 
 pub text_told_fits : (refusal : Refusal) (text : List ℕ) → refusal.number < 2 ^ 32
     → refusal.required_len < 2 ^ 64 → refusal.len < 2 ^ 64 → refusal.layer_start_offset < 2 ^ 64
     → text_told refusal ≡ Some text → length text ≤ 141
 text_told_fits refusal text number required len offset told =
-    MatchOption-at_some ⊤ (λ text. length text ≤ 141) text told (either _ (refusal.kind == 1) _ _
-    (len_text_told_fits refusal (layer_told refusal.layer) (source_told refusal.len_source) required len offset)
-    (kind_text_told_fits (numbered_kind_name refusal.kind) (kind_text refusal.kind) refusal.number
-    (kind_name_fits refusal.kind) (kind_text_fits refusal.kind) (omega arith)))
+    MatchOption-at_some ⊤ (λ text. length text ≤ 141) text told (text_fits (error_told refusal) refusal.number
+    (either (HasRoom refusal.number) (refusal.kind == 1) _ _
+    (len_told_fits refusal (layer_told refusal.layer) (source_told refusal.len_source) required len offset)
+    (content_told_fits refusal.kind refusal.number (omega arith))))

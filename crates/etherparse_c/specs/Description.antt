@@ -3,7 +3,7 @@
 use Rattle.std.specs.Prelude.{ℕ, ◌+◌, ◌-◌, ◌*◌, ◌==◌, if◌then◌else◌, List, [], ◌∷◌, ◌++◌, length, replicate, Option, Some, None}
 use Rattle.etherparse.specs.Bytes.{bit}
 use Rattle.etherparse.specs.IpPayload.{IpPayload}
-use Rattle.etherparse.specs.Layer.{cut_by}
+use Rattle.etherparse.specs.Readings.{cut_by}
 use Rattle.etherparse.specs.Types.LenSource.{LenSource}
 use Rattle.etherparse.specs.Types.LenSource.TheVariants as source
 use Rattle.etherparse.specs.Types.Ipv6FragmentHeader.{Ipv6FragmentHeader}

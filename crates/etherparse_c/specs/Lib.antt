@@ -2,7 +2,9 @@ pub mod Description
 pub mod Places
 pub mod RefusalNumbers
 pub mod SliceAnswers
+pub mod ManyAnswers
 pub mod Building
+pub mod TaggedBuilding
 pub mod Holding
 pub mod Placing
 pub mod Plain

@@ -1,7 +1,7 @@
 -- Plain frames, as the private calls on them say.
 use Rattle.std.specs.Prelude.{◌≡◌, ◌≤◌, ℕ, ◌+◌, false, List, length, Option, Some, None}
 use Rattle.etherparse.specs.IpPayload.{IpPayload}
-use Rattle.etherparse.specs.Layer.{cut_by, slices}
+use Rattle.etherparse.specs.Readings.{cut_by, slices}
 use Rattle.etherparse.specs.Types.EtherType.{EtherType}
 use Rattle.etherparse.specs.Types.LenSource.TheVariants as source
 use Rattle.etherparse.specs.LinkExtensions.{LinkExtension, BeginsLinkExtension}

@@ -1,5 +1,5 @@
 -- What the calls on a pool that C points to answer.
-use Rattle.std.specs.Prelude.{◌≡◌, ◌<◌, ◌≤◌, ◌⊎◌, ℕ, nat_eq, nat_le, List, [], ◌++◌, drop, length, Option, Some, None, Result, Ok, Err}
+use Rattle.std.specs.Prelude.{◌≡◌, ◌+◌, ◌-◌, ◌^◌, min, ◌<◌, ◌≤◌, ◌⊎◌, ℕ, nat_eq, nat_le, List, [], ◌++◌, drop, length, Option, Some, None, Result, Ok, Err}
 use Rattle.std.specs.Option.{option_map}
 use Rattle.etherparse.specs.Types.IpDefragError.{IpDefragError}
 use Rattle.etherparse.specs.Types.IpDefragError.TheVariants.{UnalignedFragmentPayloadLen, SegmentTooBig, ConflictingEnd, AllocationFailure}
@@ -7,7 +7,7 @@ use Rattle.etherparse.specs.Types.IpDefragPayloadVec.{IpDefragPayloadVec}
 use Rattle.etherparse.specs.Types.IpDefragPool.{IpDefragPool}
 use Rattle.etherparse.specs.Types.IpFragId.{IpFragId}
 use Rattle.etherparse.specs.Calls.{Kept, kept_by}
-use Rattle.etherparse.specs.Pools.{HoldsTable, TakesFrame, limit_of, streams_of}
+use Rattle.etherparse.specs.Pools.{HoldsTable, TakesFrame, held_bytes_of, limit_of, streams_of}
 use Rattle.etherparse.specs.Streams.{packet_fragment}
 use Rattle.etherparse.specs.Types.Entry.{Entry}
 use Rattle.etherparse.specs.Types.SliceError.{SliceError}
@@ -157,3 +157,29 @@ IsTakenWith (Some payload) new before behind told status = IsHandedOut payload n
 abbrev pub IsTakeAnswer : State → State → List ℕ → List ℕ → PoolAnswer → ℕ → Type 0
 IsTakeAnswer old new before behind told status =
     (new.pool ≡ old.pool) × IsTakenWith old.waiting new before behind told status
+
+-- what gives up the payload that waits, if one does; the streams are as they were
+pub record Discards (old new : State) : Type 0 where
+  pub pool : new.pool ≡ old.pool
+  pub waiting : new.waiting ≡ None
+
+-- ---- what a pool holds
+
+-- what tells a number of a pool, which stays as it was
+pub record Tells (tell : State → ℕ) (number : ℕ) (old new : State) : Type 0 where
+  pub same : new ≡ old
+  pub told : number ≡ tell old
+
+-- how many streams it holds
+abbrev pub streams_in : State → ℕ
+streams_in state = length (streams_of state.pool)
+
+-- how many bytes the payload that waits has
+abbrev pub waiting_len : Option IpDefragPayloadVec → ℕ
+waiting_len None = 0
+waiting_len (Some payload) = length payload.payload.items
+
+-- how many bytes of payloads it holds, as far as 64 bits count: of each stream up to its greatest end, and the payload
+-- that waits
+abbrev pub bytes_in : State → ℕ
+bytes_in state = min (held_bytes_of state.pool + waiting_len state.waiting) (2 ^ 64 - 1)

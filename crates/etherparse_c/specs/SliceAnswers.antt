@@ -1,4 +1,4 @@
--- What a call of `etherparse_slice` answers.
+-- What a call of `etherparse_1_slice` answers.
 use Rattle.std.specs.Prelude.{◌≡◌, ◌==◌, if◌then◌else◌, ℕ, List, ◌⊎◌, Option, Some, None}
 use Rattle.etherparse.specs.Types.Entry.{Entry}
 use Rattle.etherparse.specs.Types.Entry.TheVariants.{Ethernet as ethernet, LinuxSll as linux_sll, EtherType as ether_type, Ip as ip}

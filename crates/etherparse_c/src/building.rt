@@ -24,7 +24,7 @@ use std::alloc::Global;
 /// buffer has too few bytes, and `written` says how many are needed, 4 where the payload is too long for the headers'
 /// length fields, 5 where there was no memory: then the buffer is as it was.
 #[unsafe(no_mangle)]
-pub extern "C" fn etherparse_build_udp(
+pub extern "C" fn etherparse_1_build_udp(
     alloc: Global,
     route: &Route,
     source_port: u16,
@@ -45,7 +45,7 @@ pub extern "C" fn etherparse_build_udp(
 
 /// The same of a TCP segment.
 #[unsafe(no_mangle)]
-pub extern "C" fn etherparse_build_tcp(
+pub extern "C" fn etherparse_1_build_tcp(
     alloc: Global,
     route: &Route,
     fields: &TcpFields,
@@ -61,7 +61,7 @@ pub extern "C" fn etherparse_build_tcp(
 
 /// The same of an echo request (`is_reply` is 0) or an echo reply of the route's version of ICMP.
 #[unsafe(no_mangle)]
-pub extern "C" fn etherparse_build_icmp_echo(
+pub extern "C" fn etherparse_1_build_icmp_echo(
     alloc: Global,
     route: &Route,
     is_reply: u8,
@@ -84,7 +84,7 @@ pub extern "C" fn etherparse_build_icmp_echo(
 }
 
 /// What a frame has behind its IP headers, besides the payload.
-trait IsBehind: Drop {
+pub(crate) trait IsBehind: Drop {
     /// The transport header that it is.
     ghost header: { Self → TransportHeader };
 
@@ -103,18 +103,18 @@ trait IsBehind: Drop {
 
 /// The ports of a UDP datagram.
 #[derive(Clone, Copy)]
-struct UdpPorts {
-    source_port: u16,
-    destination_port: u16,
+pub(crate) struct UdpPorts {
+    pub(crate) source_port: u16,
+    pub(crate) destination_port: u16,
 }
 
 /// An echo message of ICMP, or else of ICMPv6.
 #[derive(Clone, Copy)]
-struct Echo {
-    is_ipv4: bool,
-    is_reply: u8,
-    id: u16,
-    seq: u16,
+pub(crate) struct Echo {
+    pub(crate) is_ipv4: bool,
+    pub(crate) is_reply: u8,
+    pub(crate) id: u16,
+    pub(crate) seq: u16,
 }
 
 impl IsBehind for UdpPorts {
@@ -169,7 +169,7 @@ impl IsBehind for Echo {
 /// Builds the frame of a route and what stands behind its IP headers, and copies it to the front of the buffer. Each
 /// arm is one chain of the builder, which is inlined: so no step is moved.
 #[inline(always)]
-fn build<Behind: IsBehind>(
+pub(crate) fn build<Behind: IsBehind>(
     alloc: Global,
     route: &Route,
     behind: Behind,
@@ -206,7 +206,7 @@ fn build<Behind: IsBehind>(
 
 /// Builds the frame of these IP headers and what stands behind them, and copies it to the front of the buffer.
 #[inline(always)]
-fn write_behind<Behind: IsBehind>(
+pub(crate) fn write_behind<Behind: IsBehind>(
     alloc: Global,
     step: PacketBuilderStep<IpHeaders>,
     behind: Behind,
@@ -224,7 +224,7 @@ fn write_behind<Behind: IsBehind>(
 
 /// The TCP header of these fields.
 #[tactic(auto, unfolding(crate::specs::Building::tcp_of))]
-fn tcp_header(fields: &TcpFields) -> TcpHeader
+pub(crate) fn tcp_header(fields: &TcpFields) -> TcpHeader
     ensures { transport.Tcp result ≡ tcp_of fields.now }
 {
     let fields = *fields;
@@ -273,7 +273,7 @@ fn icmpv6_echo(is_reply: u8, id: u16, seq: u16) -> Icmpv6Type
 }
 
 /// Copies a frame that was built to the front of the buffer, where it has room, and answers the status.
-fn copied(
+pub(crate) fn copied(
     built: Result<(), BuildWriteError>,
     frame: &[u8],
     buffer: &mut [u8],

@@ -7,7 +7,7 @@ use etherparse::checksum::Sum16BitWords;
 
 /// The Internet checksum (RFC 1071) of some bytes, the number whose big-endian bytes are written.
 #[unsafe(no_mangle)]
-pub extern "C" fn etherparse_checksum(bytes: &[u8]) -> u16
+pub extern "C" fn etherparse_1_checksum(bytes: &[u8]) -> u16
     ensures { result ≡ checksum_of bytes.now }
 {
     // No code: that the sum of no bytes adds nothing.

@@ -22,6 +22,9 @@ impl Model for Handle {
     ghost also_owns = { λ it. points_to it.pool it.alloc it.at };
 }
 
+/// It may go to another thread, with all that is behind it, between two calls.
+unsafe impl Send for Handle {}
+
 impl Handle {
     /// The address of a pool.
     pub(crate) fn of(pool: Loose<Pool, Global>) -> Handle

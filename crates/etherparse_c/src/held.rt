@@ -23,6 +23,9 @@ impl Model for Held {
     ghost also_owns = { λ it. holds it.state it.alloc it.at };
 }
 
+/// It may go to another thread, with all that is behind it, between two calls.
+unsafe impl Send for Held {}
+
 impl Held {
     /// A state.
     pub(crate) fn of(state: Loose<State, Global>) -> Held

@@ -10,6 +10,8 @@ ghost use Rattle.etherparse_c.specs.Places.{Describes};
 ghost use Rattle.etherparse_c.specs.PoolAnswers.{IsPushAnswer, Table, pool_of, waiting_in};
 ghost use Rattle.etherparse_c.specs.RefusalTexts.{AreTextsOfRefusals, text_told};
 
+use crate::handle::Handle;
+use crate::owned_pool::OwnedPool;
 use crate::packet::{Packet, Refusal};
 use crate::pool_answer::PoolAnswer;
 use crate::state::State;
@@ -49,3 +51,12 @@ pub fn limit_has_room()
 {
     etherparse::laws::defrag::data_within_limit::<u64, u64>();
 }
+
+/// The address of a pool may go to another thread, with all of the pool: `Send` is proved of it.
+pub fn pools_move() {
+    moves::<Handle>();
+    moves::<OwnedPool>();
+}
+
+/// Is there for each type whose values may go to another thread.
+fn moves<T: Send>() {}

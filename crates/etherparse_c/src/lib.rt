@@ -6,6 +6,7 @@
 #![tactic(auto)]
 
 mod building;
+mod building_tagged;
 mod checksum;
 mod describing;
 mod handle;
@@ -24,21 +25,30 @@ mod pooling;
 mod refusing;
 mod route;
 mod slicing;
+mod slicing_many;
 mod state;
 mod texts;
+mod version;
 mod vlans;
 
-pub use building::{etherparse_build_icmp_echo, etherparse_build_tcp, etherparse_build_udp};
-pub use checksum::etherparse_checksum;
+pub use building::{etherparse_1_build_icmp_echo, etherparse_1_build_tcp, etherparse_1_build_udp};
+pub use building_tagged::{
+    etherparse_1_build_fragment, etherparse_1_build_tagged_icmp_echo,
+    etherparse_1_build_tagged_tcp, etherparse_1_build_tagged_udp,
+};
+pub use checksum::etherparse_1_checksum;
 pub use handle::Handle;
 pub use owned_pool::OwnedPool;
 pub use packet::{Ip, LinkExt, Packet, Part, Payload, Refusal};
 pub use pool::Pool;
 pub use pool_answer::PoolAnswer;
 pub use pooling::{
-    etherparse_pool_drop_older, etherparse_pool_free, etherparse_pool_new, etherparse_pool_push,
-    etherparse_pool_take, etherparse_pool_with_limit,
+    etherparse_1_pool_bytes, etherparse_1_pool_discard, etherparse_1_pool_drop_older,
+    etherparse_1_pool_free, etherparse_1_pool_new, etherparse_1_pool_push,
+    etherparse_1_pool_streams, etherparse_1_pool_take, etherparse_1_pool_with_limit,
 };
-pub use route::{Route, TcpFields};
-pub use slicing::etherparse_slice;
-pub use texts::etherparse_refusal_text;
+pub use route::{FragmentFields, Route, TaggedRoute, TcpFields};
+pub use slicing::etherparse_1_slice;
+pub use slicing_many::etherparse_1_slice_many;
+pub use texts::etherparse_1_refusal_text;
+pub use version::etherparse_1_version;

@@ -6,7 +6,7 @@
 
 ghost use Rattle.std.specs.Prelude.{◌≡◌, ◌≤◌, ◌⊎◌, IfSome, Some, true};
 ghost use Rattle.etherparse.specs.IpNumbers.{tcp_number, udp_number};
-ghost use Rattle.etherparse.specs.Layer.{slices};
+ghost use Rattle.etherparse.specs.Readings.{slices};
 ghost use Rattle.etherparse.specs.Types.Entry.TheVariants.{Ethernet as ethernet, Ip as ip_entry};
 ghost use Rattle.etherparse.specs.Frame.{IsFrame, IsTransportIn, net_kind};
 ghost use Rattle.etherparse.specs.Frame.{any_ip, only_ipv4, only_ipv6};

@@ -2,8 +2,9 @@
 
 ghost use Rattle.std.specs.Prelude.{◌≡◌, None, Ok, Some, is_some, nat_le, true};
 ghost use Rattle.etherparse_c.specs.SliceAnswers.{entry_of};
-ghost use Rattle.etherparse_c.specs.PoolAnswers.{Changes, DropsOlder, IsFresh, IsHandedOut, IsNewPool, IsPushAnswer};
+ghost use Rattle.etherparse_c.specs.PoolAnswers.{Changes, Discards, DropsOlder, IsFresh, IsHandedOut, IsNewPool, IsPushAnswer};
 ghost use Rattle.etherparse_c.specs.PoolAnswers.{IsPushed, IsTakeAnswer, IsTakenWith, nothing_told, payload_told};
+ghost use Rattle.etherparse_c.specs.PoolAnswers.{Tells, bytes_in, streams_in};
 ghost use Rattle.etherparse_c.specs.PoolAnswers.{refusal_told, refused_status};
 
 use crate::describing::{no_refusal, source_number};
@@ -26,7 +27,7 @@ use std::mem::replace;
 /// Makes a pool without streams, whose address is left in `pool`: no payload has more than 65535 bytes. The status is
 /// 0, or 5 where there was no memory, and `pool` is as it was.
 #[unsafe(no_mangle)]
-pub extern "C" fn etherparse_pool_new(alloc: Global, pool: &mut Handle) -> u32
+pub extern "C" fn etherparse_1_pool_new(alloc: Global, pool: &mut Handle) -> u32
     ensures { IsNewPool 65535 pool.old pool.new result }
 {
     new_pool(alloc, 65_535, pool)
@@ -34,7 +35,7 @@ pub extern "C" fn etherparse_pool_new(alloc: Global, pool: &mut Handle) -> u32
 
 /// The same of a pool in which no payload has more than `limit` bytes.
 #[unsafe(no_mangle)]
-pub extern "C" fn etherparse_pool_with_limit(alloc: Global, limit: u16, pool: &mut Handle) -> u32
+pub extern "C" fn etherparse_1_pool_with_limit(alloc: Global, limit: u16, pool: &mut Handle) -> u32
     ensures { IsNewPool limit pool.old pool.new result }
 {
     new_pool(alloc, limit, pool)
@@ -42,19 +43,19 @@ pub extern "C" fn etherparse_pool_with_limit(alloc: Global, limit: u16, pool: &m
 
 /// Frees a pool.
 #[unsafe(no_mangle)]
-pub extern "C" fn etherparse_pool_free(pool: OwnedPool) {
+pub extern "C" fn etherparse_1_pool_free(pool: OwnedPool) {
     let OwnedPool { handle } = pool;
     let Pool { held } = Box::into_inner(handle.into_loose().into_box());
     let _ = held.into_loose().into_box();
 }
 
 /// Gives a frame to a pool, which may carry a fragment, at a time and on a channel of the caller's. `entry` and
-/// `ether_type` are those of `etherparse_slice`. The status is 6 where a payload is complete with it, which is copied
+/// `ether_type` are those of `etherparse_1_slice`. The status is 6 where a payload is complete with it, which is copied
 /// to the front of `buffer`; 3 where one is that is longer than the buffer, and waits; 0 where none is; 1 where the
 /// bytes are no frame, 7 where the fragment is refused, 5 where there was no memory for it, 2 where `entry` is another
 /// number, and 8 where a payload waits: in these cases the pool is as it was. But for 6 the buffer is.
 #[unsafe(no_mangle)]
-pub extern "C" fn etherparse_pool_push(
+pub extern "C" fn etherparse_1_pool_push(
     alloc: Global,
     pool: &mut Pool,
     entry: u32,
@@ -79,7 +80,7 @@ pub extern "C" fn etherparse_pool_push(
 /// Hands out the payload that waits in a pool: the status is 6, and it is copied to the front of `buffer`; 3 where it
 /// is longer, and still waits; 0 where none waits. But for 6 the buffer is as it was.
 #[unsafe(no_mangle)]
-pub extern "C" fn etherparse_pool_take(
+pub extern "C" fn etherparse_1_pool_take(
     alloc: Global,
     pool: &mut Pool,
     buffer: &mut [u8],
@@ -93,14 +94,47 @@ pub extern "C" fn etherparse_pool_take(
     status
 }
 
+/// Gives up the payload that waits in a pool, if one does. The streams are as they were.
+#[unsafe(no_mangle)]
+pub extern "C" fn etherparse_1_pool_discard(alloc: Global, pool: &mut Pool)
+    ensures { Changes pool.old pool.new Discards }
+{
+    let mut state = taken(alloc, &mut pool.held);
+    state.waiting = None;
+    pool.held = holding(state);
+}
+
 /// Drops the streams whose last fragment came before `timestamp`.
 #[unsafe(no_mangle)]
-pub extern "C" fn etherparse_pool_drop_older(alloc: Global, pool: &mut Pool, timestamp: u64)
+pub extern "C" fn etherparse_1_pool_drop_older(alloc: Global, pool: &mut Pool, timestamp: u64)
     ensures { Changes pool.old pool.new (DropsOlder timestamp) }
 {
     let mut state = taken(alloc, &mut pool.held);
     drop_older(&mut state, timestamp);
     pool.held = holding(state);
+}
+
+/// How many streams a pool holds.
+#[unsafe(no_mangle)]
+pub extern "C" fn etherparse_1_pool_streams(alloc: Global, pool: &mut Pool) -> usize
+    ensures { Changes pool.old pool.new (Tells streams_in result) }
+{
+    let state = taken(alloc, &mut pool.held);
+    let count = stream_count(&state);
+    pool.held = holding(state);
+    count
+}
+
+/// How many bytes of payloads a pool holds: of each stream those from 0 to its greatest end, and the payload that
+/// waits. It looks at each stream.
+#[unsafe(no_mangle)]
+pub extern "C" fn etherparse_1_pool_bytes(alloc: Global, pool: &mut Pool) -> usize
+    ensures { Changes pool.old pool.new (Tells bytes_in result) }
+{
+    let state = taken(alloc, &mut pool.held);
+    let held = held_bytes(&state);
+    pool.held = holding(state);
+    held
 }
 
 /// A pool of this limit, whose address is left in `pool`.
@@ -288,4 +322,22 @@ fn drop_older(state: &mut State, timestamp: u64)
             ensures { result ≡ nat_le timestamp kept.now }
         { *kept >= timestamp },
     );
+}
+
+/// How many streams a pool holds.
+fn stream_count(state: &State) -> usize
+    ensures { result ≡ streams_in state.now }
+{
+    state.pool.stream_count()
+}
+
+/// How many bytes of payloads a pool holds, the payload that waits among them.
+fn held_bytes(state: &State) -> usize
+    ensures { result ≡ bytes_in state.now }
+{
+    let waiting = match &state.waiting {
+        Some(payload) => payload.payload.len(),
+        None => 0,
+    };
+    state.pool.held_bytes().saturating_add(waiting)
 }

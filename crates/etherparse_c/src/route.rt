@@ -44,3 +44,29 @@ pub struct TcpFields {
     /// The flags of byte 13 of the header: FIN is 1, SYN 2, RST 4, PSH 8, ACK 16, URG 32, ECE 64, CWR 128.
     pub flags: u8,
 }
+
+/// A route with VLAN tags (IEEE 802.1Q) behind its Ethernet II header.
+#[repr(C)]
+#[derive(Clone, Copy)]
+pub struct TaggedRoute {
+    /// The route, which begins with an Ethernet II header where there are tags.
+    pub route: Route,
+    /// How many tags there are: 0 to 2.
+    pub tag_count: u32,
+    /// Their identifiers, each at most 4095, from the outside in. Those of tags that are not there are not read.
+    pub vlan_ids: [u16; 2],
+}
+
+/// What the header of a fragment says: that of IPv4 (RFC 791, 3.1), or of IPv6 its fragment header (RFC 8200, 4.5).
+#[repr(C)]
+#[derive(Clone, Copy)]
+pub struct FragmentFields {
+    /// The protocol number of the whole payload.
+    pub ip_number: u8,
+    /// 0 if this is the last fragment, else more follow.
+    pub more_fragments: u8,
+    /// Where the fragment lies in the whole payload, in bytes: a multiple of 8.
+    pub fragment_offset: u16,
+    /// What fragments of one payload have in common; of IPv4 at most 65535.
+    pub identification: u32,
+}

@@ -16,7 +16,7 @@ use etherparse::{Entry, EtherType, SlicedPacket};
 /// status is 0 where the bytes are a frame, which `packet` then describes, 1 where they are none, and `packet` says
 /// why, and 2 where `entry` is another number. Whatever `packet` held is overwritten.
 #[unsafe(no_mangle)]
-pub extern "C" fn etherparse_slice(
+pub extern "C" fn etherparse_1_slice(
     entry: u32,
     ether_type: u16,
     bytes: &[u8],

@@ -1,22 +1,26 @@
 //! The text of a refusal.
 
-ghost use Rattle.std.specs.Prelude.{◌≡◌, ◌++◌, IfErr, IfOk, None, MatchOption, string_bytes};
-ghost use Rattle.std.specs.Option.{option_map};
-ghost use Rattle.etherparse_c.specs.RefusalTexts.{IsTextAnswer, kind_text, layer_told, len_text, numbered_kind_name};
+ghost use Rattle.std.specs.Prelude.{◌≡◌, ◌++◌, ◌∷◌, [], IfOk};
+ghost use Rattle.refusal_texts.specs.ReasonTexts.{reason_text_with};
+ghost use Rattle.etherparse_c.specs.RefusalTexts.{IsTextAnswer, content_told, error_told, layer_told, len_told};
 ghost use Rattle.etherparse_c.specs.RefusalTexts.{source_told, text_told};
 
 use crate::numbers;
 use crate::packet::Refusal;
 use crate::placing::placed;
 use etherparse::LenSource;
-use etherparse::err::Layer;
+use etherparse::err::packet::SliceError;
+use etherparse::err::{
+    Layer, LenError, ip, ip_auth, ipv4, ipv6, ipv6_exts, linux_sll, macsec, tcp,
+};
+use refusal_texts::push_reason_with;
 use std::alloc::{AllocError, Global};
 
 /// Writes the text of a refusal, ended by a zero byte, to the front of `buffer`, and the number of these bytes to
 /// `written`. The status is 0 where it did; 2 where the numbers are those of no refusal, 3 where the buffer has too few
 /// bytes, and `written` says how many are needed, 5 where there was no memory: then the buffer is as it was.
 #[unsafe(no_mangle)]
-pub extern "C" fn etherparse_refusal_text(
+pub extern "C" fn etherparse_1_refusal_text(
     alloc: Global,
     refusal: &Refusal,
     buffer: &mut [u8],
@@ -25,85 +29,80 @@ pub extern "C" fn etherparse_refusal_text(
     ensures { IsTextAnswer (text_told refusal.now) buffer.old buffer.new written.new result }
 {
     *written = 0;
-    match text_told(alloc, refusal) {
-        Ok(Some(text)) => {
-            let mut text = text.into_bytes();
-            if text.push(0).is_err() {
-                return numbers::OUT_OF_MEMORY;
-            }
-            placed(text.as_slice(), buffer, written)
-        }
-        Ok(None) => numbers::UNKNOWN_CHOICE,
+    let Some(error) = error_told(refusal) else {
+        return numbers::UNKNOWN_CHOICE;
+    };
+    match ended_text(alloc, &error, refusal.number) {
+        Ok(text) => placed(text.as_slice(), buffer, written),
         Err(_) => numbers::OUT_OF_MEMORY,
     }
 }
 
-/// The text of a refusal, where the numbers are those of one.
-fn text_told(alloc: Global, refusal: &Refusal) -> Result<Option<String>, AllocError>
-    ensures text { IfOk result (λ text. option_map string_bytes text ≡ text_told refusal.now) }
-    ensures known { IfErr result (λ _. text_told refusal.now ≡ None → ⊥) }
+/// The text of an error with this number, and a zero byte.
+fn ended_text(alloc: Global, error: &SliceError, number: u32) -> Result<Vec<u8>, AllocError>
+    ensures { IfOk result (λ text. text.items ≡ reason_text_with error.now number ++ 0 ∷ []) }
+{
+    let mut text = Vec::new(alloc);
+    push_reason_with(&mut text, error, u64::from(number))?;
+    text.push(0)?;
+    Ok(text)
+}
+
+/// The error of the numbers of a refusal, where they are those of one. The number that the bytes hold stands apart
+/// from it, since C's may be greater than the error's field has room for.
+fn error_told(refusal: &Refusal) -> Option<SliceError>
+    ensures { result ≡ error_told refusal.now }
 {
     if refusal.kind == 1 {
-        let (Some(layer), Some(end)) = (layer_told(refusal.layer), source_told(refusal.len_source))
-        else {
-            return Ok(None);
-        };
-        return Ok(Some(len_text(alloc, refusal, &layer, end)?));
-    }
-    if let Some(name) = numbered_kind_name(refusal.kind) {
-        let number = refusal.number;
-        return Ok(Some(format!(in alloc; "{name} {number}")?));
-    }
-    match kind_text(refusal.kind) {
-        Some(text) => Ok(Some(format!(in alloc; "{text}")?)),
-        None => Ok(None),
+        len_told(refusal)
+    } else {
+        content_told(refusal.kind)
     }
 }
 
-/// The text of a refusal for want of bytes.
-fn len_text(
-    alloc: Global,
-    refusal: &Refusal,
-    layer: &Layer,
-    end: LenSource,
-) -> Result<String, AllocError>
-    ensures { IfOk result (λ text. string_bytes text ≡ len_text refusal.now layer.now end) }
+/// The error for want of bytes, where its layer and what set the end are known.
+fn len_told(refusal: &Refusal) -> Option<SliceError>
+    ensures { result ≡ len_told refusal.now (layer_told refusal.now.layer) (source_told refusal.now.len_source) }
 {
-    let layer = layer.name();
-    let end = end.name();
-    let required_len = refusal.required_len;
-    let len = refusal.len;
-    let offset = refusal.layer_start_offset;
-    format!(in alloc;
-        "{layer}: {required_len} bytes needed, {len} there (limit {end}, offset {offset})"
-    )
+    let (Some(layer), Some(len_source)) = (
+        layer_told(refusal.layer),
+        source_told(refusal.len_source),
+    ) else {
+        return None;
+    };
+    Some(SliceError::Len(LenError {
+        required_len: refusal.required_len,
+        len: refusal.len,
+        len_source,
+        layer,
+        layer_start_offset: refusal.layer_start_offset,
+    }))
 }
 
-/// The name of a kind of refusal whose text ends with the number.
-fn numbered_kind_name(kind: u32) -> Option<&'static str>
-    ensures { MatchOption result (numbered_kind_name kind ≡ None) (λ name. numbered_kind_name kind ≡ Some name.now) }
+/// The error of another kind, with the number 0.
+fn content_told(kind: u32) -> Option<SliceError>
+    ensures { result ≡ content_told kind }
 {
     match kind {
-        2 => Some("UnsupportedPacketTypeField"),
-        3 => Some("UnsupportedArpHardwareId"),
-        6 => Some("UnsupportedIpVersion"),
-        7 => Some("Ipv4HeaderLengthSmallerThanHeader"),
-        8 | 10 => Some("UnexpectedVersion"),
-        9 => Some("HeaderLengthSmallerThanHeader"),
-        14 => Some("DataOffsetTooSmall"),
-        _ => None,
-    }
-}
-
-/// The text of a kind of refusal that has no number.
-fn kind_text(kind: u32) -> Option<&'static str>
-    ensures { MatchOption result (kind_text kind ≡ None) (λ text. kind_text kind ≡ Some text.now) }
-{
-    match kind {
-        4 => Some("UnexpectedVersion"),
-        5 => Some("InvalidUnmodifiedShortLen"),
-        11 | 13 => Some("ZeroPayloadLen"),
-        12 => Some("HopByHopNotAtStart"),
+        2 => Some(SliceError::LinuxSll(linux_sll::HeaderError::UnsupportedPacketTypeField {
+            packet_type: 0,
+        })),
+        3 => Some(SliceError::LinuxSll(linux_sll::HeaderError::UnsupportedArpHardwareId {
+            arp_hardware_type: 0,
+        })),
+        4 => Some(SliceError::Macsec(macsec::HeaderError::UnexpectedVersion)),
+        5 => Some(SliceError::Macsec(macsec::HeaderError::InvalidUnmodifiedShortLen)),
+        6 => Some(SliceError::Ip(ip::HeaderError::UnsupportedIpVersion { version_number: 0 })),
+        7 => Some(SliceError::Ip(ip::HeaderError::Ipv4HeaderLengthSmallerThanHeader { ihl: 0 })),
+        8 => Some(SliceError::Ipv4(ipv4::HeaderError::UnexpectedVersion { version_number: 0 })),
+        9 => Some(SliceError::Ipv4(ipv4::HeaderError::HeaderLengthSmallerThanHeader { ihl: 0 })),
+        10 => Some(SliceError::Ipv6(ipv6::HeaderError::UnexpectedVersion { version_number: 0 })),
+        11 => Some(SliceError::Ipv4Exts(ip_auth::HeaderError::ZeroPayloadLen)),
+        12 => Some(SliceError::Ipv6Exts(ipv6_exts::HeaderError::HopByHopNotAtStart)),
+        13 => Some(SliceError::Ipv6Exts(ipv6_exts::HeaderError::IpAuth(
+            ip_auth::HeaderError::ZeroPayloadLen,
+        ))),
+        14 => Some(SliceError::Tcp(tcp::HeaderError::DataOffsetTooSmall { data_offset: 0 })),
         _ => None,
     }
 }

@@ -1,6 +1,6 @@
 use Rattle.std.proofs.Common.{◌+◌, length, ap, refl, sym, ◌∙◌}
 use Rattle.std.proofs.lemmas.Bool.{eqb-true}
-use Rattle.etherparse.specs.Layer.{cut_by}
+use Rattle.etherparse.specs.Readings.{cut_by}
 use Rattle.etherparse.specs.Types.LenSource.{LenSource}
 use Rattle.etherparse.specs.TransportParts.{transport_layer_of}
 use Rattle.etherparse.specs.Types.TransportSlice.TheVariants as transport

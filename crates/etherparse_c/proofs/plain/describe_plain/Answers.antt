@@ -1,5 +1,5 @@
 use Rattle.std.proofs.Common.{ℕ, List, Some, refl, subst}
-use Rattle.etherparse.specs.Layer.{slices}
+use Rattle.etherparse.specs.Readings.{slices}
 use Rattle.etherparse.specs.Types.EtherType.{EtherType}
 use Rattle.etherparse.specs.Ethernet2Slices.{ethernet2_slice_header, ethernet2_slice_payload}
 use Rattle.etherparse.specs.LinkSlices.{ethernet2}

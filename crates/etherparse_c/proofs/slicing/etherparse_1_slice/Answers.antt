@@ -2,7 +2,7 @@ use Rattle.std.proofs.Common.{rules, ◌≡◌, ℕ, Option, Some, inl, refl, ap
 use Rattle.etherparse.specs.Types.Entry.{Entry}
 use Rattle.etherparse.specs.Types.Entry.TheVariants.{Ethernet as ethernet, Ip as ip}
 use Rattle.etherparse_c.specs.SliceAnswers.{IsSliceAnswer, entry_of}
-use Rattle.etherparse_c.proofs.slicing.etherparse_slice.Goals as goal
+use Rattle.etherparse_c.proofs.slicing.etherparse_1_slice.Goals as goal
 
 pub returns-then-describe_plain : goal.returns-then-describe_plain
 returns-then-describe_plain c =

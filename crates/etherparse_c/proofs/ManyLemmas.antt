@@ -1,0 +1,68 @@
+-- Frames that are sliced one behind the other.
+use Rattle.std.proofs.Common.{◌≡◌, ◌≢◌, ◌<◌, ◌≤◌, ◌+◌, ℕ, List, length, drop, Option, arith, refl, sym, ap, add-one, ◌∙◌}
+use Rattle.std.specs.Prelude.{slice_set}
+use Rattle.std.specs.List.{slice_range}
+use Rattle.std.proofs.Math.ListN.{get_or, length-set}
+use Rattle.std.proofs.lemmas.List.{drop-set-lt, drop-drop, get_or-set_other, get_or-set_same}
+use Rattle.std.proofs.lemmas.Option.{get_or_from_slice_get, slice_get_read}
+use borrow.Author.Count.{below_more}
+use Rattle.etherparse.specs.Types.Entry.{Entry}
+use Rattle.etherparse_c.specs.SliceAnswers.{IsSliceAnswer}
+use Rattle.etherparse_c.specs.ManyAnswers.{AreSliced, IsSlicedAt, frame_start, frame_end}
+use Rattle.etherparse_c.specs.declared.packet.Packet.{Packet}
+
+-- what the loop keeps: the frames before a place are sliced, and the one at the place begins at this start
+pub record Slicing (entry : Option Entry) (bytes ends : List ℕ) (old new : List Packet) (start place sliced : ℕ)
+    : Type 0 where
+  pub are : AreSliced entry bytes ends old new place
+  pub begun : start ≡ frame_start ends place
+  pub told : sliced ≡ place
+
+-- a packet before the place stays when the one at the place is written
+kept : (entry : Option Entry) (bytes ends : List ℕ) (packets : List Packet) (packet : Packet) (place before : ℕ)
+    → before < place → place < length packets → IsSlicedAt entry bytes ends packets before
+    → IsSlicedAt entry bytes ends (slice_set packets place packet) before
+kept entry bytes ends packets packet place before above within is =
+    let other : before ≢ place = λ same. omega arith in
+    let here : before < length packets = omega arith in
+    let read = get_or_from_slice_get packets before is.packet is.packet is.stands in
+    record {
+      packet = is.packet;
+      status = is.status;
+      stands = slice_get_read (slice_set packets place packet) (length packets) before is.packet
+          (sym (length-set packets place packet)) here
+          (sym (get_or-set_other packets place before packet is.packet other ∙ read));
+      ascends = is.ascends;
+      within = is.within;
+      answer = is.answer;
+    }
+
+-- one more frame is sliced
+pub one_more : (entry : Option Entry) (bytes ends : List ℕ) (old new : List Packet) (packet : Packet)
+    (start place sliced status : ℕ) → Slicing entry bytes ends old new start place sliced → place < length ends
+    → place < length new → start ≤ frame_end ends place → frame_end ends place ≤ length bytes
+    → IsSliceAnswer entry (slice_range bytes start (frame_end ends place)) status packet
+    → Slicing entry bytes ends old (slice_set new place packet) (frame_end ends place) (place + 1) (place + 1)
+one_more entry bytes ends old new packet start place sliced status before more room ascends within answer =
+    let now = slice_set new place packet in
+    let here : IsSlicedAt entry bytes ends now place = record {
+      packet = packet;
+      status = status;
+      stands = slice_get_read now (length new) place packet (sym (length-set new place packet)) room
+          (sym (get_or-set_same new place packet packet room));
+      ascends = rw (← before.begun) ascends;
+      within = within;
+      answer = rw (← before.begun) answer;
+    } in
+    record {
+      are = record {
+        most = omega arith;
+        each = below_more (IsSlicedAt entry bytes ends now) place
+            (λ earlier above. kept entry bytes ends new packet place earlier above room (before.are.each earlier above))
+            here;
+        others = drop-set-lt (place + 1) new place packet (omega arith)
+            ∙ sym (drop-drop 1 place new) ∙ ap (drop 1) before.are.others ∙ drop-drop 1 place old;
+      };
+      begun = rw add-one refl;
+      told = refl;
+    }

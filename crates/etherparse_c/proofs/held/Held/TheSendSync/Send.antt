@@ -1,0 +1,23 @@
+-- A state behind a pointer may go to another thread.
+use base.Shift.{Keyless}
+use denote.Param.Send.{IsSend, AllSend, owning_send, sendable}
+use denote.Struct.Owning.{fields}
+use Rattle.std.proofs.alloc.Global.TheSendSync as heap
+use denote.RawPtr.{Ptr}
+use Rattle.std.specs.Prelude.{Option, Some, None}
+use Rattle.std.specs.declared.alloc.Global.{Global}
+use Rattle.etherparse_c.specs.Holding.{holds}
+use Rattle.etherparse_c.specs.contracts.held.Held.{the_row, the_type}
+use Rattle.etherparse_c.specs.contracts.state.State.{the_row as state_row}
+use Rattle.etherparse_c.specs.declared.state.State.{State}
+use Rattle.etherparse_c.proofs.state.State.TheSendSync as state
+use Rattle.etherparse_c.proofs.SentLemmas.{box_keyless}
+
+held_keyless : (held : Option State) (alloc : Global) (at : Ptr) → Keyless (holds held alloc at)
+held_keyless None alloc at = tt
+held_keyless (Some it) alloc at = box_keyless state_row state.the_send alloc at it
+
+pub send : IsSend the_row
+send =
+    let all : AllSend (fields the_type) = (search sendable, (heap.the_field_send, tt)) in
+    owning_send the_type all (λ d. held_keyless d.state d.alloc d.at) (λ k d w. tt)

@@ -1,0 +1,6 @@
+-- Texts that are appended in three parts.
+use Rattle.std.proofs.Common.{◌≡◌, ℕ, List, ◌++◌, append_assoc}
+
+pub three_parts : (start one two three a b c : List ℕ) → one ≡ start ++ a → two ≡ one ++ b → three ≡ two ++ c
+    → three ≡ start ++ (a ++ b ++ c)
+three_parts start one two three a b c first second third = rw (third, second, first) (simp append_assoc)
