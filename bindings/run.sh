@@ -1,11 +1,11 @@
 #!/usr/bin/env bash
-# Builds the examples of C and Rust against the archive that `rt lib` left in crates/etherparse_c/out, runs them on input that is made
-# here, and compares what they print. Says which of them need a compiler that is not there. Its status is 0 where all
+# Builds the examples and tests of C, Rust and Python against the archive that `rt lib` left in crates/etherparse_c/out,
+# runs them on input that is made here, and compares what they print. Says which of them need a compiler that is not there. Its status is 0 where all
 # that ran did what they must.
 set -euo pipefail
 cd "$(dirname "$0")"
 top=$(cd .. && pwd)
-archive=$top/crates/etherparse_c/out/libetherparse_c.a
+archive=${ETHERPARSE_C_ARCHIVE:-$top/crates/etherparse_c/out/libetherparse_c.a}
 if [ ! -e "$archive" ]; then
     echo "bindings: no $archive: run 'rt lib' in crates/etherparse_c first"
     exit 1
@@ -33,21 +33,36 @@ other=${datagram/04d2/0035}
 } > "$work/capture"
 
 if gcc --version > /dev/null 2>&1; then
-    build() {
-        gcc -std=c99 -pedantic -Wall -Wextra -Werror -O2 -Ic "c/examples/$1.c" "${@:2}" "$archive" -o "$work/$1"
+    build() { # a folder, a name, and what is linked
+        gcc -std=c99 -pedantic -Wall -Wextra -Werror -O2 -Ic "c/$1/$2.c" "${@:3}" "$archive" -o "$work/$2"
     }
     heap=c/etherparse_heap.c
-    build filter "$heap"
+    build examples filter "$heap"
     "$work/filter" 1234 "$work/capture" | tee "$work/filter.out"
     cmp "$work/filter.out" c/examples/filter.out
-    build build "$heap"
-    build reassemble "$heap"
-    build statuses # it has a memory of its own
-    for name in build reassemble statuses; do
+    for name in build reassemble; do
+        build examples "$name" "$heap"
         "$work/$name" | tee "$work/$name.out"
         cmp "$work/$name.out" "c/examples/$name.out"
     done
-    echo "bindings: filter.c, build.c, reassemble.c and statuses.c of c/examples printed what they must"
+    build tests statuses # it has a memory of its own
+    build tests stack "$heap" -pthread -Wl,-z,now # binding late takes stack of its own
+    for name in statuses stack; do
+        "$work/$name" | tee "$work/$name.out"
+        cmp "$work/$name.out" "c/tests/$name.out"
+    done
+    # What a compiler has to say of a caller's mistake, and a header of another layout, which must not link.
+    for mistake in NULL_PACKET NULL_FRAME STATUS_IGNORED STATUS_FORGOTTEN; do
+        if gcc -std=c99 -Wall -Wextra -Werror -O2 -Ic -D"$mistake" -c c/tests/mistakes.c -o "$work/mistake.o" 2> /dev/null; then
+            echo "bindings: the compiler says nothing of $mistake" && exit 1
+        fi
+    done
+    gcc -std=c99 -Wall -Wextra -Werror -O2 -Ic -c c/tests/mistakes.c -o "$work/mistake.o"
+    sed 's/etherparse_1_/etherparse_2_/g' c/etherparse.h > "$work/etherparse.h"
+    if gcc -std=c99 -O2 -I"$work" c/examples/build.c "$heap" "$archive" -o "$work/other" 2> /dev/null; then
+        echo "bindings: a header of another layout links" && exit 1
+    fi
+    echo "bindings: the C examples and tests printed what they must"
 else
     echo "bindings: no gcc, so the C examples were not run"
 fi
@@ -60,17 +75,8 @@ else
     echo "bindings: no g++, so the header was not read as C++"
 fi
 
-# The wrappers need cargo 1.78 or later: an older one does not read their Cargo.lock.
-needed=1.78
-cargo=$(cargo --version 2> /dev/null | cut -d ' ' -f 2) || true
-if [ -z "$cargo" ] || ! cc --version > /dev/null 2>&1; then
-    echo "bindings: no cargo or no cc, so the Rust wrappers and their example were not run"
-elif [ "$(printf '%s\n' "$needed" "$cargo" | sort -V | head -n 1)" != "$needed" ]; then
-    echo "bindings: cargo is $cargo, and the Rust wrappers need $needed, so they and their example were not run"
-else
-    cd rust
-    cargo test --quiet --offline
-    cargo run --quiet --offline --example filter -- 1234 "$work/capture" | tee "$work/filter.out"
-    cmp "$work/filter.out" examples/filter.out
-    echo "bindings: the wrappers' tests passed, and rust/examples/filter.rs printed what it must"
-fi
+# What is in other languages, and what installs: each says what is not there.
+export ETHERPARSE_C_ARCHIVE=$archive
+bash rust/test.sh "$work/capture"
+bash python/test.sh
+bash c/install_test.sh

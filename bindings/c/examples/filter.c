@@ -31,7 +31,7 @@ int main(int argc, char **argv) {
         frames++;
         struct etherparse_packet packet;
         if (etherparse_slice(ETHERPARSE_ENTRY_ETHERNET, 0, frame, len, &packet) != ETHERPARSE_OK) {
-            char text[142];
+            char text[ETHERPARSE_REFUSAL_TEXT_MAX];
             size_t written;
             if (etherparse_refusal_text(&packet.refusal, text, sizeof text, &written) != ETHERPARSE_OK)
                 return fprintf(stderr, "out of memory\n"), 1;

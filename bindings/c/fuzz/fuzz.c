@@ -1,0 +1,246 @@
+/* Asks the calls of etherparse.h about bytes that libFuzzer makes, and stops where an answer is none that the header allows.
+ *
+ * An input is the number of an entry, an ether type in two bytes, and frames, each behind its length in two bytes. Each
+ * frame is sliced, alone and with its neighbour; what is refused is put into words; each payload is built into a frame,
+ * which is sliced again; and all frames are given to one pool. Each frame ends where a page begins that may not be read,
+ * and each buffer is looked at behind its end. The archive has no counters for libFuzzer, so what is answered counts. */
+#include <etherparse.h>
+#include <stdio.h>
+#include <stdlib.h>
+#include <string.h>
+#include <sys/mman.h>
+
+#define WANT(holds) ((holds) ? (void)0 : (fprintf(stderr, "line %d: %s does not hold\n", __LINE__, #holds), abort()))
+
+enum { ROOM = 1 << 17, LIMIT = 256, MARK = 0xa5 };
+
+__attribute__((used, section("__libfuzzer_extra_counters"))) static uint8_t seen[1 << 14];
+
+static void see(uint32_t what, uint32_t which) { seen[(what * 131 + which) % sizeof seen] = 1; }
+
+/* The bytes, at the end of readable memory. */
+static const uint8_t *guarded(const uint8_t *bytes, size_t len) {
+    static uint8_t *room;
+    if (!room) {
+        room = mmap(NULL, ROOM + 4096, PROT_READ | PROT_WRITE, MAP_PRIVATE | MAP_ANONYMOUS, -1, 0);
+        WANT(room != MAP_FAILED && mprotect(room + ROOM, 4096, PROT_NONE) == 0);
+    }
+    WANT(len <= ROOM);
+    memcpy(room + ROOM - len, bytes, len);
+    return room + ROOM - len;
+}
+
+static void look_at_refusal(const struct etherparse_refusal *refusal) {
+    WANT(refusal->kind >= ETHERPARSE_REFUSAL_LEN && refusal->kind <= ETHERPARSE_REFUSAL_TCP_DATA_OFFSET);
+    int is_timestamp = refusal->layer == ETHERPARSE_LAYER_ICMPV4_TIMESTAMP
+                       || refusal->layer == ETHERPARSE_LAYER_ICMPV4_TIMESTAMP_REPLY;
+    if (refusal->kind == ETHERPARSE_REFUSAL_LEN) {
+        WANT(refusal->layer >= ETHERPARSE_LAYER_ETHERNET2_HEADER && refusal->layer <= ETHERPARSE_LAYER_ICMPV6);
+        WANT(refusal->len_source <= ETHERPARSE_END_ARP);
+        WANT(is_timestamp ? refusal->required_len == 20 && refusal->len != 20 : refusal->required_len > refusal->len);
+    } else {
+        WANT(refusal->layer == 0 && refusal->required_len == 0 && refusal->len == 0);
+    }
+    char text[ETHERPARSE_REFUSAL_TEXT_MAX + 1];
+    size_t written;
+    memset(text, MARK, sizeof text);
+    WANT(etherparse_refusal_text(refusal, text, ETHERPARSE_REFUSAL_TEXT_MAX, &written) == ETHERPARSE_OK);
+    WANT(written <= ETHERPARSE_REFUSAL_TEXT_MAX && written == strlen(text) + 1);
+    WANT((uint8_t)text[written] == MARK);
+    WANT(etherparse_refusal_text(refusal, text, written - 1, &written) == ETHERPARSE_TOO_SMALL);
+    see(refusal->kind, 64 * refusal->layer + refusal->len_source);
+}
+
+static void look_at_packet(const struct etherparse_packet *packet, uint32_t entry, size_t len) {
+    size_t end = 0;
+    WANT(packet->refusal.kind == ETHERPARSE_REFUSAL_NONE && packet->link_ext_count <= 3);
+    WANT(packet->link.offset == end);
+    WANT(packet->link.kind == (entry == ETHERPARSE_ENTRY_ETHERNET    ? ETHERPARSE_LINK_ETHERNET2
+                               : entry == ETHERPARSE_ENTRY_LINUX_SLL ? ETHERPARSE_LINK_LINUX_SLL
+                                                                     : 0u));
+    WANT(packet->link.len == (packet->link.kind == 0 ? 0u : packet->link.kind == 1 ? 14u : 16u));
+    end += packet->link.len;
+    for (uint32_t i = 0; i < 3; i++) {
+        const struct etherparse_link_ext *tag = &packet->link_exts[i];
+        WANT((tag->kind != 0) == (i < packet->link_ext_count));
+        WANT(tag->vlan_id <= 4095 && (tag->kind == ETHERPARSE_EXT_VLAN || tag->vlan_id == 0));
+        if (tag->kind == 0) continue;
+        WANT(tag->offset == end);
+        end += tag->len;
+    }
+    WANT(packet->net.offset == end);
+    end += packet->net.len;
+    WANT(packet->ip.version == (packet->net.kind == ETHERPARSE_NET_ARP ? 0 : packet->net.kind));
+    WANT(packet->ip.header_len <= packet->net.len && packet->ip.fragmented <= 1 && packet->ip.more_fragments <= 1);
+    WANT(packet->transport.offset == end);
+    end += packet->transport.len;
+    WANT(!packet->ip.fragmented || packet->transport.kind == 0);
+    uint32_t kind = packet->transport.kind;
+    int has_ports = kind == ETHERPARSE_TRANSPORT_UDP || kind == ETHERPARSE_TRANSPORT_TCP;
+    WANT(has_ports || (packet->source_port == 0 && packet->destination_port == 0));
+    WANT(packet->payload.offset == end && packet->payload.len <= len - end && end <= len);
+    WANT(packet->payload.len_source <= ETHERPARSE_END_ARP);
+    see(20 + packet->net.kind, 64 * packet->transport.kind + 8 * packet->link_ext_count + packet->payload.len_source);
+    see(30 + packet->link.kind, packet->ip.fragmented + 2 * packet->ip.more_fragments);
+}
+
+/* A frame with this payload, which has it when it is sliced. */
+static void look_at_building(const uint8_t *payload, size_t len, uint32_t choice) {
+    static uint8_t buffer[ROOM];
+    struct etherparse_route route = {.version = choice & 1 ? 6 : 4, .with_ethernet = (choice >> 1) & 1, .hop_limit = 9};
+    struct etherparse_packet packet;
+    size_t written, room = len + 62;
+    memset(buffer, MARK, room + 1);
+    enum etherparse_status status = etherparse_build_udp(&route, 21, 1234, payload, len, buffer, room, &written);
+    if (status == ETHERPARSE_TOO_LONG) {
+        WANT(len > 65507 && buffer[0] == MARK);
+        return;
+    }
+    size_t headers = 8 + (route.version == 4 ? 20 : 40) + (route.with_ethernet ? 14 : 0);
+    WANT(status == ETHERPARSE_OK && written == len + headers && buffer[written] == MARK && buffer[room] == MARK);
+    uint32_t entry = route.with_ethernet ? ETHERPARSE_ENTRY_ETHERNET : ETHERPARSE_ENTRY_IP;
+    WANT(etherparse_slice(entry, 0, buffer, written, &packet) == ETHERPARSE_OK);
+    WANT(packet.source_port == 21 && packet.destination_port == 1234 && packet.payload.len == len);
+    WANT(len == 0 || memcmp(buffer + packet.payload.offset, payload, len) == 0);
+    if (route.version == 4) WANT(etherparse_checksum(buffer + packet.net.offset, 20) == 0);
+    memset(buffer, MARK, room + 1);
+    size_t less = written - 1;
+    WANT(etherparse_build_udp(&route, 21, 1234, payload, len, buffer, less, &written) == ETHERPARSE_TOO_SMALL);
+    WANT(written == less + 1 && buffer[0] == MARK && buffer[less] == MARK);
+}
+
+/* The same behind tags, with options, and in two fragments, which a pool puts together. */
+static void look_at_tagged(const uint8_t *payload, size_t len, uint32_t choice) {
+    static uint8_t buffer[ROOM];
+    struct etherparse_tagged_route route = {
+        .route = {.version = choice & 1 ? 6 : 4, .with_ethernet = 1, .hop_limit = 9},
+        .tag_count = choice / 2 % 4,
+        .vlan_ids = {(uint16_t)(choice * 37 % 4200), 42},
+    };
+    struct etherparse_tcp_fields fields = {.source_port = 21, .destination_port = 1234, .flags = (uint8_t)choice};
+    struct etherparse_packet packet;
+    size_t written, options_len = choice / 8 % 44;
+    uint8_t options[44];
+    memset(options, 1, sizeof options);
+    if (len > 2000) len = 2000;
+    memset(buffer, MARK, len + 200);
+    enum etherparse_status status =
+        etherparse_build_tagged_tcp(&route, &fields, options, options_len, payload, len, buffer, len + 200, &written);
+    int fits = route.tag_count <= 2 && (route.tag_count == 0 || route.vlan_ids[0] <= 4095);
+    WANT(status == (options_len > 40 ? ETHERPARSE_TOO_LONG : fits ? ETHERPARSE_OK : ETHERPARSE_UNKNOWN_CHOICE));
+    see(50, status * 4 + route.tag_count);
+    if (status != ETHERPARSE_OK) {
+        WANT(written == 0 && buffer[0] == MARK);
+        return;
+    }
+    WANT(buffer[written] == MARK);
+    WANT(etherparse_slice(ETHERPARSE_ENTRY_ETHERNET, 0, buffer, written, &packet) == ETHERPARSE_OK);
+    WANT(packet.link_ext_count == route.tag_count && packet.transport.len == 20 + (options_len + 3) / 4 * 4);
+    for (uint32_t i = 0; i < route.tag_count; i++) WANT(packet.link_exts[i].vlan_id == route.vlan_ids[i]);
+    WANT(packet.payload.len == len && (len == 0 || memcmp(buffer + packet.payload.offset, payload, len) == 0));
+
+    struct etherparse_pool *pool;
+    struct etherparse_pool_answer answer;
+    uint8_t whole[2000];
+    size_t half = len / 16 * 8;
+    if (half == 0) return;
+    WANT(etherparse_pool_new(&pool) == ETHERPARSE_OK);
+    for (int i = 1; i >= 0; i--) {
+        struct etherparse_fragment_fields fragment = {
+            .ip_number = 253, .more_fragments = i == 0, .fragment_offset = (uint16_t)(i * half), .identification = 7};
+        WANT(etherparse_build_fragment(&route, &fragment, payload + i * half, i == 0 ? half : len - half, buffer,
+                                       sizeof buffer, &written)
+             == ETHERPARSE_OK);
+        status = etherparse_pool_push(pool, ETHERPARSE_ENTRY_ETHERNET, 0, buffer, written, 1, 0, whole, len, &answer);
+        WANT(status == (i == 0 ? ETHERPARSE_COMPLETE : ETHERPARSE_OK));
+    }
+    WANT(answer.len == len && answer.ip_number == 253 && memcmp(whole, payload, len) == 0);
+    etherparse_pool_free(pool);
+}
+
+static void look_at_pool(struct etherparse_pool *pool, uint32_t entry, uint16_t ether_type, const uint8_t *frame,
+                         size_t len, uint64_t time, enum etherparse_status sliced) {
+    uint8_t buffer[LIMIT + 1];
+    struct etherparse_pool_answer answer;
+    memset(buffer, MARK, sizeof buffer);
+    size_t room = time % 2 == 0 ? LIMIT : 24; /* a shorter one lets payloads wait */
+    enum etherparse_status status =
+        etherparse_pool_push(pool, entry, ether_type, frame, len, time, time % 3 == 2, buffer, room, &answer);
+    see(40, status * 8 + answer.fragment_refusal);
+    if (status == ETHERPARSE_COMPLETE) {
+        WANT(answer.len <= room && buffer[answer.len] == MARK);
+    } else {
+        WANT(buffer[0] == MARK && buffer[room] == MARK);
+    }
+    if (status == ETHERPARSE_REFUSED) {
+        WANT(sliced == ETHERPARSE_REFUSED);
+        look_at_refusal(&answer.refusal);
+    } else {
+        WANT(answer.refusal.kind == 0);
+    }
+    if (status == ETHERPARSE_TOO_SMALL) {
+        WANT(answer.len > room && answer.len <= LIMIT);
+        WANT(etherparse_pool_push(pool, entry, ether_type, frame, len, time, 0, buffer, room, &answer)
+             == ETHERPARSE_PAYLOAD_WAITS);
+        size_t waits = answer.len;
+        if (time % 4 == 3) {
+            etherparse_pool_discard(pool);
+            WANT(etherparse_pool_take(pool, buffer, LIMIT, &answer) == ETHERPARSE_OK && buffer[0] == MARK);
+            return;
+        }
+        WANT(etherparse_pool_take(pool, buffer, waits - 1, &answer) == ETHERPARSE_TOO_SMALL && buffer[0] == MARK);
+        WANT(etherparse_pool_take(pool, buffer, LIMIT, &answer) == ETHERPARSE_COMPLETE && answer.len == waits);
+        WANT(buffer[waits] == MARK);
+        WANT(etherparse_pool_take(pool, buffer, LIMIT, &answer) == ETHERPARSE_OK && answer.len == 0);
+    }
+}
+
+int LLVMFuzzerTestOneInput(const uint8_t *input, size_t left) {
+    if (left < 3 || left > ROOM) return 0;
+    uint32_t entry = input[0] % 5; /* 4 is none */
+    uint16_t ether_type = (uint16_t)(input[1] << 8 | input[2]);
+    input += 3, left -= 3;
+    struct etherparse_pool *pool;
+    WANT(etherparse_pool_with_limit(LIMIT, &pool) == ETHERPARSE_OK);
+    for (uint64_t time = 0; left >= 2 && time < 16; time++) {
+        size_t len = (size_t)(input[0] << 8 | input[1]);
+        input += 2, left -= 2;
+        if (len > left) len = left;
+        const uint8_t *frame = guarded(input, len);
+        input += len, left -= len;
+
+        struct etherparse_packet packet, other;
+        memset(&packet, 0x55, sizeof packet);
+        memset(&other, 0xaa, sizeof other);
+        enum etherparse_status status = etherparse_slice(entry, ether_type, frame, len, &packet);
+        WANT(etherparse_slice(entry, ether_type, frame, len, &other) == status);
+        WANT(other.payload.offset == packet.payload.offset && other.payload.len == packet.payload.len);
+        WANT(other.refusal.kind == packet.refusal.kind && other.refusal.len == packet.refusal.len);
+        WANT((entry == 4) == (status == ETHERPARSE_UNKNOWN_CHOICE));
+        if (status == ETHERPARSE_OK) {
+            look_at_packet(&packet, entry, len);
+            const uint8_t *payload = frame + packet.payload.offset;
+            look_at_building(payload, packet.payload.len, (uint32_t)len);
+            look_at_tagged(payload, packet.payload.len, (uint32_t)len + (len != 0 ? frame[len / 2] : 0u));
+        } else {
+            WANT(packet.link.kind == 0 && packet.link_ext_count == 0 && packet.net.kind == 0);
+            WANT(packet.ip.version == 0 && packet.transport.kind == 0 && packet.payload.len == 0);
+            if (status == ETHERPARSE_REFUSED) look_at_refusal(&packet.refusal);
+        }
+        const size_t ends[2] = {len / 2, len};
+        struct etherparse_packet both[2];
+        size_t sliced;
+        enum etherparse_status many = etherparse_slice_many(entry, ether_type, frame, len, ends, 2, both, &sliced);
+        WANT(many == (entry == 4 ? ETHERPARSE_UNKNOWN_CHOICE : ETHERPARSE_OK) && sliced == (entry == 4 ? 0u : 2u));
+        if (entry != 4) {
+            WANT(etherparse_slice(entry, ether_type, frame + len / 2, len - len / 2, &other)
+                 == (both[1].refusal.kind == 0 ? ETHERPARSE_OK : ETHERPARSE_REFUSED));
+            WANT(other.payload.offset == both[1].payload.offset && other.refusal.number == both[1].refusal.number);
+        }
+        look_at_pool(pool, entry, ether_type, frame, len, time, status);
+        if (time % 5 == 4) etherparse_pool_drop_older(pool, time - 2);
+    }
+    WANT(etherparse_pool_bytes(pool) <= etherparse_pool_streams(pool) * LIMIT);
+    etherparse_pool_free(pool);
+    return 0;
+}

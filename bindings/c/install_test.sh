@@ -1,0 +1,71 @@
+#!/usr/bin/env bash
+# Makes a release of the archive, installs it into a folder of its own, and builds an example by pkg-config, one by CMake and
+# one against the shared object; runs a program with memory of its own on the archive; compares what they print.
+set -euo pipefail
+here=$(cd "$(dirname "$0")" && pwd)
+CC=${CC:-cc}
+if ! "$CC" --version > /dev/null 2>&1 || ! make --version > /dev/null 2>&1; then
+    echo "bindings: no $CC or no make, so no release was installed"
+    exit 0
+fi
+work=$(mktemp -d)
+trap 'rm -rf "$work"' EXIT
+# (no release: the line of the verdict is not looked for)
+ETHERPARSE_VERDICT=${ETHERPARSE_VERDICT:-"verdict: a test"} "$here/release.sh" "$work" > "$work/log"
+tar -xzf "$work"/etherparse-c-*-x86_64-linux.tar.gz -C "$work"
+release=$(echo "$work"/etherparse-c-*-x86_64-linux)
+prefix=$work/prefix
+make -s -C "$release" check
+make -s -C "$release" install PREFIX="$prefix"
+flags=(-std=c99 -Wall -Wextra -Werror -O2)
+
+# By pkg-config, from where it is installed and from where it lies. Without one, the flags are as it would tell them.
+for folder in "$prefix" "$release"; do
+    if pkg-config --version > /dev/null 2>&1; then
+        told=$(PKG_CONFIG_PATH=$folder/lib/pkgconfig pkg-config --cflags --libs etherparse)
+    else
+        told="-I$folder/include -L$folder/lib -l:libetherparse_c.a"
+    fi
+    # shellcheck disable=SC2086
+    "$CC" "${flags[@]}" "$here/examples/build.c" $told -o "$work/build"
+    "$work/build" | cmp - "$here/examples/build.out"
+done
+ways="pkg-config"
+
+if cmake --version > /dev/null 2>&1; then
+    mkdir "$work/by_cmake"
+    cat > "$work/by_cmake/CMakeLists.txt" <<END
+cmake_minimum_required(VERSION 3.16)
+project(test C)
+find_package(etherparse 0.1 REQUIRED)
+add_executable(by_archive "$here/examples/reassemble.c")
+target_link_libraries(by_archive etherparse::etherparse)
+add_executable(by_shared "$here/examples/reassemble.c")
+target_link_libraries(by_shared etherparse::shared)
+END
+    cmake -S "$work/by_cmake" -B "$work/by_cmake/build" -DCMAKE_C_COMPILER="$CC" -DCMAKE_PREFIX_PATH="$prefix" \
+        > "$work/log"
+    cmake --build "$work/by_cmake/build" > "$work/log" || { cat "$work/log"; exit 1; }
+    for name in by_archive by_shared; do
+        "$work/by_cmake/build/$name" | cmp - "$here/examples/reassemble.out"
+    done
+    # another minor version is not taken
+    sed -i 's/etherparse 0.1/etherparse 0.2/' "$work/by_cmake/CMakeLists.txt"
+    ! cmake -S "$work/by_cmake" -B "$work/by_cmake/other" -DCMAKE_PREFIX_PATH="$prefix" > "$work/log" 2>&1
+    grep -q 'compatible with requested version "0.2"' "$work/log"
+    ways="$ways, CMake"
+fi
+
+"$CC" "${flags[@]}" "$here/examples/reassemble.c" -I"$prefix/include" -L"$prefix/lib" -letherparse_c \
+    -Wl,-rpath,"$prefix/lib" -o "$work/reassemble"
+"$work/reassemble" | cmp - "$here/examples/reassemble.out"
+if command -v readelf > /dev/null; then # it is the shared object that is asked for
+    readelf -d "$work/reassemble" | grep -q 'NEEDED.*libetherparse_c.so.1'
+fi
+# The program's own memory goes before the archive's.
+"$CC" "${flags[@]}" "$here/tests/statuses.c" -I"$prefix/include" "$prefix/lib/libetherparse_c.a" -o "$work/statuses"
+"$work/statuses" | cmp - "$here/tests/statuses.out"
+make -s -C "$release" uninstall PREFIX="$prefix"
+[ -z "$(find "$prefix" -type f -o -type l)" ] || { echo "left behind:"; find "$prefix" -type f; exit 1; }
+echo "bindings: a release was installed; examples built by $ways and with the shared object printed what they must"
+"$here/../clean_test.sh" "$work"/etherparse-c-*-x86_64-linux.tar.gz

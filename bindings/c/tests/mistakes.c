@@ -1,0 +1,26 @@
+/* What a compiler warns of: each of these mistakes is refused under -Wall -Wextra -Werror, and without them this
+ * compiles. */
+#include <etherparse.h>
+
+int mistakes(const uint8_t *frame, size_t len, struct etherparse_packet *packet);
+
+int mistakes(const uint8_t *frame, size_t len, struct etherparse_packet *packet) {
+#if defined(NULL_PACKET)
+    (void)packet;
+    enum etherparse_status status = etherparse_slice(ETHERPARSE_ENTRY_IP, 0, frame, len, NULL);
+#elif defined(NULL_FRAME)
+    (void)frame, (void)len;
+    enum etherparse_status status = etherparse_slice(ETHERPARSE_ENTRY_IP, 0, NULL, 14, packet);
+#else
+    enum etherparse_status status = etherparse_slice(ETHERPARSE_ENTRY_IP, 0, frame, len, packet);
+#endif
+#if defined(STATUS_IGNORED)
+    etherparse_slice(ETHERPARSE_ENTRY_IP, 0, frame, len, packet);
+#elif defined(STATUS_FORGOTTEN)
+    switch (status) {
+    case ETHERPARSE_OK:
+        return 0;
+    }
+#endif
+    return status != ETHERPARSE_OK;
+}

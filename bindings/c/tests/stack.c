@@ -1,0 +1,168 @@
+/* How much stack each call needs: each is made on a thread of 16 KiB, the least that there is, whose stack is painted
+ * before, and the deepest byte that it wrote is looked for. The status is 1 where a call needs more than the header
+ * says. ETHERPARSE_SHOW_STACK=1 shows the figures. */
+#define _GNU_SOURCE
+#include <etherparse.h>
+#include <limits.h>
+#include <pthread.h>
+#include <stdio.h>
+#include <stdlib.h>
+#include <string.h>
+#include <unistd.h>
+
+enum { LEAST = 16384, PAINT = 0xa5, ROOM = 70000 };
+
+static uint8_t payload[1024], buffer[ROOM], frame[ROOM];
+static size_t written, frame_len, sliced;
+static uint32_t status;
+static struct etherparse_packet packet, packets[4];
+static struct etherparse_pool *pool;
+static struct etherparse_pool_answer answer;
+static struct etherparse_tagged_route tagged = {
+    .route = {.version = 4, .with_ethernet = 1, .hop_limit = 20, .ipv4_source = {10, 0, 0, 1},
+              .ipv4_destination = {10, 0, 0, 2}},
+    .tag_count = 2, .vlan_ids = {1, 2}};
+static const struct etherparse_tcp_fields tcp = {.source_port = 80, .destination_port = 4000};
+static struct etherparse_fragment_fields fragment = {.ip_number = 17, .more_fragments = 1, .identification = 7};
+
+/* ---- the calls */
+
+static void nothing(void) {}
+static void version(void) { status = etherparse_version(); }
+static void slice(void) { status = etherparse_slice(ETHERPARSE_ENTRY_ETHERNET, 0, frame, frame_len, &packet); }
+static void slice_cut(void) { status = etherparse_slice(ETHERPARSE_ENTRY_ETHERNET, 0, frame, 40, &packet); }
+static void slice_many(void) {
+    const size_t ends[4] = {frame_len, frame_len, 2 * frame_len, 3 * frame_len};
+    status = etherparse_slice_many(ETHERPARSE_ENTRY_ETHERNET, 0, frame, 3 * frame_len, ends, 4, packets, &sliced);
+}
+static void text(void) {
+    status = etherparse_refusal_text(&packet.refusal, (char *)buffer, ETHERPARSE_REFUSAL_TEXT_MAX, &written);
+}
+static void checksum(void) { status = etherparse_checksum(payload, sizeof payload); }
+static void build_udp(void) {
+    status = etherparse_build_udp(&tagged.route, 21, 1234, payload, sizeof payload, buffer, ROOM, &written);
+}
+static void build_tcp(void) {
+    status = etherparse_build_tcp(&tagged.route, &tcp, payload, sizeof payload, buffer, ROOM, &written);
+}
+static void build_icmp_echo(void) {
+    status = etherparse_build_icmp_echo(&tagged.route, 0, 1, 2, payload, sizeof payload, buffer, ROOM, &written);
+}
+static void build_tagged_udp(void) {
+    status = etherparse_build_tagged_udp(&tagged, 21, 1234, payload, sizeof payload, buffer, ROOM, &written);
+}
+static void build_tagged_tcp(void) {
+    status = etherparse_build_tagged_tcp(&tagged, &tcp, payload, 12, payload, sizeof payload, buffer, ROOM, &written);
+}
+static void build_tagged_icmp_echo(void) {
+    status = etherparse_build_tagged_icmp_echo(&tagged, 0, 1, 2, payload, sizeof payload, buffer, ROOM, &written);
+}
+static void build_fragment(void) {
+    status = etherparse_build_fragment(&tagged, &fragment, payload, sizeof payload, buffer, ROOM, &written);
+}
+static void pool_new(void) { status = etherparse_pool_new(&pool); }
+static void pool_with_limit(void) { status = etherparse_pool_with_limit(ETHERPARSE_MAX_PAYLOAD, &pool); }
+static void pool_push(void) {
+    status = etherparse_pool_push(pool, ETHERPARSE_ENTRY_ETHERNET, 0, frame, frame_len, 1, 0, buffer, 8, &answer);
+}
+static void pool_take(void) { status = etherparse_pool_take(pool, buffer, ROOM, &answer); }
+static void pool_discard(void) { etherparse_pool_discard(pool); }
+static void pool_drop_older(void) { etherparse_pool_drop_older(pool, 2); }
+static void pool_streams(void) { written = etherparse_pool_streams(pool); }
+static void pool_bytes(void) { written = etherparse_pool_bytes(pool); }
+static void pool_free(void) { etherparse_pool_free(pool); }
+
+/* ---- a call on a painted stack */
+
+static void *run(void *call) {
+    void (*it)(void);
+    memcpy(&it, call, sizeof it);
+    it();
+    return NULL;
+}
+
+/* How many bytes of a stack of `len` the call writes, what the thread itself takes among them. */
+static size_t written_by(void (*call)(void), size_t len) {
+    static uint8_t *stack;
+    if (!stack && posix_memalign((void **)&stack, (size_t)sysconf(_SC_PAGESIZE), 1 << 17)) exit(2);
+    memset(stack, PAINT, len);
+    pthread_attr_t attributes;
+    pthread_t thread;
+    if (pthread_attr_init(&attributes) || pthread_attr_setstack(&attributes, stack, len)
+        || pthread_create(&thread, &attributes, run, &call) || pthread_join(thread, NULL))
+        exit(2);
+    pthread_attr_destroy(&attributes);
+    size_t untouched = 0;
+    while (untouched < len && stack[untouched] == PAINT) untouched++;
+    return len - untouched;
+}
+
+static int failed;
+
+/* A call of this status needs at most so many bytes, beside those of a thread that does nothing. */
+static void needs(const char *name, void (*call)(void), uint32_t wanted, size_t most, size_t len) {
+    status = wanted;
+    size_t own = written_by(nothing, len), taken = written_by(call, len) - own;
+    if (getenv("ETHERPARSE_SHOW_STACK")) fprintf(stderr, "%-24s %6zu\n", name, taken);
+    if (status != wanted) printf("%s: status %u\n", name, (unsigned)status), failed = 1;
+    if (taken > most) printf("%s: %zu bytes of stack, above %zu\n", name, taken, most), failed = 1;
+}
+#define NEEDS(call, wanted) needs(#call, call, wanted, ETHERPARSE_STACK, LEAST)
+
+/* The frame that is pushed next: the fragment at this place. */
+static void cut(size_t from, size_t to, uint8_t more) {
+    fragment.fragment_offset = (uint16_t)from, fragment.more_fragments = more;
+    if (etherparse_build_fragment(&tagged, &fragment, payload, to - from, frame, sizeof frame, &frame_len)) exit(2);
+}
+
+int main(void) {
+    for (uint8_t number = 4; number <= 6; number = (uint8_t)(number + 2)) {
+        tagged.route.version = number;
+        if (etherparse_build_tagged_udp(&tagged, 21, 1234, payload, sizeof payload, frame, sizeof frame, &frame_len))
+            return 2;
+        memcpy(frame + frame_len, frame, frame_len), memcpy(frame + 2 * frame_len, frame, frame_len);
+        NEEDS(version, ETHERPARSE_VERSION);
+        NEEDS(slice, ETHERPARSE_OK);
+        NEEDS(slice_many, ETHERPARSE_OK);
+        NEEDS(slice_cut, ETHERPARSE_REFUSED);
+        NEEDS(text, ETHERPARSE_OK);
+        needs("checksum", checksum, 0xffff, ETHERPARSE_STACK, LEAST);
+        NEEDS(build_udp, ETHERPARSE_OK);
+        NEEDS(build_tcp, ETHERPARSE_OK);
+        NEEDS(build_icmp_echo, ETHERPARSE_OK);
+        NEEDS(build_tagged_udp, ETHERPARSE_OK);
+        NEEDS(build_tagged_tcp, ETHERPARSE_OK);
+        NEEDS(build_tagged_icmp_echo, ETHERPARSE_OK);
+        needs("build_fragment", build_fragment, ETHERPARSE_OK, ETHERPARSE_STACK_OF_FRAGMENTS, 1 << 17);
+        NEEDS(pool_new, ETHERPARSE_OK);
+        NEEDS(pool_free, ETHERPARSE_OK);
+        NEEDS(pool_with_limit, ETHERPARSE_OK);
+        cut(16, 32, 1);
+        NEEDS(pool_push, ETHERPARSE_OK);
+        cut(32, 40, 0);
+        NEEDS(pool_push, ETHERPARSE_OK);
+        NEEDS(pool_streams, ETHERPARSE_OK);
+        NEEDS(pool_bytes, ETHERPARSE_OK);
+        cut(0, 16, 1);
+        NEEDS(pool_push, ETHERPARSE_TOO_SMALL);
+        NEEDS(pool_push, ETHERPARSE_PAYLOAD_WAITS);
+        NEEDS(pool_take, ETHERPARSE_COMPLETE);
+        for (size_t i = 0; i < 64; i++) { /* tables that grow */
+            fragment.identification = (uint32_t)(100 + i);
+            cut(8, 16, 1);
+            NEEDS(pool_push, ETHERPARSE_OK);
+        }
+        cut(24, 32, 0), status = etherparse_pool_push(pool, 0, 0, frame, frame_len, 1, 0, buffer, 8, &answer);
+        cut(16, 24, 1), status = etherparse_pool_push(pool, 0, 0, frame, frame_len, 1, 0, buffer, 8, &answer);
+        cut(0, 8, 1);
+        NEEDS(pool_push, ETHERPARSE_TOO_SMALL);
+        NEEDS(pool_discard, ETHERPARSE_OK);
+        NEEDS(pool_drop_older, ETHERPARSE_OK);
+        NEEDS(pool_free, ETHERPARSE_OK);
+        fragment.identification = 7;
+    }
+    if (!failed)
+        printf("stack: each call on a thread of %d bytes needs at most %d, and building a fragment at most %d\n", LEAST,
+               ETHERPARSE_STACK, ETHERPARSE_STACK_OF_FRAGMENTS);
+    return failed;
+}

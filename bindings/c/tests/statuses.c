@@ -1,0 +1,405 @@
+/* Asks each call for each of its statuses, and looks at what it leaves: the buffer, the number that is told, memory.
+ * The memory is this program's own, in place of etherparse_heap.c: it counts the blocks that are out, and refuses one
+ * request. Says what held; its status is 1 where something did not. */
+#include <etherparse.h>
+#include <stdbool.h>
+#include <stdio.h>
+#include <stdlib.h>
+#include <string.h>
+
+/* ---- memory */
+
+static unsigned long blocks, requests, refused; /* blocks that are out; requests so far; the request that is refused */
+
+static struct etherparse_block answer(void *block, bool is_new) {
+    static char none;
+    struct etherparse_block it = {block != NULL, block != NULL ? block : &none};
+    if (it.is_there && is_new) blocks++;
+    return it;
+}
+
+struct etherparse_block rattle_alloc(size_t len, size_t align) {
+    return answer(++requests == refused ? NULL : malloc(len != 0 ? len : align), true);
+}
+
+struct etherparse_block rattle_realloc(void *block, size_t kept, size_t len, size_t align) {
+    (void)kept;
+    return answer(++requests == refused ? NULL : realloc(block, len != 0 ? len : align), false);
+}
+
+void rattle_dealloc(void *block) {
+    blocks--;
+    free(block);
+}
+
+/* ---- what is wanted */
+
+static int failed;
+
+static void want(bool holds, const char *what, int line) {
+    if (!holds) printf("line %d: %s does not hold\n", line, what), failed = 1;
+}
+#define WANT(what) want(what, #what, __LINE__)
+
+enum { ROOM = 200, LONG = 70000 };
+static uint8_t buffer[ROOM], untouched[ROOM], payload[LONG];
+static size_t written;
+static const struct etherparse_route route = {
+    .version = 4, .with_ethernet = 1, .hop_limit = 20, .ipv4_source = {10, 0, 0, 1}, .ipv4_destination = {10, 0, 0, 2}};
+
+static bool is_untouched(size_t from) { return memcmp(buffer + from, untouched + from, ROOM - from) == 0; }
+
+/* ---- calls that write into a buffer: each takes a route, the payload's length and the buffer's */
+
+static uint32_t udp(const struct etherparse_route *r, size_t len, size_t room) {
+    return etherparse_build_udp(r, 21, 1234, payload, len, buffer, room, &written);
+}
+
+static uint32_t tcp(const struct etherparse_route *r, size_t len, size_t room) {
+    struct etherparse_tcp_fields fields = {.source_port = 80, .destination_port = 4000, .flags = ETHERPARSE_TCP_SYN};
+    return etherparse_build_tcp(r, &fields, payload, len, buffer, room, &written);
+}
+
+static uint32_t echo(const struct etherparse_route *r, size_t len, size_t room) {
+    return etherparse_build_icmp_echo(r, 1, 2, 3, payload, len, buffer, room, &written);
+}
+
+static struct etherparse_tagged_route tagged = {.tag_count = 2, .vlan_ids = {1, 4095}};
+static struct etherparse_fragment_fields fragment_fields = {.ip_number = 17, .more_fragments = 1,
+                                                            .fragment_offset = 16, .identification = 65535};
+static size_t options_len = 40;
+
+static uint32_t tagged_udp(const struct etherparse_route *r, size_t len, size_t room) {
+    tagged.route = *r;
+    return etherparse_build_tagged_udp(&tagged, 21, 1234, payload, len, buffer, room, &written);
+}
+
+static uint32_t tagged_tcp(const struct etherparse_route *r, size_t len, size_t room) {
+    struct etherparse_tcp_fields fields = {.source_port = 80, .destination_port = 4000, .flags = ETHERPARSE_TCP_SYN};
+    tagged.route = *r;
+    return etherparse_build_tagged_tcp(&tagged, &fields, payload, options_len, payload, len, buffer, room, &written);
+}
+
+static uint32_t tagged_echo(const struct etherparse_route *r, size_t len, size_t room) {
+    tagged.route = *r;
+    return etherparse_build_tagged_icmp_echo(&tagged, 1, 2, 3, payload, len, buffer, room, &written);
+}
+
+static uint32_t fragments(const struct etherparse_route *r, size_t len, size_t room) {
+    tagged.route = *r;
+    return etherparse_build_fragment(&tagged, &fragment_fields, payload, len, buffer, room, &written);
+}
+
+static uint32_t text(const struct etherparse_route *r, size_t len, size_t room) {
+    (void)r, (void)len;
+    struct etherparse_refusal it = {.kind = ETHERPARSE_REFUSAL_IPV4_VERSION, .number = 15};
+    return etherparse_refusal_text(&it, (char *)buffer, room, &written);
+}
+
+typedef uint32_t writing(const struct etherparse_route *, size_t, size_t);
+
+/* A call that writes `whole` bytes: with room, with too little, and with each of its requests for memory refused. */
+static void writes(const char *name, writing *call, size_t whole) {
+    memcpy(buffer, untouched, ROOM);
+    requests = refused = 0;
+    WANT(call(&route, 8, ROOM) == ETHERPARSE_OK);
+    WANT(written == whole && is_untouched(whole) && !is_untouched(0));
+    WANT(blocks == 0);
+    unsigned long asked = requests;
+    memcpy(buffer, untouched, ROOM);
+    WANT(call(&route, 8, whole) == ETHERPARSE_OK && written == whole);
+    memcpy(buffer, untouched, ROOM);
+    for (size_t room = 0; room < whole; room++) {
+        WANT(call(&route, 8, room) == ETHERPARSE_TOO_SMALL);
+        WANT(written == whole && is_untouched(0) && blocks == 0);
+    }
+    WANT(asked > 0);
+    for (unsigned long i = 1; i <= asked; i++) {
+        requests = 0, refused = i, written = 7;
+        WANT(call(&route, 8, ROOM) == ETHERPARSE_OUT_OF_MEMORY);
+        WANT(written == 0 && is_untouched(0) && blocks == 0);
+    }
+    refused = 0;
+    printf("%s: written whole or not at all; without memory nothing is written, and none is kept\n", name);
+}
+
+/* A call that builds: with a version that is none, and with a payload that is one byte too long. */
+static void builds(const char *name, writing *call, size_t headers, size_t most) {
+    struct etherparse_route other = route;
+    for (int version = 0; version < 256; version++) {
+        if (version == 4 || version == 6) continue;
+        other.version = (uint8_t)version, written = 7;
+        WANT(call(&other, 8, ROOM) == ETHERPARSE_UNKNOWN_CHOICE && written == 0);
+    }
+    WANT(call(&route, most, ROOM) == ETHERPARSE_TOO_SMALL && written == headers + most);
+    WANT(call(&route, most + 1, ROOM) == ETHERPARSE_TOO_LONG && written == 0);
+    WANT(call(&route, LONG, ROOM) == ETHERPARSE_TOO_LONG && written == 0);
+    WANT(is_untouched(0) && blocks == 0);
+    printf("%s: at most %zu bytes of payload, and no version but 4 and 6\n", name, most);
+}
+
+/* Numbers of tags, options and fragments that are none. */
+static void tags(void) {
+    struct etherparse_route other = route;
+    memcpy(buffer, untouched, ROOM);
+    for (uint32_t count = 3; count != 0; count = count < 20 ? count + 1 : count == 20 ? UINT32_MAX : 0) {
+        tagged.tag_count = count;
+        WANT(tagged_udp(&route, 8, ROOM) == ETHERPARSE_UNKNOWN_CHOICE && written == 0);
+        WANT(fragments(&route, 8, ROOM) == ETHERPARSE_UNKNOWN_CHOICE && written == 0);
+    }
+    tagged.tag_count = 2, tagged.vlan_ids[1] = 4096;
+    WANT(tagged_udp(&route, 8, ROOM) == ETHERPARSE_UNKNOWN_CHOICE && written == 0);
+    tagged.vlan_ids[0] = 4096, tagged.vlan_ids[1] = 4095;
+    WANT(tagged_tcp(&route, 8, ROOM) == ETHERPARSE_UNKNOWN_CHOICE && written == 0);
+    tagged.tag_count = 1;
+    WANT(fragments(&route, 8, ROOM) == ETHERPARSE_UNKNOWN_CHOICE && written == 0);
+    tagged.vlan_ids[0] = 1, other.with_ethernet = 0;
+    WANT(tagged_echo(&other, 8, ROOM) == ETHERPARSE_UNKNOWN_CHOICE && written == 0);
+    options_len = 41;
+    WANT(tagged_tcp(&route, 8, ROOM) == ETHERPARSE_TOO_LONG && written == 0);
+    options_len = 40;
+    for (uint16_t offset = 1; offset < 24; offset++) {
+        fragment_fields.fragment_offset = offset;
+        WANT(offset % 8 == 0 || (fragments(&route, 8, ROOM) == ETHERPARSE_UNKNOWN_CHOICE && written == 0));
+    }
+    fragment_fields.fragment_offset = 8, fragment_fields.identification = 65536;
+    WANT(fragments(&route, 8, ROOM) == ETHERPARSE_UNKNOWN_CHOICE && written == 0 && is_untouched(0) && blocks == 0);
+    other.version = 6, tagged.tag_count = 0;
+    WANT(fragments(&other, 8, ROOM) == ETHERPARSE_OK && written == 40 + 8 + 8);
+    tagged.vlan_ids[0] = tagged.vlan_ids[1] = 4096; /* not read */
+    WANT(tagged_udp(&route, 8, ROOM) == ETHERPARSE_OK && written == 50);
+    struct etherparse_packet packet;
+    tagged.tag_count = 2, tagged.vlan_ids[0] = 7, tagged.vlan_ids[1] = 8, other.with_ethernet = 1;
+    fragment_fields.fragment_offset = 65528, fragment_fields.identification = 0x12345678;
+    WANT(fragments(&other, 8, ROOM) == ETHERPARSE_OK);
+    WANT(etherparse_slice(ETHERPARSE_ENTRY_ETHERNET, 0, buffer, written, &packet) == ETHERPARSE_OK);
+    WANT(packet.link_ext_count == 2 && packet.link_exts[0].vlan_id == 7 && packet.link_exts[1].vlan_id == 8);
+    WANT(packet.ip.version == 6 && packet.ip.fragmented == 1 && packet.ip.fragment_offset == 65528);
+    WANT(packet.ip.more_fragments == 1 && packet.ip.identification == 0x12345678 && packet.ip.number == 17);
+    WANT(packet.payload.len == 8 && blocks == 0);
+    printf("tags, options, fragments: no other numbers; a fragment behind two tags is sliced as it was built\n");
+}
+
+/* ---- calls that take no memory */
+
+/* Many frames in one call: all of them, up to a bad end, and none. */
+static void many(void) {
+    uint8_t frames[3 * 60];
+    size_t lens[3], len = 0, ends[3], sliced = 7;
+    struct etherparse_packet packets[4], one, before;
+    for (size_t i = 0; i < 3; i++) {
+        WANT(etherparse_build_udp(&route, 1, (uint16_t)i, payload, i, frames + len, 60, &lens[i]) == ETHERPARSE_OK);
+        ends[i] = len += lens[i];
+    }
+    requests = 0;
+    memset(&before, 0xab, sizeof before);
+    for (size_t i = 0; i < 4; i++) packets[i] = before;
+    WANT(etherparse_slice_many(0, 0, frames, len, ends, 3, packets, &sliced) == ETHERPARSE_OK && sliced == 3);
+    for (size_t i = 0, start = 0; i < 3; start = ends[i++]) {
+        memset(&one, 0xab, sizeof one);
+        WANT(etherparse_slice(0, 0, frames + start, lens[i], &one) == ETHERPARSE_OK);
+        WANT(memcmp(&one, &packets[i], sizeof one) == 0 && one.destination_port == i && one.payload.len == i);
+    }
+    WANT(memcmp(&before, &packets[3], sizeof before) == 0);
+    ends[1] = ends[0] + 13; /* too few bytes for a frame, and the rest is another */
+    WANT(etherparse_slice_many(0, 0, frames, len, ends, 3, packets, &sliced) == ETHERPARSE_OK && sliced == 3);
+    WANT(packets[0].refusal.kind == 0 && packets[1].refusal.kind == ETHERPARSE_REFUSAL_LEN);
+    for (size_t end = 0; end < 2; end++) {
+        ends[1] = end ? len + 1 : ends[0] - 1;
+        for (size_t i = 0; i < 4; i++) packets[i] = before;
+        WANT(etherparse_slice_many(0, 0, frames, len, ends, 3, packets, &sliced) == ETHERPARSE_UNKNOWN_CHOICE);
+        WANT(sliced == 1 && packets[0].refusal.kind == 0 && memcmp(&before, &packets[1], sizeof before) == 0);
+    }
+    WANT(etherparse_slice_many(4, 0, frames, len, ends, 3, packets, &sliced) == ETHERPARSE_UNKNOWN_CHOICE);
+    WANT(sliced == 0 && memcmp(&before, &packets[1], sizeof before) == 0);
+    WANT(etherparse_slice_many(0, 0, NULL, 0, NULL, 0, NULL, &sliced) == ETHERPARSE_OK && sliced == 0);
+    WANT(etherparse_1_slice_many(0, 0, frames, len, ends, 3, packets, 2, &sliced) == ETHERPARSE_TOO_SMALL);
+    WANT(sliced == 0 && requests == 0);
+    printf("etherparse_slice_many: as one call for each, up to a bad end\n");
+}
+
+/* Null, where there are no bytes. */
+static void nulls(void) {
+    struct etherparse_packet packet;
+    struct etherparse_pool *pool;
+    struct etherparse_pool_answer told;
+    struct etherparse_refusal it = {.kind = ETHERPARSE_REFUSAL_MACSEC_VERSION};
+    WANT(etherparse_slice(ETHERPARSE_ENTRY_ETHERNET, 0, NULL, 0, &packet) == ETHERPARSE_REFUSED);
+    WANT(etherparse_checksum(NULL, 0) == 0xffff);
+    WANT(etherparse_refusal_text(&it, NULL, 0, &written) == ETHERPARSE_TOO_SMALL && written == 18);
+    WANT(etherparse_build_udp(&route, 21, 1234, NULL, 0, NULL, 0, &written) == ETHERPARSE_TOO_SMALL && written == 42);
+    WANT(etherparse_build_udp(&route, 21, 1234, NULL, 0, buffer, ROOM, &written) == ETHERPARSE_OK && written == 42);
+    WANT(etherparse_pool_new(&pool) == ETHERPARSE_OK);
+    WANT(etherparse_pool_push(pool, ETHERPARSE_ENTRY_ETHERNET, 0, NULL, 0, 0, 0, NULL, 0, &told) == ETHERPARSE_REFUSED);
+    WANT(etherparse_pool_take(pool, NULL, 0, &told) == ETHERPARSE_OK);
+    etherparse_pool_free(pool);
+    etherparse_pool_free(NULL);
+    WANT(blocks == 0 && etherparse_version() == ETHERPARSE_VERSION);
+    printf("null, where there are no bytes: taken\n");
+}
+
+static void slices(void) {
+    struct etherparse_packet packet, nothing;
+    requests = 0;
+    memset(&nothing, 0, sizeof nothing);
+    for (uint32_t entry = 4; entry != 3; entry = entry < 40 ? entry + 1 : entry == 40 ? UINT32_MAX : 3) {
+        memset(&packet, 0xff, sizeof packet);
+        WANT(etherparse_slice(entry, 0x0800, payload, 100, &packet) == ETHERPARSE_UNKNOWN_CHOICE);
+        WANT(packet.link.kind == 0 && packet.link_ext_count == 0 && packet.net.kind == 0 && packet.ip.version == 0);
+        WANT(packet.transport.kind == 0 && packet.payload.len == 0 && packet.payload.offset == 0);
+        WANT(memcmp(&packet.refusal, &nothing.refusal, sizeof packet.refusal) == 0);
+    }
+    WANT(etherparse_slice(ETHERPARSE_ENTRY_ETHERNET, 0, payload, 13, &packet) == ETHERPARSE_REFUSED);
+    WANT(packet.refusal.kind == ETHERPARSE_REFUSAL_LEN && packet.refusal.layer == ETHERPARSE_LAYER_ETHERNET2_HEADER);
+    WANT(packet.refusal.required_len == 14 && packet.refusal.len == 13 && packet.refusal.layer_start_offset == 0);
+    WANT(packet.link.kind == 0 && packet.payload.len == 0);
+    WANT(etherparse_slice(ETHERPARSE_ENTRY_ETHERNET, 0, payload, 14, &packet) == ETHERPARSE_OK);
+    WANT(etherparse_slice(ETHERPARSE_ENTRY_ETHER_TYPE, 0xffff, payload, 0, &packet) == ETHERPARSE_OK);
+    WANT(etherparse_checksum(payload, 0) == 0xffff);
+    WANT(requests == 0);
+    printf("etherparse_slice, etherparse_checksum: no memory is asked for\n");
+}
+
+static void refusals(void) {
+    struct etherparse_refusal it = {.kind = ETHERPARSE_REFUSAL_LEN, .layer = 1, .len_source = 0};
+    const struct { uint32_t kind, layer, len_source; } none[] = {
+        {0, 0, 0}, {15, 1, 0}, {UINT32_MAX, 1, 0}, {1, 0, 0}, {1, 22, 0}, {1, 1, 6}, {1, 1, UINT32_MAX}};
+    memcpy(buffer, untouched, ROOM);
+    for (size_t i = 0; i < sizeof none / sizeof *none; i++) {
+        it.kind = none[i].kind, it.layer = none[i].layer, it.len_source = none[i].len_source, written = 7;
+        WANT(etherparse_refusal_text(&it, (char *)buffer, ROOM, &written) == ETHERPARSE_UNKNOWN_CHOICE);
+        WANT(written == 0 && is_untouched(0) && blocks == 0);
+    }
+    /* the longest text */
+    struct etherparse_refusal most = {.kind = ETHERPARSE_REFUSAL_LEN, .layer = ETHERPARSE_LAYER_ICMPV4_TIMESTAMP_REPLY,
+                                      .len_source = ETHERPARSE_END_IPV6, .required_len = SIZE_MAX, .len = SIZE_MAX,
+                                      .layer_start_offset = SIZE_MAX};
+    WANT(etherparse_refusal_text(&most, (char *)buffer, ROOM, &written) == ETHERPARSE_OK);
+    WANT(written == 142 && buffer[141] == 0 && strlen((char *)buffer) == 141);
+    printf("etherparse_refusal_text: no text for numbers of no refusal, and none of more than 142 bytes\n");
+}
+
+/* ---- pools */
+
+static size_t fragment(uint8_t *into, uint8_t stream, size_t from, size_t to, bool more) {
+    const uint8_t head[20] = {0x45, 0, 0, (uint8_t)(20 + to - from), 0, stream, more ? 0x20 : 0, (uint8_t)(from / 8),
+                              64, 17, 0, 0, 10, 0, 0, 1, 10, 0, 0, 2};
+    memcpy(into, head, sizeof head);
+    for (size_t i = from; i < to; i++) into[20 + i - from] = (uint8_t)i;
+    return 20 + to - from;
+}
+
+static uint32_t push(struct etherparse_pool *pool, uint8_t stream, size_t from, size_t to, bool more, uint64_t time,
+                     size_t room, struct etherparse_pool_answer *told) {
+    uint8_t frame[ROOM];
+    size_t len = fragment(frame, stream, from, to, more);
+    return etherparse_pool_push(pool, ETHERPARSE_ENTRY_IP, 0, frame, len, time, 0, buffer, room, told);
+}
+
+/* The same, with each request for memory refused in turn before it is granted. The pool may keep what was granted. */
+static uint32_t pushed(struct etherparse_pool *pool, uint8_t stream, size_t from, size_t to, bool more, size_t room,
+                       struct etherparse_pool_answer *told) {
+    for (unsigned long i = 1;; i++) {
+        requests = 0, refused = i;
+        uint32_t status = push(pool, stream, from, to, more, 1, room, told);
+        refused = 0;
+        if (status != ETHERPARSE_OUT_OF_MEMORY) return status;
+        WANT(requests == i && is_untouched(0) && told->len == 0 && told->fragment_refusal == 0);
+    }
+}
+
+static void pools(void) {
+    struct etherparse_pool *pool = NULL, *before = (struct etherparse_pool *)buffer;
+    struct etherparse_pool_answer told;
+    for (unsigned long i = 1;; i++) {
+        requests = 0, refused = i, pool = before;
+        uint32_t status = i % 2 ? etherparse_pool_new(&pool) : etherparse_pool_with_limit(64, &pool);
+        refused = 0;
+        if (status == ETHERPARSE_OK) break;
+        WANT(status == ETHERPARSE_OUT_OF_MEMORY && pool == before && blocks == 0);
+    }
+    WANT(pool != before && blocks > 0);
+    etherparse_pool_free(pool);
+    WANT(blocks == 0);
+
+    WANT(etherparse_pool_with_limit(64, &pool) == ETHERPARSE_OK);
+    memcpy(buffer, untouched, ROOM);
+    WANT(pushed(pool, 1, 32, 40, false, 40, &told) == ETHERPARSE_OK);
+    WANT(pushed(pool, 1, 8, 16, true, 40, &told) == ETHERPARSE_OK);
+    WANT(pushed(pool, 2, 8, 16, true, 40, &told) == ETHERPARSE_OK);
+    WANT(push(pool, 1, 0, 7, true, 1, 40, &told) == ETHERPARSE_FRAGMENT_REFUSED);
+    WANT(told.fragment_refusal == ETHERPARSE_FRAGMENT_UNALIGNED);
+    WANT(push(pool, 1, 64, 65, false, 1, 40, &told) == ETHERPARSE_FRAGMENT_REFUSED);
+    WANT(told.fragment_refusal == ETHERPARSE_FRAGMENT_TOO_BIG);
+    WANT(push(pool, 1, 40, 48, true, 1, 40, &told) == ETHERPARSE_FRAGMENT_REFUSED);
+    WANT(told.fragment_refusal == ETHERPARSE_FRAGMENT_CONFLICTING_END && is_untouched(0));
+    WANT(pushed(pool, 1, 0, 8, true, 40, &told) == ETHERPARSE_OK);
+    /* the payload is longer than the buffer, and waits */
+    WANT(pushed(pool, 1, 16, 32, true, 39, &told) == ETHERPARSE_TOO_SMALL && told.len == 40 && is_untouched(0));
+    WANT(push(pool, 2, 0, 8, true, 1, 40, &told) == ETHERPARSE_PAYLOAD_WAITS && told.len == 40 && is_untouched(0));
+    WANT(etherparse_pool_push(pool, 4, 0, payload, 9, 1, 0, buffer, 40, &told) == ETHERPARSE_UNKNOWN_CHOICE);
+    WANT(etherparse_pool_push(pool, ETHERPARSE_ENTRY_IP, 0, payload, 9, 1, 0, buffer, 40, &told)
+         == ETHERPARSE_PAYLOAD_WAITS);
+    etherparse_pool_drop_older(pool, 1);
+    WANT(etherparse_pool_take(pool, buffer, 39, &told) == ETHERPARSE_TOO_SMALL && told.len == 40 && is_untouched(0));
+    unsigned long held = blocks;
+    WANT(etherparse_pool_take(pool, buffer, 40, &told) == ETHERPARSE_COMPLETE && blocks == held - 1);
+    WANT(told.len == 40 && told.ip_number == 17 && told.len_source == ETHERPARSE_END_IPV4);
+    for (size_t i = 0; i < 40; i++) WANT(buffer[i] == i);
+    WANT(is_untouched(40));
+    memcpy(buffer, untouched, ROOM);
+    WANT(etherparse_pool_take(pool, buffer, ROOM, &told) == ETHERPARSE_OK && told.len == 0 && is_untouched(0));
+    WANT(etherparse_pool_push(pool, ETHERPARSE_ENTRY_IP, 0, payload, 9, 1, 0, buffer, 40, &told)
+         == ETHERPARSE_REFUSED);
+    WANT(told.refusal.kind != ETHERPARSE_REFUSAL_NONE && told.len == 0 && is_untouched(0));
+    /* a payload that no buffer has room for is given up, and the pool goes on */
+    WANT(push(pool, 9, 8, 16, false, 2, 0, &told) == ETHERPARSE_OK);
+    WANT(push(pool, 9, 0, 8, true, 2, 0, &told) == ETHERPARSE_TOO_SMALL && told.len == 16);
+    WANT(etherparse_pool_streams(pool) == 1 && etherparse_pool_bytes(pool) == 16 + 16);
+    held = blocks;
+    etherparse_pool_discard(pool);
+    WANT(blocks == held - 1 && etherparse_pool_streams(pool) == 1 && etherparse_pool_bytes(pool) == 16);
+    etherparse_pool_discard(pool);
+    WANT(etherparse_pool_take(pool, buffer, ROOM, &told) == ETHERPARSE_OK && told.len == 0 && blocks == held - 1);
+    /* the other stream stayed, until it is dropped */
+    etherparse_pool_drop_older(pool, 2);
+    WANT(etherparse_pool_streams(pool) == 0 && etherparse_pool_bytes(pool) == 0);
+    WANT(push(pool, 2, 0, 8, true, 2, ROOM, &told) == ETHERPARSE_OK);
+    WANT(push(pool, 2, 16, 20, false, 2, ROOM, &told) == ETHERPARSE_OK);
+    WANT(push(pool, 2, 8, 16, true, 2, ROOM, &told) == ETHERPARSE_COMPLETE && told.len == 20 && is_untouched(20));
+    /* a pool is freed with what waits in it and what it holds */
+    memcpy(buffer, untouched, ROOM);
+    WANT(push(pool, 3, 8, 16, false, 2, 0, &told) == ETHERPARSE_OK);
+    WANT(push(pool, 4, 8, 16, false, 2, 0, &told) == ETHERPARSE_OK);
+    WANT(push(pool, 4, 0, 8, true, 2, 0, &told) == ETHERPARSE_TOO_SMALL && told.len == 16);
+    etherparse_pool_free(pool);
+    WANT(blocks == 0 && is_untouched(0));
+    printf("pools: without memory the streams are as they were; a pool is freed with all that it holds\n");
+}
+
+int main(void) {
+    for (size_t i = 0; i < ROOM; i++) untouched[i] = (uint8_t)(200 + i % 50);
+    writes("etherparse_build_udp", udp, 50);
+    writes("etherparse_build_tcp", tcp, 62);
+    writes("etherparse_build_icmp_echo", echo, 50);
+    writes("etherparse_build_tagged_udp", tagged_udp, 58);
+    writes("etherparse_build_tagged_tcp", tagged_tcp, 110);
+    writes("etherparse_build_tagged_icmp_echo", tagged_echo, 58);
+    writes("etherparse_build_fragment", fragments, 50);
+    writes("etherparse_refusal_text", text, 21);
+    memcpy(buffer, untouched, ROOM);
+    builds("etherparse_build_udp", udp, 42, 65507);
+    builds("etherparse_build_tcp", tcp, 54, 65495);
+    builds("etherparse_build_icmp_echo", echo, 42, 65507);
+    builds("etherparse_build_tagged_udp", tagged_udp, 50, 65507);
+    builds("etherparse_build_tagged_tcp", tagged_tcp, 102, 65455);
+    builds("etherparse_build_tagged_icmp_echo", tagged_echo, 50, 65507);
+    builds("etherparse_build_fragment", fragments, 42, 65515);
+    tags();
+    refusals();
+    slices();
+    many();
+    nulls();
+    pools();
+    return failed;
+}

@@ -1,0 +1,724 @@
+"""Slices, builds and puts together network frames, by the shared object libetherparse_c.so.
+
+Names are those of the header etherparse.h, which says in full what each call answers; what a frame's layers are is told
+by attributes. What is refused is raised. Any call may be made from any thread; those on one pool wait for each other.
+
+    >>> import etherparse_c
+    >>> route = etherparse_c.Route(version=4, ipv4_source=bytes([10, 0, 0, 1]), ipv4_destination=bytes([10, 0, 0, 2]))
+    >>> datagram = etherparse_c.build_udp(route, 21, 1234, b"hello")
+    >>> packet = etherparse_c.slice(datagram, etherparse_c.Entry.IP)
+    >>> packet.transport.kind == etherparse_c.TransportKind.UDP, packet.destination_port, packet.payload_bytes
+    (True, 1234, b'hello')
+"""
+
+from __future__ import annotations
+
+import builtins
+import ctypes
+import enum
+import itertools
+import os
+import pathlib
+import threading
+from array import array
+from dataclasses import dataclass
+from typing import Any, Iterable, Iterator, NamedTuple, Optional, Sequence, Tuple, Union, overload
+
+__all__ = [
+    "VERSION", "MAX_PAYLOAD", "Status", "Entry", "LinkKind", "ExtKind", "NetKind", "TransportKind", "LenSource",
+    "RefusalKind", "Layer", "TcpFlag", "FragmentRefusal", "Packet", "Packets", "Part", "LinkExt", "Ip", "Payload",
+    "Refusal", "Route", "TcpFields", "FragmentFields", "EtherparseError", "Refused", "FragmentRefused", "TooLong",
+    "UnknownChoice", "Pool", "PoolPayload", "slice", "slice_many", "build_udp", "build_tcp", "build_icmp_echo",
+    "build_fragment", "checksum", "version",
+]
+
+VERSION = 100
+"""The version that this module is of: 10000 times the major number, 100 times the minor one, and the patch."""
+
+MAX_PAYLOAD = 65535
+"""The greatest number of bytes of a payload in a pool that is made without a limit."""
+
+Bytes = Union[bytes, bytearray, memoryview]
+
+
+class Status(enum.IntEnum):
+    """What a call answers. A caller of this module sees OK alone: the others are raised, or told by None."""
+
+    OK = 0
+    REFUSED = 1
+    UNKNOWN_CHOICE = 2
+    TOO_SMALL = 3
+    TOO_LONG = 4
+    OUT_OF_MEMORY = 5
+    COMPLETE = 6
+    FRAGMENT_REFUSED = 7
+    PAYLOAD_WAITS = 8
+
+
+class Entry(enum.IntEnum):
+    """What a frame begins with."""
+
+    ETHERNET = 0
+    LINUX_SLL = 1
+    ETHER_TYPE = 2
+    IP = 3
+
+
+class LinkKind(enum.IntEnum):
+    """The link header; 0 is none."""
+
+    ETHERNET2 = 1
+    LINUX_SLL = 2
+
+
+class ExtKind(enum.IntEnum):
+    """The tag of a link extension; 0 is none."""
+
+    VLAN = 1
+    MACSEC = 2
+
+
+class NetKind(enum.IntEnum):
+    """The net layer; 0 is none."""
+
+    ARP = 1
+    IPV4 = 4
+    IPV6 = 6
+
+
+class TransportKind(enum.IntEnum):
+    """The transport layer, by its protocol number; 0 is none."""
+
+    ICMPV4 = 1
+    TCP = 6
+    UDP = 17
+    ICMPV6 = 58
+
+
+class LenSource(enum.IntEnum):
+    """What set the end of some bytes."""
+
+    SLICE = 0
+    MACSEC = 1
+    IPV4 = 2
+    IPV6 = 3
+    UDP = 4
+    ARP = 5
+
+
+class RefusalKind(enum.IntEnum):
+    """Why bytes are no frame."""
+
+    NONE = 0
+    LEN = 1
+    SLL_PACKET_TYPE = 2
+    SLL_ARP_HARDWARE = 3
+    MACSEC_VERSION = 4
+    MACSEC_SHORT_LEN = 5
+    IP_VERSION = 6
+    IP_IHL = 7
+    IPV4_VERSION = 8
+    IPV4_IHL = 9
+    IPV6_VERSION = 10
+    IPV4_AUTH = 11
+    IPV6_HOP_BY_HOP = 12
+    IPV6_AUTH = 13
+    TCP_DATA_OFFSET = 14
+
+
+class Layer(enum.IntEnum):
+    """The layers that a refusal by length names; 0 is none."""
+
+    ETHERNET2_HEADER = 1
+    LINUX_SLL_HEADER = 2
+    VLAN_HEADER = 3
+    MACSEC_HEADER = 4
+    MACSEC_PACKET = 5
+    ARP = 6
+    IP_HEADER = 7
+    IPV4_HEADER = 8
+    IPV4_PACKET = 9
+    IP_AUTH_HEADER = 10
+    IPV6_HEADER = 11
+    IPV6_PACKET = 12
+    IPV6_EXT_HEADER = 13
+    IPV6_FRAG_HEADER = 14
+    UDP_HEADER = 15
+    UDP_PAYLOAD = 16
+    TCP_HEADER = 17
+    ICMPV4 = 18
+    ICMPV4_TIMESTAMP = 19
+    ICMPV4_TIMESTAMP_REPLY = 20
+    ICMPV6 = 21
+
+
+class TcpFlag(enum.IntFlag):
+    """The flags of TCP."""
+
+    FIN = 1
+    SYN = 2
+    RST = 4
+    PSH = 8
+    ACK = 16
+    URG = 32
+    ECE = 64
+    CWR = 128
+
+
+class FragmentRefusal(enum.IntEnum):
+    """Why a fragment is refused."""
+
+    UNALIGNED = 1
+    TOO_BIG = 2
+    CONFLICTING_END = 3
+
+
+class _Struct(ctypes.Structure):
+    """A struct of the header, printed with its fields."""
+
+    def __repr__(self) -> str:
+        values = [(name, getattr(self, name)) for name, _ in self._fields_]  # type: ignore[misc]
+        fields = ", ".join(f"{name}={[*it] if isinstance(it, ctypes.Array) else it!r}" for name, it in values)
+        return f"{type(self).__name__}({fields})"
+
+
+class Part(_Struct):
+    """A header: `len` bytes from the `offset`-th of the frame on. Where there is none, kind and len are 0."""
+
+    kind: int
+    offset: int
+    len: int
+    _fields_ = [("kind", ctypes.c_uint32), ("offset", ctypes.c_size_t), ("len", ctypes.c_size_t)]
+
+
+class LinkExt(_Struct):
+    """The tag of a link extension, behind the ether type that names it."""
+
+    kind: int
+    vlan_id: int
+    offset: int
+    len: int
+    _fields_ = [
+        ("kind", ctypes.c_uint32), ("vlan_id", ctypes.c_uint16), ("offset", ctypes.c_size_t), ("len", ctypes.c_size_t),
+    ]
+
+
+class Ip(_Struct):
+    """What an IP header says, and its extension headers; all 0 where there is no IP packet."""
+
+    version: int
+    number: int
+    fragmented: int
+    more_fragments: int
+    fragment_offset: int
+    identification: int
+    header_len: int
+    _fields_ = [
+        ("version", ctypes.c_uint8), ("number", ctypes.c_uint8), ("fragmented", ctypes.c_uint8),
+        ("more_fragments", ctypes.c_uint8), ("fragment_offset", ctypes.c_uint16), ("identification", ctypes.c_uint32),
+        ("header_len", ctypes.c_size_t),
+    ]
+
+
+class Payload(_Struct):
+    """The payload of the last layer that was read."""
+
+    len_source: int
+    offset: int
+    len: int
+    _fields_ = [("len_source", ctypes.c_uint32), ("offset", ctypes.c_size_t), ("len", ctypes.c_size_t)]
+
+
+class Refusal(_Struct):
+    """Why bytes are no frame; all 0 of a frame."""
+
+    kind: int
+    layer: int
+    len_source: int
+    number: int
+    required_len: int
+    len: int
+    layer_start_offset: int
+    _fields_ = [
+        ("kind", ctypes.c_uint32), ("layer", ctypes.c_uint32), ("len_source", ctypes.c_uint32),
+        ("number", ctypes.c_uint32), ("required_len", ctypes.c_size_t), ("len", ctypes.c_size_t),
+        ("layer_start_offset", ctypes.c_size_t),
+    ]
+
+    def __str__(self) -> str:
+        """The refusal in words."""
+        buffer, written = (ctypes.c_uint8 * 142)(), ctypes.c_size_t()
+        status = _library.etherparse_1_refusal_text(ctypes.byref(self), buffer, 142, ctypes.byref(written))
+        if status == Status.OUT_OF_MEMORY:
+            raise MemoryError
+        return bytes(buffer[: written.value - 1]).decode("ascii") if status == Status.OK else "no refusal"
+
+
+class Packet(_Struct):
+    """What the layers of a frame are, or why bytes are no frame."""
+
+    link: Part
+    link_exts: Sequence[LinkExt]
+    link_ext_count: int
+    source_port: int
+    destination_port: int
+    net: Part
+    ip: Ip
+    transport: Part
+    payload: Payload
+    refusal: Refusal
+    frame: bytes
+    """The bytes that were sliced."""
+    _fields_ = [
+        ("link", Part), ("link_exts", LinkExt * 3), ("link_ext_count", ctypes.c_uint32),
+        ("source_port", ctypes.c_uint16), ("destination_port", ctypes.c_uint16), ("net", Part), ("ip", Ip),
+        ("transport", Part), ("payload", Payload), ("refusal", Refusal),
+    ]
+
+    def _bytes(self, part: Any) -> bytes:
+        return self.frame[part.offset : part.offset + part.len]
+
+    @property
+    def link_bytes(self) -> bytes:
+        """The link header."""
+        return self._bytes(self.link)
+
+    @property
+    def net_bytes(self) -> bytes:
+        """IP with its extension headers, or the whole ARP packet."""
+        return self._bytes(self.net)
+
+    @property
+    def transport_bytes(self) -> bytes:
+        """The transport header."""
+        return self._bytes(self.transport)
+
+    @property
+    def payload_bytes(self) -> bytes:
+        """The payload of the last layer."""
+        return self._bytes(self.payload)
+
+    @property
+    def vlan_ids(self) -> Tuple[int, ...]:
+        """The identifiers of the VLAN tags, from the outside in."""
+        return tuple(tag.vlan_id for tag in self.link_exts if tag.kind == ExtKind.VLAN)
+
+
+class EtherparseError(Exception):
+    """What this module raises of its own."""
+
+
+class Refused(EtherparseError, ValueError):
+    """The bytes are no frame: the fields of the refusal, whose text the message is.
+
+    Of the kind LEN, `layer` needs `required_len` bytes, where `len` are, which `len_source` ends; it begins at
+    `layer_start_offset`. Of the kinds that name a number, `number` is what the bytes hold.
+    """
+
+    def __init__(self, refusal: Refusal) -> None:
+        super().__init__(str(refusal))
+        self.kind = RefusalKind(refusal.kind)
+        self.layer: Optional[Layer] = Layer(refusal.layer) if refusal.layer else None
+        self.len_source = LenSource(refusal.len_source)
+        self.number: int = refusal.number
+        self.required_len: int = refusal.required_len
+        self.len: int = refusal.len
+        self.layer_start_offset: int = refusal.layer_start_offset
+
+
+class FragmentRefused(EtherparseError, ValueError):
+    """A fragment does not fit to those that came before; the pool is as it was."""
+
+    def __init__(self, fragment_refusal: int) -> None:
+        self.fragment_refusal = FragmentRefusal(fragment_refusal)
+        super().__init__(self.fragment_refusal.name.lower().replace("_", " "))
+
+
+class TooLong(EtherparseError, ValueError):
+    """The payload, or TCP's options, are longer than the headers can count."""
+
+
+class UnknownChoice(EtherparseError, ValueError):
+    """A number is none of those that its place can have."""
+
+
+def _number(name: str, value: int, bits: int) -> int:
+    """The number, which its type of C can hold: ctypes would cut it."""
+    if not 0 <= value < 1 << bits:
+        raise ValueError(f"{name} is {value}, and has {bits} bits")
+    return value
+
+
+@dataclass(frozen=True)
+class Route:
+    """The headers before the transport header. The addresses of the other version do not matter. VLAN tags, at most two
+    identifiers from the outside in, need Ethernet addresses."""
+
+    version: int
+    hop_limit: int = 64
+    ethernet_source: Optional[bytes] = None
+    ethernet_destination: Optional[bytes] = None
+    ipv4_source: bytes = bytes(4)
+    ipv4_destination: bytes = bytes(4)
+    ipv6_source: bytes = bytes(16)
+    ipv6_destination: bytes = bytes(16)
+    vlan_ids: Tuple[int, ...] = ()
+
+    def _told(self) -> _TaggedRoute:
+        tagged = _TaggedRoute()
+        route = tagged.route
+        route.version = _number("version", self.version, 8)
+        route.hop_limit = _number("hop_limit", self.hop_limit, 8)
+        if (self.ethernet_source is None) != (self.ethernet_destination is None):
+            raise ValueError("one Ethernet address is given without the other")
+        route.with_ethernet = self.ethernet_source is not None
+        for name in ("ethernet_source", "ethernet_destination", "ipv4_source", "ipv4_destination", "ipv6_source",
+                     "ipv6_destination"):
+            address, place = getattr(self, name), getattr(route, name)
+            if address is not None:
+                if len(address) != len(place):
+                    raise ValueError(f"{name} has {len(address)} bytes, and not {len(place)}")
+                place[:] = address
+        if len(self.vlan_ids) > 2:
+            raise ValueError("there are more than two VLAN tags")
+        tagged.tag_count = len(self.vlan_ids)
+        for i, vlan_id in enumerate(self.vlan_ids):
+            tagged.vlan_ids[i] = _number("vlan_ids", vlan_id, 16)
+        return tagged
+
+
+@dataclass(frozen=True)
+class TcpFields:
+    """The fields of a TCP header without options."""
+
+    source_port: int
+    destination_port: int
+    sequence_number: int = 0
+    acknowledgment_number: int = 0
+    window_size: int = 0
+    urgent_pointer: int = 0
+    flags: int = 0
+    """Of TcpFlag."""
+
+    def _told(self) -> _TcpFields:
+        widths = (16, 16, 32, 32, 16, 16, 8)
+        names = [name for name, _ in _TcpFields._fields_]
+        return _TcpFields(*(_number(name, getattr(self, name), width) for name, width in zip(names, widths)))
+
+
+@dataclass(frozen=True)
+class FragmentFields:
+    """What the header of a fragment says: that of IPv4, or of IPv6 its fragment header."""
+
+    ip_number: int
+    identification: int
+    more_fragments: bool = False
+    fragment_offset: int = 0
+    """Where the fragment lies in the whole payload, in bytes: a multiple of 8."""
+
+    def _told(self) -> _FragmentFields:
+        return _FragmentFields(
+            _number("ip_number", self.ip_number, 8), bool(self.more_fragments),
+            _number("fragment_offset", self.fragment_offset, 16), _number("identification", self.identification, 32),
+        )
+
+
+class _Route(ctypes.Structure):
+    _fields_ = [
+        ("version", ctypes.c_uint8), ("with_ethernet", ctypes.c_uint8), ("hop_limit", ctypes.c_uint8),
+        ("ethernet_source", ctypes.c_uint8 * 6), ("ethernet_destination", ctypes.c_uint8 * 6),
+        ("ipv4_source", ctypes.c_uint8 * 4), ("ipv4_destination", ctypes.c_uint8 * 4),
+        ("ipv6_source", ctypes.c_uint8 * 16), ("ipv6_destination", ctypes.c_uint8 * 16),
+    ]
+
+
+class _TaggedRoute(ctypes.Structure):
+    _fields_ = [("route", _Route), ("tag_count", ctypes.c_uint32), ("vlan_ids", ctypes.c_uint16 * 2)]
+
+
+class _TcpFields(ctypes.Structure):
+    _fields_ = [
+        ("source_port", ctypes.c_uint16), ("destination_port", ctypes.c_uint16), ("sequence_number", ctypes.c_uint32),
+        ("acknowledgment_number", ctypes.c_uint32), ("window_size", ctypes.c_uint16),
+        ("urgent_pointer", ctypes.c_uint16), ("flags", ctypes.c_uint8),
+    ]
+
+
+class _FragmentFields(ctypes.Structure):
+    _fields_ = [
+        ("ip_number", ctypes.c_uint8), ("more_fragments", ctypes.c_uint8), ("fragment_offset", ctypes.c_uint16),
+        ("identification", ctypes.c_uint32),
+    ]
+
+
+class _PoolAnswer(ctypes.Structure):
+    _fields_ = [
+        ("refusal", Refusal), ("fragment_refusal", ctypes.c_uint32), ("len_source", ctypes.c_uint32),
+        ("ip_number", ctypes.c_uint8), ("len", ctypes.c_size_t),
+    ]
+
+
+_u8, _u16, _u32, _u64, _size = ctypes.c_uint8, ctypes.c_uint16, ctypes.c_uint32, ctypes.c_uint64, ctypes.c_size_t
+_bytes_in = (ctypes.c_char_p, _size)  # as Python keeps them, which is never at null
+_bytes_out = (ctypes.POINTER(_u8), _size)
+_written = ctypes.POINTER(_size)
+_pool = ctypes.c_void_p
+
+_CALLS: dict[str, tuple[Any, tuple[Any, ...]]] = {
+    "version": (_u32, ()),
+    "slice": (_u32, (_u32, _u16, *_bytes_in, ctypes.POINTER(Packet))),
+    "slice_many": (
+        _u32, (_u32, _u16, *_bytes_in, ctypes.POINTER(_size), _size, ctypes.POINTER(Packet), _size, _written)),
+    "refusal_text": (_u32, (ctypes.POINTER(Refusal), *_bytes_out, _written)),
+    "checksum": (_u16, _bytes_in),
+    "build_tagged_udp": (_u32, (ctypes.POINTER(_TaggedRoute), _u16, _u16, *_bytes_in, *_bytes_out, _written)),
+    "build_tagged_tcp": (
+        _u32,
+        (ctypes.POINTER(_TaggedRoute), ctypes.POINTER(_TcpFields), *_bytes_in, *_bytes_in, *_bytes_out, _written)),
+    "build_tagged_icmp_echo": (
+        _u32, (ctypes.POINTER(_TaggedRoute), _u8, _u16, _u16, *_bytes_in, *_bytes_out, _written)),
+    "build_fragment": (
+        _u32, (ctypes.POINTER(_TaggedRoute), ctypes.POINTER(_FragmentFields), *_bytes_in, *_bytes_out, _written)),
+    "pool_new": (_u32, (ctypes.POINTER(_pool),)),
+    "pool_with_limit": (_u32, (_u16, ctypes.POINTER(_pool))),
+    "pool_free": (None, (_pool,)),
+    "pool_push": (
+        _u32, (_pool, _u32, _u16, *_bytes_in, _u64, _u64, *_bytes_out, ctypes.POINTER(_PoolAnswer))),
+    "pool_drop_older": (None, (_pool, _u64)),
+    "pool_streams": (_size, (_pool,)),
+    "pool_bytes": (_size, (_pool,)),
+}
+"""What each export that is called here answers and takes, without the first words of its name."""
+
+
+def _loaded() -> Any:
+    """The shared object: that of ETHERPARSE_C_LIBRARY, one that lies beside this module or in lib of a release, or the
+    installed one."""
+    here, name = pathlib.Path(__file__).resolve().parent, "libetherparse_c.so.1"
+    given = os.environ.get("ETHERPARSE_C_LIBRARY")
+    near = [path for path in (here / name, here.parent.parent / "lib" / name) if path.exists()]
+    path = given or (str(near[0]) if near else name)
+    try:
+        library = ctypes.CDLL(path)
+        for call, (restype, argtypes) in _CALLS.items():
+            function = getattr(library, f"etherparse_1_{call}")
+            function.restype, function.argtypes = restype, argtypes
+    except (OSError, AttributeError) as error:
+        raise ImportError(
+            f"etherparse_c: {error}: unpack etherparse-c-VERSION-ARCH-linux.tar.gz and use its folder python, or let "
+            "ETHERPARSE_C_LIBRARY name its lib/libetherparse_c.so") from error
+    return library
+
+
+_library = _loaded()
+
+
+def version() -> int:
+    """The version of the shared object, to be compared with VERSION."""
+    return int(_library.etherparse_1_version())
+
+
+def _as_bytes(given: Bytes) -> bytes:
+    """The bytes themselves, or a copy of what may change."""
+    return given if type(given) is bytes else bytes(memoryview(given))
+
+
+def slice(frame: Bytes, entry: int = 0, ether_type: int = 0) -> Packet:
+    """Slices a frame, which begins with what `entry` says (0 is Entry.ETHERNET); `ether_type` is read for
+    Entry.ETHER_TYPE alone.
+
+    Raises Refused where the bytes are no frame, and UnknownChoice where the entry is none.
+    """
+    if type(frame) is not bytes:
+        frame = _as_bytes(frame)
+    if entry >> 32 or ether_type >> 16:
+        _number("entry", entry, 32), _number("ether_type", ether_type, 16)
+    packet = Packet()
+    status = _library.etherparse_1_slice(entry, ether_type, frame, len(frame), packet)
+    if status == 0:
+        packet.frame = frame
+        return packet
+    if status == Status.REFUSED:
+        raise Refused(packet.refusal)
+    raise UnknownChoice(f"entry is {entry}")
+
+
+class Packets(Sequence[Packet]):
+    """What slice_many answers: as many packets as frames. Of one that is refused, the refusal's kind is not 0."""
+
+    def __init__(self, packets: Any, frames: Sequence[bytes]) -> None:
+        self._packets, self._frames = packets, frames
+
+    def __len__(self) -> int:
+        return len(self._frames)
+
+    @overload
+    def __getitem__(self, index: int) -> Packet: ...
+
+    @overload
+    def __getitem__(self, index: builtins.slice) -> Sequence[Packet]: ...
+
+    def __getitem__(self, index: Any) -> Any:
+        if isinstance(index, builtins.slice):
+            return [self[i] for i in range(*index.indices(len(self)))]
+        packet = self._packets[range(len(self))[index]]
+        packet.frame = self._frames[index]
+        return packet
+
+    def __iter__(self) -> Iterator[Packet]:
+        return (self[i] for i in range(len(self)))
+
+
+def slice_many(frames: Iterable[Bytes], entry: int = Entry.ETHERNET, ether_type: int = 0) -> Packets:
+    """Slices many frames in one call. None is raised: of one that is no frame, packet.refusal says why."""
+    kept = tuple(frames)
+    if not set(map(type, kept)) <= {bytes}:
+        kept = tuple(map(_as_bytes, kept))
+    joined, count = b"".join(kept), len(kept)
+    ends = array("Q", itertools.accumulate(map(len, kept)))
+    packets, sliced = (Packet * max(count, 1))(), _size()
+    status = _library.etherparse_1_slice_many(
+        _number("entry", entry, 32), _number("ether_type", ether_type, 16), joined, len(joined),
+        (_size * max(count, 1)).from_buffer(ends) if count else (_size * 1)(), count, packets, count, sliced)
+    if status != Status.OK:
+        raise UnknownChoice(f"entry is {entry}")
+    return Packets(packets, kept)
+
+
+def checksum(data: Bytes) -> int:
+    """The Internet checksum (RFC 1071) of some bytes."""
+    data = _as_bytes(data)
+    return int(_library.etherparse_1_checksum(data, len(data)))
+
+
+def _built(call: Any, told: tuple[Any, ...], payload: Bytes) -> bytes:
+    """The frame that a call builds: in a buffer for the longest headers (Ethernet, two tags, IPv6 with a fragment
+    header, TCP with options), so that none is too small."""
+    payload = _as_bytes(payload)
+    buffer, written = (_u8 * (14 + 8 + 48 + 60 + len(payload)))(), _size()
+    status = call(*told, payload, len(payload), buffer, len(buffer), written)
+    if status == Status.OK:
+        return ctypes.string_at(buffer, written.value)
+    if status == Status.OUT_OF_MEMORY:
+        raise MemoryError
+    if status == Status.TOO_LONG:
+        raise TooLong(f"{len(payload)} bytes of payload, or the options, are too many")
+    raise UnknownChoice("a number of the route or the fields is none of those that its place can have")
+
+
+def build_udp(route: Route, source_port: int, destination_port: int, payload: Bytes) -> bytes:
+    """The frame of a UDP datagram. Raises TooLong and UnknownChoice."""
+    ports = _number("source_port", source_port, 16), _number("destination_port", destination_port, 16)
+    return _built(_library.etherparse_1_build_tagged_udp, (route._told(), *ports), payload)
+
+
+def build_tcp(route: Route, fields: TcpFields, payload: Bytes, options: Bytes = b"") -> bytes:
+    """The frame of a TCP segment, whose options are filled up by zero bytes to words of 4. Raises TooLong and
+    UnknownChoice."""
+    options = _as_bytes(options)
+    told = (route._told(), fields._told(), options, len(options))
+    return _built(_library.etherparse_1_build_tagged_tcp, told, payload)
+
+
+def build_icmp_echo(route: Route, is_reply: bool, id: int, seq: int, payload: Bytes) -> bytes:
+    """The frame of an echo message of ICMP, or of ICMPv6 where the version is 6. Raises TooLong and UnknownChoice."""
+    told = (route._told(), bool(is_reply), _number("id", id, 16), _number("seq", seq, 16))
+    return _built(_library.etherparse_1_build_tagged_icmp_echo, told, payload)
+
+
+def build_fragment(route: Route, fields: FragmentFields, payload: Bytes) -> bytes:
+    """The frame of a fragment of a longer payload. It takes up to 64 KB of stack, all other calls 2. Raises TooLong
+    and UnknownChoice."""
+    return _built(_library.etherparse_1_build_fragment, (route._told(), fields._told()), payload)
+
+
+class PoolPayload(NamedTuple):
+    """A payload that was put together."""
+
+    data: bytes
+    ip_number: int
+    len_source: LenSource
+
+
+class Pool:
+    """Puts the fragmented payloads of many streams together, each as if it were alone.
+
+    Where frames may be hostile, set a limit, and drop old streams once in a while. Its calls wait for each other. Used
+    with `with`, it is closed at the end, and gives its memory back; a call behind that raises ValueError.
+    """
+
+    def __init__(self, limit: int = MAX_PAYLOAD) -> None:
+        self._pool: Optional[int] = None
+        self._lock = threading.Lock()
+        _number("limit", limit, 16)
+        # as many bytes as the longest payload may have, so that none waits in the pool
+        self._buffer = (_u8 * max(limit, 1))()
+        self._limit = limit
+        pool = _pool()
+        if _library.etherparse_1_pool_with_limit(limit, ctypes.byref(pool)) != Status.OK:
+            raise MemoryError
+        self._pool = pool.value
+
+    def _open(self) -> int:
+        if self._pool is None:
+            raise ValueError("the pool is closed")
+        return self._pool
+
+    def push(self, frame: Bytes, timestamp: int, channel: int = 0, entry: int = Entry.ETHERNET,
+             ether_type: int = 0) -> Optional[PoolPayload]:
+        """Gives it a frame, and answers the payload that is complete with it, if one is.
+
+        Raises Refused where the bytes are no frame, FragmentRefused where its fragment does not fit, MemoryError and
+        UnknownChoice; the streams are then as they were.
+        """
+        frame, answer = _as_bytes(frame), _PoolAnswer()
+        told = (_number("entry", entry, 32), _number("ether_type", ether_type, 16), frame, len(frame),
+                _number("timestamp", timestamp, 64), _number("channel", channel, 64))
+        with self._lock:
+            status = _library.etherparse_1_pool_push(self._open(), *told, self._buffer, self._limit, answer)
+            if status == Status.COMPLETE:
+                data = ctypes.string_at(self._buffer, answer.len)
+                return PoolPayload(data, answer.ip_number, LenSource(answer.len_source))
+        if status == Status.OK:
+            return None
+        if status == Status.REFUSED:
+            raise Refused(answer.refusal)
+        if status == Status.FRAGMENT_REFUSED:
+            raise FragmentRefused(answer.fragment_refusal)
+        if status == Status.OUT_OF_MEMORY:
+            raise MemoryError
+        raise UnknownChoice(f"entry is {entry}")
+
+    def drop_older(self, timestamp: int) -> None:
+        """Drops the streams whose last fragment that was taken came before `timestamp`."""
+        _number("timestamp", timestamp, 64)
+        with self._lock:
+            _library.etherparse_1_pool_drop_older(self._open(), timestamp)
+
+    def streams(self) -> int:
+        """How many streams it holds."""
+        with self._lock:
+            return int(_library.etherparse_1_pool_streams(self._open()))
+
+    def bytes(self) -> int:
+        """How many bytes of payloads it holds, of each stream up to the greatest end that came."""
+        with self._lock:
+            return int(_library.etherparse_1_pool_bytes(self._open()))
+
+    def close(self) -> None:
+        """Gives its memory back; once more it does nothing."""
+        with self._lock:
+            pool, self._pool = self._pool, None
+            if pool is not None:
+                _library.etherparse_1_pool_free(pool)
+
+    def __enter__(self) -> Pool:
+        self._open()
+        return self
+
+    def __exit__(self, *_: object) -> None:
+        self.close()
+
+    def __del__(self) -> None:
+        if getattr(self, "_pool", None) is not None and _library is not None:  # as it may be where Python ends
+            self.close()

@@ -1,0 +1,86 @@
+//! Times the wrapper beside the call that it makes: compare FILE ROUNDS [COLUMN], where FILE is a corpus of
+//! crates/slice_bench/corpora.py, as bindings/c/examples/compare.cc reads it. Says nanoseconds a frame, the fastest of the
+//! rounds. With COLUMN, a name that is printed, that one alone runs, so that its instructions can be counted.
+use etherparse_c::{sys, Entry, SlicedPacket};
+use std::{env, error::Error, fs, hint::black_box, time::Instant};
+
+fn by_call(frames: &[&[u8]]) -> usize {
+    let mut told = sys::Packet::default();
+    let mut sum = 0;
+    for frame in frames {
+        // SAFETY: both pointers are of references that live as long as the call, and they do not overlap.
+        let status = unsafe { sys::etherparse_slice(sys::ENTRY_ETHERNET, 0, frame.as_ptr(), frame.len(), &mut told) };
+        sum += if status == sys::OK { told.payload.len } else { 0 };
+    }
+    sum
+}
+
+fn by_wrapper(frames: &[&[u8]]) -> usize {
+    let mut sum = 0;
+    for frame in frames {
+        if let Ok(packet) = SlicedPacket::from_ethernet(frame) {
+            sum += packet.payload().len();
+        }
+    }
+    sum
+}
+
+/// The same where each packet is handed on, to what the compiler does not look into.
+fn handed_on(frames: &[&[u8]]) -> usize {
+    let mut sum = 0;
+    for frame in frames {
+        if let Ok(packet) = &SlicedPacket::from_ethernet(frame) {
+            sum += black_box(packet).payload().len();
+        }
+    }
+    sum
+}
+
+/// The same into one packet that is used again.
+fn into_one_handed_on(frames: &[&[u8]]) -> usize {
+    let (mut sum, mut packet) = (0, SlicedPacket::EMPTY);
+    for frame in frames {
+        if packet.slice_into(Entry::Ethernet, frame).is_ok() {
+            sum += black_box(&packet).payload().len();
+        }
+    }
+    sum
+}
+
+/// A way to read frames: its name, and what sums what it reads.
+type Column = (&'static str, fn(&[&[u8]]) -> usize);
+
+fn main() -> Result<(), Box<dyn Error>> {
+    let mut args = env::args().skip(1);
+    let (Some(path), Some(rounds)) = (args.next(), args.next()) else {
+        return Err("usage: compare FILE ROUNDS [COLUMN]".into());
+    };
+    let chosen = args.next();
+    let (all, rounds) = (fs::read(path)?, rounds.parse::<u32>()?);
+    let (mut frames, mut at) = (Vec::new(), 0);
+    while let Some(len) = all.get(at..at + 4) {
+        let end = at + 4 + u32::from_le_bytes(len.try_into()?) as usize;
+        frames.push(all.get(at + 4..end).ok_or("the corpus is cut")?);
+        at = end;
+    }
+    let columns: [Column; 4] = [
+        ("call_from_rust", by_call),
+        ("slice", by_wrapper),
+        ("handed_on", handed_on),
+        ("into_one_handed_on", into_one_handed_on),
+    ];
+    let columns = columns.into_iter().filter(|(name, _)| chosen.as_deref().map_or(true, |chosen| chosen == *name));
+    let mut columns: Vec<_> = columns.map(|(name, run)| (name, run, f64::INFINITY, 0)).collect();
+    for _ in 0..rounds {
+        for (_, run, fastest, sum) in &mut columns {
+            let from = Instant::now();
+            *sum = run(black_box(&frames));
+            *fastest = fastest.min(from.elapsed().as_nanos() as f64 / frames.len() as f64);
+        }
+    }
+    println!("{} frames", frames.len());
+    for (name, _, fastest, sum) in columns {
+        println!("{name:18} {fastest:8.1} ns  (sum {sum})");
+    }
+    Ok(())
+}

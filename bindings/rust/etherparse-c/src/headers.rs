@@ -1,0 +1,82 @@
+use crate::{Entry, EtherType, LinkExtHeader, LinkHeader, NetHeaders, Refusal, SlicedPacket, TransportHeader};
+
+/// The headers of a frame by value, each with its fields.
+///
+/// ```
+/// use etherparse_c::{NetHeaders, PacketHeaders, TransportHeader};
+///
+/// let datagram = [
+///     0x45, 0, 0, 30, 0, 0, 0x40, 0, 20, 17, 0xe3, 0x7b, 192, 168, 1, 1, 192, 168, 1, 2, // IPv4
+///     0, 21, 4, 210, 0, 10, 0, 0, 1, 2, // UDP, and 2 bytes
+/// ];
+/// let headers = PacketHeaders::from_ip_slice(&datagram)?;
+/// let Some(NetHeaders::Ipv4(ip, _)) = headers.net else { panic!() };
+/// assert_eq!((ip.time_to_live, ip.header_checksum, ip.destination), (20, 0xe37b, [192, 168, 1, 2]));
+/// let Some(TransportHeader::Udp(udp)) = headers.transport else { panic!() };
+/// assert_eq!((udp.source_port, udp.length, headers.payload), (21, 10, &[1, 2][..]));
+/// # Ok::<(), etherparse_c::Refusal>(())
+/// ```
+#[derive(Clone, Copy, Debug, PartialEq, Eq, Hash)]
+#[non_exhaustive]
+#[must_use]
+pub struct PacketHeaders<'a> {
+    /// The link header.
+    pub link: Option<LinkHeader>,
+    /// The tags of link extensions from the outside in, the first ones set.
+    pub link_exts: [Option<LinkExtHeader>; 3],
+    /// IP or ARP.
+    pub net: Option<NetHeaders<'a>>,
+    /// The transport header; none in a fragment.
+    pub transport: Option<TransportHeader>,
+    /// The payload of the last layer.
+    pub payload: &'a [u8],
+}
+
+impl<'a> PacketHeaders<'a> {
+    /// Reads the headers of a frame that begins with an Ethernet II header.
+    ///
+    /// # Errors
+    ///
+    /// Why the bytes are no frame.
+    pub fn from_ethernet_slice(frame: &'a [u8]) -> Result<PacketHeaders<'a>, Refusal> {
+        SlicedPacket::from_entry(Entry::Ethernet, frame).map(|packet| PacketHeaders::of(&packet))
+    }
+
+    /// The same behind an ether type.
+    ///
+    /// # Errors
+    ///
+    /// Why the bytes are no frame.
+    pub fn from_ether_type(ether_type: EtherType, bytes: &'a [u8]) -> Result<PacketHeaders<'a>, Refusal> {
+        SlicedPacket::from_entry(Entry::EtherType(ether_type), bytes).map(|packet| PacketHeaders::of(&packet))
+    }
+
+    /// The same of a Linux cooked capture (SLL v1).
+    ///
+    /// # Errors
+    ///
+    /// Why the bytes are no frame.
+    pub fn from_linux_sll(frame: &'a [u8]) -> Result<PacketHeaders<'a>, Refusal> {
+        SlicedPacket::from_entry(Entry::LinuxSll, frame).map(|packet| PacketHeaders::of(&packet))
+    }
+
+    /// The same of an IP packet of either version.
+    ///
+    /// # Errors
+    ///
+    /// Why the bytes are no frame.
+    pub fn from_ip_slice(bytes: &'a [u8]) -> Result<PacketHeaders<'a>, Refusal> {
+        SlicedPacket::from_entry(Entry::Ip, bytes).map(|packet| PacketHeaders::of(&packet))
+    }
+
+    /// The headers of a packet that is sliced already.
+    pub fn of(packet: &SlicedPacket<'a>) -> PacketHeaders<'a> {
+        PacketHeaders {
+            link: packet.link().map(|link| link.to_header()),
+            link_exts: packet.link_exts().map(|tag| tag.map(|tag| tag.to_header())),
+            net: packet.net().map(|net| net.to_header()),
+            transport: packet.transport().map(|transport| transport.to_header()),
+            payload: packet.payload(),
+        }
+    }
+}

@@ -1,0 +1,27 @@
+//! Kinds that the declared calls tell by number.
+
+/// Defines enums of kinds, each with the number that the declarations name, and finds the kind of a number.
+macro_rules! numbered {
+    ($($(#[$about:meta])* pub enum $name:ident {
+        $($(#[$meaning:meta])* $kind:ident = $number:ident,)*
+    })*) => {$(
+        $(#[$about])*
+        #[derive(Clone, Copy, Debug, PartialEq, Eq, PartialOrd, Ord, Hash)]
+        #[non_exhaustive]
+        pub enum $name {
+            $($(#[$meaning])* $kind,)*
+        }
+
+        impl $name {
+            #[inline]
+            pub(crate) fn of(number: u32) -> Option<$name> {
+                match number {
+                    $(sys::$number => Some($name::$kind),)*
+                    _ => None,
+                }
+            }
+        }
+    )*};
+}
+
+pub(crate) use numbered;

@@ -1,0 +1,396 @@
+use crate::bytes::u16_at;
+use crate::link::{Ethernet2Slice, LinkExtSlice, LinkSlice, LinuxSllSlice, MacsecSlice, SingleVlanSlice};
+use crate::net::{ArpPacketSlice, Ipv4Slice, Ipv6Slice, NetSlice};
+use crate::numbered::numbered;
+use crate::transport::{IcmpSlice, TcpSlice, TransportSlice, UdpSlice};
+use crate::{sys, Entry, EtherType, IpNumber, Refusal};
+use core::fmt;
+use core::mem::MaybeUninit;
+use core::net::IpAddr;
+
+numbered! {
+    /// What set the end of some bytes.
+    pub enum LenSource {
+        /// The end of the slice that was passed.
+        Slice = END_SLICE,
+        /// The short length of a MACsec tag.
+        MacsecShortLength = END_MACSEC,
+        /// The total length of an IPv4 header.
+        Ipv4HeaderTotalLen = END_IPV4,
+        /// The payload length of an IPv6 header.
+        Ipv6HeaderPayloadLen = END_IPV6,
+        /// The length of a UDP header.
+        UdpHeaderLen = END_UDP,
+        /// The address lengths of an ARP packet.
+        ArpAddrLengths = END_ARP,
+    }
+}
+
+/// What an IP header says, and its extension headers.
+#[derive(Clone, Copy, Debug, PartialEq, Eq, Hash)]
+#[non_exhaustive]
+pub struct Ip {
+    /// 4 or 6.
+    pub version: u8,
+    /// The protocol number of the payload, behind the extension headers.
+    pub number: IpNumber,
+    /// Whether the payload is one fragment of a longer one.
+    pub fragmented: bool,
+    /// Whether the header says that more fragments follow.
+    pub more_fragments: bool,
+    /// Where the fragment lies in the whole payload, in bytes.
+    pub fragment_offset: u16,
+    /// What the fragments of one payload have in common; 0 in IPv6 without a fragment header.
+    pub identification: u32,
+    /// The number of bytes of the IP header without its extension headers.
+    pub header_len: usize,
+}
+
+/// A frame, sliced into its layers from the outside in: what the library told of it, and the frame. Its layers are made
+/// where they are asked for, as slices of the frame.
+///
+/// ```
+/// use etherparse_c::{NetSlice, SlicedPacket, TransportSlice};
+///
+/// // Ethernet II, a VLAN tag, IPv4, UDP from port 21 to 1234, and 2 bytes
+/// let frame = [
+///     7, 8, 9, 10, 11, 12, 1, 2, 3, 4, 5, 6, 0x81, 0, // Ethernet II
+///     0, 42, 8, 0, // VLAN
+///     0x45, 0, 0, 30, 0, 0, 0x40, 0, 20, 17, 0xe3, 0x7b, 192, 168, 1, 1, 192, 168, 1, 2, // IPv4
+///     0, 21, 4, 210, 0, 10, 0, 0, // UDP
+///     1, 2,
+/// ];
+/// let packet = SlicedPacket::from_ethernet(&frame)?;
+/// assert!(packet.vlan_ids().eq([42]));
+/// let Some(NetSlice::Ipv4(ip)) = packet.net() else { panic!() };
+/// assert_eq!((ip.header().ttl(), ip.header().source()), (20, [192, 168, 1, 1]));
+/// let Some(TransportSlice::Udp(udp)) = packet.transport() else { panic!() };
+/// assert_eq!((udp.source_port(), udp.destination_port(), udp.payload()), (21, 1234, &[1, 2][..]));
+/// # Ok::<(), etherparse_c::Refusal>(())
+/// ```
+#[derive(Clone, Copy)]
+#[must_use]
+pub struct SlicedPacket<'a> {
+    /// It is initialized in every packet that is answered.
+    told: MaybeUninit<sys::Packet>,
+    frame: &'a [u8],
+    entry: Entry,
+}
+
+impl<'a> SlicedPacket<'a> {
+    /// Slices a frame that begins with an Ethernet II header.
+    ///
+    /// # Errors
+    ///
+    /// Why the bytes are no frame.
+    #[inline]
+    pub fn from_ethernet(frame: &'a [u8]) -> Result<SlicedPacket<'a>, Refusal> {
+        SlicedPacket::from_entry(Entry::Ethernet, frame)
+    }
+
+    /// Slices a frame that begins with the header of a Linux cooked capture (SLL v1).
+    ///
+    /// # Errors
+    ///
+    /// Why the bytes are no frame.
+    #[inline]
+    pub fn from_linux_sll(frame: &'a [u8]) -> Result<SlicedPacket<'a>, Refusal> {
+        SlicedPacket::from_entry(Entry::LinuxSll, frame)
+    }
+
+    /// Slices what an ether type says, without a link header.
+    ///
+    /// # Errors
+    ///
+    /// Why the bytes are no frame.
+    #[inline]
+    pub fn from_ether_type(ether_type: EtherType, bytes: &'a [u8]) -> Result<SlicedPacket<'a>, Refusal> {
+        SlicedPacket::from_entry(Entry::EtherType(ether_type), bytes)
+    }
+
+    /// Slices an IP packet of either version.
+    ///
+    /// # Errors
+    ///
+    /// Why the bytes are no frame.
+    #[inline]
+    pub fn from_ip(bytes: &'a [u8]) -> Result<SlicedPacket<'a>, Refusal> {
+        SlicedPacket::from_entry(Entry::Ip, bytes)
+    }
+
+    /// Slices a frame that begins with what `entry` says.
+    ///
+    /// ```
+    /// use etherparse_c::{Entry, EtherType, SlicedPacket};
+    ///
+    /// let datagram = [
+    ///     0x45, 0, 0, 28, 0, 0, 0x40, 0, 20, 17, 0xe3, 0x7d, 192, 168, 1, 1, 192, 168, 1, 2, // IPv4
+    ///     0, 21, 4, 210, 0, 8, 0, 0, // UDP
+    /// ];
+    /// for entry in [Entry::Ip, Entry::EtherType(EtherType::IPV4)] {
+    ///     let packet = SlicedPacket::from_entry(entry, &datagram)?;
+    ///     assert_eq!(packet.net().map(|net| net.header_slice()), Some(&datagram[..20]));
+    ///     assert!(packet.payload().is_empty());
+    /// }
+    /// # Ok::<(), etherparse_c::Refusal>(())
+    /// ```
+    ///
+    /// # Errors
+    ///
+    /// Why the bytes are no frame.
+    #[inline]
+    pub fn from_entry(entry: Entry, frame: &'a [u8]) -> Result<SlicedPacket<'a>, Refusal> {
+        let mut packet = SlicedPacket { told: MaybeUninit::uninit(), frame, entry };
+        packet.fill_in()?;
+        Ok(packet)
+    }
+
+    /// Slices a frame into a packet that is there, whatever it was before; where the bytes are no frame, it has no layer. In
+    /// a loop whose packets are handed on, this saves copying 240 bytes a frame.
+    ///
+    /// ```
+    /// use etherparse_c::{Entry, SlicedPacket};
+    ///
+    /// let datagram = [
+    ///     0x45, 0, 0, 29, 0, 0, 0x40, 0, 20, 17, 0xe3, 0x7c, 192, 168, 1, 1, 192, 168, 1, 2, // IPv4
+    ///     0, 21, 4, 210, 0, 9, 0, 0, 7, // UDP
+    /// ];
+    /// let mut packet = SlicedPacket::EMPTY;
+    /// packet.slice_into(Entry::Ip, &datagram)?;
+    /// assert_eq!((packet.ports(), packet.payload()), (Some((21, 1234)), &[7][..]));
+    /// assert!(packet.slice_into(Entry::Ip, &datagram[..19]).is_err());
+    /// assert!(packet.net().is_none() && packet.payload().is_empty());
+    /// # Ok::<(), etherparse_c::Refusal>(())
+    /// ```
+    ///
+    /// # Errors
+    ///
+    /// Why the bytes are no frame.
+    #[inline]
+    pub fn slice_into(&mut self, entry: Entry, frame: &'a [u8]) -> Result<(), Refusal> {
+        (self.frame, self.entry) = (frame, entry);
+        self.fill_in()
+    }
+
+    /// A packet without a layer, of no bytes.
+    pub const EMPTY: SlicedPacket<'static> =
+        SlicedPacket { told: MaybeUninit::zeroed(), frame: &[], entry: Entry::Ethernet };
+
+    /// Asks what the frame's layers are.
+    #[inline]
+    fn fill_in(&mut self) -> Result<(), Refusal> {
+        let (entry, ether_type) = self.entry.numbers();
+        let frame = self.frame;
+        // SAFETY: both pointers are of what lives as long as the call, and they do not overlap.
+        let status =
+            unsafe { sys::etherparse_slice(entry, ether_type, frame.as_ptr(), frame.len(), self.told.as_mut_ptr()) };
+        // Whatever the call answers, it wrote each field, by its contract; what stood there is of no use to it.
+        if status == sys::OK {
+            Ok(())
+        } else {
+            Err(Refusal::from(self.told().refusal)) // an entry here is always one that is known
+        }
+    }
+
+    /// The frame that was sliced.
+    #[must_use]
+    #[inline]
+    pub fn frame(&self) -> &'a [u8] {
+        self.frame
+    }
+
+    /// What the frame was sliced from.
+    #[must_use]
+    #[inline]
+    pub fn entry(&self) -> Entry {
+        self.entry
+    }
+
+    /// What the library told of the frame, in numbers.
+    #[must_use]
+    #[inline]
+    pub fn told(&self) -> &sys::Packet {
+        // SAFETY: the call that filled it in wrote each field.
+        unsafe { self.told.assume_init_ref() }
+    }
+
+    /// Some bytes of the frame.
+    #[inline]
+    fn bytes(&self, offset: usize, len: usize) -> &'a [u8] {
+        &self.frame[offset..offset + len]
+    }
+
+    /// The link header.
+    #[must_use]
+    #[inline]
+    pub fn link(&self) -> Option<LinkSlice<'a>> {
+        let part = &self.told().link;
+        match part.kind {
+            sys::LINK_ETHERNET2 => Some(LinkSlice::Ethernet2(Ethernet2Slice(self.bytes(part.offset, part.len)))),
+            sys::LINK_LINUX_SLL => Some(LinkSlice::LinuxSll(LinuxSllSlice(self.bytes(part.offset, part.len)))),
+            _ => None,
+        }
+    }
+
+    /// The tags of link extensions from the outside in, the first ones set. A fourth is left as payload.
+    #[must_use]
+    #[inline]
+    pub fn link_exts(&self) -> [Option<LinkExtSlice<'a>>; 3] {
+        self.told().link_exts.map(|tag| match tag.kind {
+            sys::EXT_VLAN => Some(LinkExtSlice::Vlan(SingleVlanSlice(self.bytes(tag.offset, tag.len)))),
+            sys::EXT_MACSEC => Some(LinkExtSlice::Macsec(MacsecSlice(self.bytes(tag.offset, tag.len)))),
+            _ => None,
+        })
+    }
+
+    /// The identifiers of the VLAN tags, from the outside in.
+    ///
+    /// ```
+    /// use etherparse_c::{EtherType, SlicedPacket};
+    ///
+    /// let tagged = [0, 7, 0x81, 0, 0xe0, 42, 0x88, 0xcc]; // behind the ether type of a service tag
+    /// let packet = SlicedPacket::from_ether_type(EtherType::PROVIDER_BRIDGING, &tagged)?;
+    /// assert!(packet.vlan_ids().eq([7, 42]));
+    /// assert_eq!(packet.link_exts()[1].map(|tag| tag.header_slice()), Some(&tagged[4..]));
+    /// # Ok::<(), etherparse_c::Refusal>(())
+    /// ```
+    #[inline]
+    pub fn vlan_ids(&self) -> impl Iterator<Item = u16> + 'a {
+        let tags = self.told().link_exts.into_iter();
+        tags.filter(|tag| tag.kind == sys::EXT_VLAN).map(|tag| tag.vlan_id)
+    }
+
+    /// The net layer: IP with its extension headers, or ARP.
+    #[must_use]
+    #[inline]
+    pub fn net(&self) -> Option<NetSlice<'a>> {
+        let (part, ip) = (&self.told().net, &self.told().ip);
+        let headers = self.bytes(part.offset, part.len);
+        let (header_len, number, fragmented) = (ip.header_len, IpNumber(ip.number), ip.fragmented != 0);
+        // the numbers of bytes from the header on, up to the end that it says
+        let len = match part.kind {
+            sys::NET_IPV4 => usize::from(u16_at(headers, 2)),
+            sys::NET_IPV6 if u16_at(headers, 4) != 0 => 40 + usize::from(u16_at(headers, 4)),
+            _ => self.told().payload.offset + self.told().payload.len - part.offset,
+        };
+        let payload = &self.frame[part.offset..part.offset + len][part.len..];
+        match part.kind {
+            sys::NET_ARP => Some(NetSlice::Arp(ArpPacketSlice(headers))),
+            sys::NET_IPV4 => Some(NetSlice::Ipv4(Ipv4Slice { headers, header_len, payload, number, fragmented })),
+            sys::NET_IPV6 => Some(NetSlice::Ipv6(Ipv6Slice { headers, payload, number, fragmented })),
+            _ => None,
+        }
+    }
+
+    /// What the IP header says, and its extension headers.
+    #[must_use]
+    #[inline]
+    pub fn ip(&self) -> Option<Ip> {
+        let ip = &self.told().ip;
+        (ip.version != 0).then_some(Ip {
+            version: ip.version,
+            number: IpNumber(ip.number),
+            fragmented: ip.fragmented != 0,
+            more_fragments: ip.more_fragments != 0,
+            fragment_offset: ip.fragment_offset,
+            identification: ip.identification,
+            header_len: ip.header_len,
+        })
+    }
+
+    /// The addresses of sender and receiver, of IP.
+    ///
+    /// ```
+    /// use etherparse_c::SlicedPacket;
+    /// use std::net::{IpAddr, Ipv4Addr};
+    ///
+    /// let fragment = [0x45, 0, 0, 21, 0, 7, 0, 1, 64, 17, 0, 0, 10, 0, 0, 1, 10, 0, 0, 2, 9];
+    /// let packet = SlicedPacket::from_ip(&fragment)?;
+    /// let address = |last| IpAddr::from(Ipv4Addr::new(10, 0, 0, last));
+    /// assert_eq!(packet.ip_addresses(), Some((address(1), address(2))));
+    /// assert!(packet.is_ip_payload_fragmented() && packet.transport().is_none());
+    /// # Ok::<(), etherparse_c::Refusal>(())
+    /// ```
+    #[must_use]
+    pub fn ip_addresses(&self) -> Option<(IpAddr, IpAddr)> {
+        self.net()?.ip_addresses()
+    }
+
+    /// Whether the payload is one fragment of a longer one; false where there is no IP packet.
+    #[must_use]
+    #[inline]
+    pub fn is_ip_payload_fragmented(&self) -> bool {
+        self.told().ip.fragmented != 0
+    }
+
+    /// The transport layer; none in a fragment.
+    #[must_use]
+    #[inline]
+    pub fn transport(&self) -> Option<TransportSlice<'a>> {
+        let (part, payload) = (&self.told().transport, &self.told().payload);
+        if part.kind == 0 {
+            return None;
+        }
+        let (slice, header_len) = (&self.frame[part.offset..payload.offset + payload.len], part.len);
+        match part.kind {
+            sys::TRANSPORT_UDP => Some(TransportSlice::Udp(UdpSlice(slice))),
+            sys::TRANSPORT_TCP => Some(TransportSlice::Tcp(TcpSlice { slice, header_len })),
+            sys::TRANSPORT_ICMPV4 => Some(TransportSlice::Icmpv4(IcmpSlice { slice, header_len })),
+            sys::TRANSPORT_ICMPV6 => Some(TransportSlice::Icmpv6(IcmpSlice { slice, header_len })),
+            _ => None,
+        }
+    }
+
+    /// The ports of sender and receiver, of UDP and TCP.
+    #[must_use]
+    #[inline]
+    pub fn ports(&self) -> Option<(u16, u16)> {
+        matches!(self.told().transport.kind, sys::TRANSPORT_TCP | sys::TRANSPORT_UDP)
+            .then_some((self.told().source_port, self.told().destination_port))
+    }
+
+    /// The payload of the last layer. Behind an ARP packet there is none.
+    #[must_use]
+    #[inline]
+    pub fn payload(&self) -> &'a [u8] {
+        self.bytes(self.told().payload.offset, self.told().payload.len)
+    }
+
+    /// Where in the frame the payload begins.
+    #[must_use]
+    #[inline]
+    pub fn payload_offset(&self) -> usize {
+        self.told().payload.offset
+    }
+
+    /// What set the payload's end.
+    #[must_use]
+    #[inline]
+    pub fn payload_len_source(&self) -> LenSource {
+        LenSource::of(self.told().payload.len_source).unwrap_or(LenSource::Slice)
+    }
+}
+
+impl PartialEq for SlicedPacket<'_> {
+    /// Whether the frames have the same bytes, sliced from the same entry.
+    fn eq(&self, other: &Self) -> bool {
+        self.entry == other.entry && self.frame == other.frame
+    }
+}
+
+impl Eq for SlicedPacket<'_> {}
+
+impl core::hash::Hash for SlicedPacket<'_> {
+    fn hash<H: core::hash::Hasher>(&self, state: &mut H) {
+        (self.entry, self.frame).hash(state);
+    }
+}
+
+impl fmt::Debug for SlicedPacket<'_> {
+    /// Its layers.
+    fn fmt(&self, f: &mut fmt::Formatter<'_>) -> fmt::Result {
+        let mut told = f.debug_struct("SlicedPacket");
+        told.field("link", &self.link()).field("link_exts", &self.link_exts()).field("net", &self.net());
+        told.field("transport", &self.transport()).field("payload", &self.payload()).finish()
+    }
+}

@@ -1,0 +1,278 @@
+//! That each number that the C header names is the same in the Rattle sources, in their definitions and here. All are
+//! read as texts, so that a number that is changed in one of them is found without building that one.
+
+use std::collections::{BTreeMap, BTreeSet};
+
+fn read(path: &str) -> String {
+    let path = format!("{}/../../../{path}", env!("CARGO_MANIFEST_DIR"));
+    std::fs::read_to_string(&path).unwrap_or_else(|error| panic!("{path}: {error}"))
+}
+
+/// A Rattle source or definition of the static library.
+fn read_rattle(file: &str) -> String {
+    let folder = if file.ends_with(".rt") { "src" } else { "specs" };
+    read(&format!("crates/etherparse_c/{folder}/{file}"))
+}
+
+/// The word that a text begins with, behind an opening bracket, if there is one.
+fn word(text: &str) -> &str {
+    let text = text.trim_start_matches('(');
+    let end = text.find(|c: char| c != '_' && !c.is_ascii_alphanumeric()).unwrap_or(text.len());
+    &text[..end]
+}
+
+fn number(text: &str) -> Option<u32> {
+    word(text).replace('_', "").parse().ok()
+}
+
+/// Of each line with these parts, the words behind them, where there are some. An empty part is the line's beginning.
+fn pairs<'a>(text: &'a str, before: &'a str, between: &'a str) -> impl Iterator<Item = (&'a str, &'a str)> + 'a {
+    text.lines().filter_map(move |line| {
+        let line = line.trim_start();
+        let first = if before.is_empty() { line } else { line.split_once(before)?.1 };
+        let (first, second) = (word(first), word(first.split_once(between)?.1));
+        (!first.is_empty() && !second.is_empty()).then_some((first, second))
+    })
+}
+
+/// The numbers that the C header names, without the names' first word.
+fn of_c() -> BTreeMap<String, u32> {
+    let header = read("bindings/c/etherparse.h");
+    let named = header.split("ETHERPARSE_").skip(1).filter_map(|text| {
+        let name = word(text);
+        let rest = &text[name.len()..];
+        let it = number(rest.strip_prefix(" = ").or(rest.strip_prefix(' '))?)?; // of an enumerator or a definition
+        Some((name.to_string(), it))
+    });
+    named.collect()
+}
+
+/// A name as it is compared, whether it is written with capitals or with lines between its words.
+fn plain(name: &str) -> String {
+    name.replace('_', "").to_lowercase()
+}
+
+/// Names that begin with the same word in the C header, and where the Rattle crate gives them their numbers.
+struct Named {
+    first: &'static str,
+    count: usize,
+    /// Whether Rattle's names may say more than C's.
+    may_say_more: bool,
+    /// A file, what stands before the first of name and number, and what before the second.
+    places: &'static [(&'static str, &'static str, &'static str)],
+}
+
+const NAMED: [Named; 9] = [
+    Named {
+        first: "LAYER_",
+        count: 21,
+        may_say_more: false,
+        places: &[
+            ("refusing.rt", "Layer::", " => "),
+            ("texts.rt", "", " => Some(Layer::"),
+            ("RefusalNumbers.antt", "layer_number layer.", " = "),
+            ("RefusalTexts.antt", "number == ", " then Some layer."),
+        ],
+    },
+    Named {
+        first: "END_",
+        count: 6,
+        may_say_more: true,
+        places: &[
+            ("describing.rt", "LenSource::", " => "),
+            ("texts.rt", "", " => Some(LenSource::"),
+            ("Description.antt", "source_number source.", " = "),
+            ("RefusalTexts.antt", "number == ", " then Some source."),
+        ],
+    },
+    Named {
+        first: "ENTRY_",
+        count: 4,
+        may_say_more: false,
+        places: &[("slicing.rt", "", " => Some(Entry::"), ("SliceAnswers.antt", "number == ", " then Some ")],
+    },
+    Named {
+        first: "TCP_",
+        count: 8,
+        may_say_more: false,
+        places: &[("building.rt", "", ": fields.flags & "), ("Building.antt", "", " = has_flag fields.flags ")],
+    },
+    Named {
+        first: "FRAGMENT_",
+        count: 3,
+        may_say_more: true,
+        places: &[("pooling.rt", "IpDefragError::", " => "), ("PoolAnswers.antt", "fragment_refusal_number (", ") = ")],
+    },
+    Named {
+        first: "LINK_",
+        count: 2,
+        may_say_more: false,
+        places: &[("Description.antt", "link_kind (Some (", " = ")],
+    },
+    Named { first: "EXT_", count: 2, may_say_more: false, places: &[("Description.antt", "tag_kind (", " = ")] },
+    Named { first: "NET_", count: 3, may_say_more: false, places: &[("Description.antt", "net_kind (Some (", " = ")] },
+    Named {
+        first: "TRANSPORT_",
+        count: 4,
+        may_say_more: false,
+        places: &[("Description.antt", "header_kind (transport.", " = ")],
+    },
+];
+
+/// Each kind of refusal by content, and the variants of `SliceError` and of the error in it that have its number.
+const REFUSALS: [(&str, &str, &str); 13] = [
+    ("SLL_PACKET_TYPE", "LinuxSll", "UnsupportedPacketTypeField"),
+    ("SLL_ARP_HARDWARE", "LinuxSll", "UnsupportedArpHardwareId"),
+    ("MACSEC_VERSION", "Macsec", "UnexpectedVersion"),
+    ("MACSEC_SHORT_LEN", "Macsec", "InvalidUnmodifiedShortLen"),
+    ("IP_VERSION", "Ip", "UnsupportedIpVersion"),
+    ("IP_IHL", "Ip", "Ipv4HeaderLengthSmallerThanHeader"),
+    ("IPV4_VERSION", "Ipv4", "UnexpectedVersion"),
+    ("IPV4_IHL", "Ipv4", "HeaderLengthSmallerThanHeader"),
+    ("IPV6_VERSION", "Ipv6", "UnexpectedVersion"),
+    ("IPV4_AUTH", "Ipv4Exts", "ZeroPayloadLen"),
+    ("IPV6_HOP_BY_HOP", "Ipv6Exts", "HopByHopNotAtStart"),
+    ("IPV6_AUTH", "Ipv6Exts", "ZeroPayloadLen"),
+    ("TCP_DATA_OFFSET", "Tcp", "DataOffsetTooSmall"),
+];
+
+/// Of a text that gives refusals their numbers: the variants of each, and its number. `before` stands before the outer
+/// variant, `inner` before the variant of each error in it, and `number_behind` before the number.
+fn refusals(text: &str, before: &str, inner: &str, number_behind: &str) -> BTreeMap<(String, String), u32> {
+    let told = text.split(before).skip(1).filter_map(|case| {
+        let (variants, rest) = case.split_once(number_behind)?;
+        let (_, innermost) = variants.rsplit_once(inner)?;
+        Some(((word(variants).to_string(), word(innermost).to_string()), number(rest)?))
+    });
+    told.collect()
+}
+
+/// The number behind `kind` in a record, the first one behind a text.
+fn kind_behind(text: &str, before: &str, kind: &str) -> u32 {
+    let (_, record) = text.split_once(before).unwrap_or_else(|| panic!("no {before}"));
+    number(record.split_once(kind).unwrap().1).unwrap()
+}
+
+/// Compares, and notes which names of the header were compared.
+fn same(c: &BTreeMap<String, u32>, compared: &mut BTreeSet<String>, name: String, number: u32, place: &str) {
+    assert_eq!(c.get(&name), Some(&number), "{name} in {place}");
+    compared.insert(name);
+}
+
+#[test]
+fn rattle_has_the_numbers_of_the_c_header() {
+    let c = of_c();
+    let (mut in_sources, mut in_definitions) = (BTreeSet::new(), BTreeSet::new());
+    let text = read_rattle("numbers.rt");
+    let known: Vec<_> = pairs(&text, "pub const ", ": u32 = ").collect();
+    assert_eq!(known.len(), 20);
+    for (name, it) in known {
+        same(&c, &mut in_sources, name.to_string(), number(it).unwrap(), "numbers.rt");
+    }
+    for named in NAMED {
+        let names: Vec<_> = c.iter().filter_map(|(name, it)| Some((name.strip_prefix(named.first)?, *it))).collect();
+        // the statuses have a name that begins as those of refused fragments do
+        let names: Vec<_> = names.into_iter().filter(|(name, _)| *name != "REFUSED").collect();
+        assert_eq!(names.len(), named.count, "{}", named.first);
+        for (file, before, between) in named.places {
+            let text = read_rattle(file);
+            let told = pairs(&text, before, between).filter_map(|(first, second)| match number(first) {
+                Some(it) => Some((second, it)),
+                None => Some((first, number(second)?)),
+            });
+            // 0 is for none, where it has no name
+            let told: Vec<_> = told.filter(|(_, it)| *it != 0 || names.iter().any(|(_, other)| *other == 0)).collect();
+            assert_eq!(told.len(), named.count, "{} in {file}: {told:?}", named.first);
+            for (theirs, it) in told {
+                let place = format!("{file}, {theirs}");
+                let ours = names.iter().find(|(_, other)| *other == it).unwrap_or_else(|| panic!("{it} in {place}")).0;
+                let (ours_plain, theirs_plain) = (plain(ours), plain(theirs));
+                let fits =
+                    if named.may_say_more { theirs_plain.contains(&ours_plain) } else { theirs_plain == ours_plain };
+                assert!(fits, "{it} is {ours} in C, and {place}");
+                let compared = if file.ends_with(".rt") { &mut in_sources } else { &mut in_definitions };
+                same(&c, compared, format!("{}{ours}", named.first), it, &place);
+            }
+        }
+    }
+    let [source, definition] = ["refusing.rt", "RefusalNumbers.antt"].map(read_rattle);
+    let [no_source, no_definition] = ["describing.rt", "Description.antt"].map(read_rattle);
+    let places = [
+        (
+            refusals(&source, "SliceError::", "HeaderError::", "content_part("),
+            kind_behind(&source, "fn len_part(", "kind: "),
+            kind_behind(&no_source, "fn no_refusal(", "kind: "),
+            &mut in_sources,
+        ),
+        (
+            refusals(&definition, "\nrefusal_part (", "_error.", "content_part "),
+            kind_behind(&definition, "\nlen_part error = ", "kind = "),
+            kind_behind(&no_definition, "\nno_refusal = ", "kind = "),
+            &mut in_definitions,
+        ),
+    ];
+    for (told, len, none, compared) in places {
+        assert_eq!(told.len(), REFUSALS.len(), "{told:?}");
+        for (name, outer, inner) in REFUSALS {
+            let it = told[&(outer.to_string(), inner.to_string())];
+            same(&c, compared, format!("REFUSAL_{name}"), it, "what C is told of refusals");
+        }
+        same(&c, compared, "REFUSAL_LEN".to_string(), len, "len_part");
+        same(&c, compared, "REFUSAL_NONE".to_string(), none, "no_refusal");
+    }
+    let text = read_rattle("pooling.rt");
+    for before in ["new_pool(alloc, ", "IsNewPool "] {
+        let it = number(text.split_once(before).unwrap().1).unwrap();
+        same(&c, &mut in_sources, "MAX_PAYLOAD".to_string(), it, "pooling.rt");
+    }
+    let text = read_rattle("laws.rt");
+    let (_, law) = text.split_once("pub fn text_lengths()").unwrap();
+    let longest = c["REFUSAL_TEXT_MAX"] - 1; // without its zero byte
+    assert!(law.split("pub fn ").next().unwrap().contains(&format!("≤ {longest} ")), "the greatest text");
+    // what the sources of the crate say elsewhere, or tests measure
+    let elsewhere = ["REFUSAL_TEXT_MAX", "STACK", "STACK_OF_FRAGMENTS", "VERSION"];
+    // each other name was compared; the definitions say statuses by their numbers alone, and the limit in a contract
+    let all: BTreeSet<_> = c.keys().filter(|name| !elsewhere.contains(&name.as_str())).cloned().collect();
+    assert_eq!(in_sources, all);
+    let without: BTreeSet<_> = all.difference(&in_definitions).map(String::as_str).collect();
+    let statuses = "COMPLETE FRAGMENT_REFUSED MAX_PAYLOAD OK OUT_OF_MEMORY PAYLOAD_WAITS REFUSED TOO_LONG TOO_SMALL";
+    assert_eq!(without, statuses.split(' ').chain(["UNKNOWN_CHOICE"]).collect());
+}
+
+#[test]
+fn rust_has_the_numbers_of_the_c_header() {
+    let text = read("bindings/rust/etherparse-c-sys/src/lib.rs");
+    let declared = text.lines().filter_map(|line| {
+        let (name, rest) = line.strip_prefix("pub const ")?.split_once(": u")?;
+        Some((name.to_string(), number(rest.split_once(" = ")?.1)?))
+    });
+    assert_eq!(declared.collect::<BTreeMap<_, _>>(), of_c());
+}
+
+/// That each kind here has the name of its number.
+#[test]
+fn rust_kinds_have_the_names_of_their_numbers() {
+    let files = ["building", "err", "lib", "refusal", "sliced_packet"]
+        .map(|name| read(&format!("bindings/rust/etherparse-c/src/{name}.rs")));
+    let text = files.concat();
+    // the first word of the header's names, how many there are, and what stands before a kind and before its number
+    let named = [
+        ("LAYER_", 21, "", " = LAYER_"),
+        ("REFUSAL_", 14, "", " = REFUSAL_"),
+        ("LINK_", 2, "sys::LINK_", "Some(LinkSlice::"),
+        ("NET_", 3, "sys::NET_", "Some(NetSlice::"),
+        ("TRANSPORT_", 4, "sys::TRANSPORT_", "Some(TransportSlice::"),
+        ("END_", 6, "", " = END_"),
+        ("ENTRY_", 4, "Entry::", "(sys::ENTRY_"),
+        ("EXT_", 2, "sys::EXT_", " => Some(LinkExtSlice::"),
+        ("TCP_", 8, "pub const ", "sys::TCP_"),
+    ];
+    for (first, count, before, between) in named {
+        let kinds: Vec<_> = pairs(&text, before, between).collect();
+        assert_eq!(kinds.len(), count, "{first}: {kinds:?}");
+        for (kind, name) in kinds {
+            let fits = if first == "END_" { plain(kind).contains(&plain(name)) } else { plain(kind) == plain(name) };
+            assert!(fits, "{kind} is {first}{name}");
+        }
+    }
+}
