@@ -46,12 +46,19 @@ plain() { # what is said, what is set, and further words
 }
 plain "no libetherparse_c.a in $work or $work/lib, which ETHERPARSE_C_DIR names" ETHERPARSE_C_DIR="$work"
 plain "there is no libetherparse_c.a for i686-unknown-linux-gnu" CC=false --target i686-unknown-linux-gnu
+# A package has the source of the memory in a release alone, so it is packaged here over an archive that has the memory in it.
+whole=$work/whole
+mkdir "$whole"
+cp "$archive" "$whole/libetherparse_c.a"
+chmod u+w "$whole/libetherparse_c.a"
 if ! nm -g --defined-only "$archive" 2> /dev/null | grep -q ' rattle_alloc$'; then
     plain "false failed" CC=false
+    "${CC:-cc}" -O2 -fPIC -c ../c/etherparse_heap.c -o "$work/etherparse_heap.o"
+    "${AR:-ar}" rs "$whole/libetherparse_c.a" "$work/etherparse_heap.o" 2> /dev/null
 fi
 packaged=
 if [ "$(printf '%s\n' 1.90 "$cargo" | sort -V | head -n 1)" = 1.90 ]; then
-    if ! cargo package --quiet --workspace --offline --allow-dirty --target-dir "$work/target" 2> "$work/said"; then
+    if ! ETHERPARSE_C_DIR=$whole cargo package --quiet --workspace --offline --allow-dirty --target-dir "$work/target" 2> "$work/said"; then
         cat "$work/said"
         exit 1
     fi
