@@ -73,42 +73,110 @@
 mod tests;
 
 pub use arrayvec::ArrayVec;
-pub use ep_base::{
-    AtLeast, EtherPayloadSlice, EtherType, IpFragOffset, IpNumber, IpPayloadSlice, Ipv4Dscp,
-    Ipv4Ecn, Ipv6FlowLabel, LenSource, MacsecAn, MacsecShortLen, VlanId, VlanPcp, checksum,
-    ether_type, ip_number,
-};
-pub use ep_build::{PacketBuilder, PacketBuilderStep};
-pub use ep_ext::{
-    IpAuthHeader, IpAuthHeaderSlice, Ipv4Extensions, Ipv4ExtensionsSlice, Ipv6ExtensionSlice,
-    Ipv6ExtensionSliceIter, Ipv6Extensions, Ipv6ExtensionsSlice, Ipv6FragmentHeader,
-    Ipv6FragmentHeaderSlice, Ipv6RawExtHeader, Ipv6RawExtHeaderSlice, Ipv6RoutingExtensions,
-};
-pub use ep_ip::{
-    IpSlice, Ipv4Header, Ipv4HeaderSlice, Ipv4Options, Ipv4Slice, Ipv6Header, Ipv6HeaderSlice,
-    Ipv6Slice,
-};
-pub use ep_lax::{
-    LaxEtherPayloadSlice, LaxIpPayloadSlice, LaxIpv4Slice, LaxIpv6Slice, LaxLinkExtSlice,
-    LaxMacsecPayloadSlice, LaxMacsecSlice, LaxNetSlice, LaxSlicedPacket,
-};
-pub use ep_link::{
-    ArpHardwareId, ArpOperation, ArpPacket, ArpPacketSlice, DoubleVlanHeader, DoubleVlanSlice,
-    Ethernet2Header, Ethernet2Slice, LinkExtHeader, LinkExtSlice, LinkHeader, LinkSlice,
-    LinuxSllHeader, LinuxSllPacketType, LinuxSllPayloadSlice, LinuxSllProtocolType, LinuxSllSlice,
-    MacsecHeader, MacsecHeaderSlice, MacsecPType, MacsecPayloadSlice, MacsecSlice,
-    SingleVlanHeader, SingleVlanSlice, VlanHeader, VlanSlice,
-};
-pub use ep_packet::{
-    Entry, InternetSlice, IpHeader, IpHeaders, NetHeaders, NetSlice, PacketHeaders, PayloadSlice,
-    SlicedPacket,
-};
-pub use ep_transport::{
-    IcmpEchoHeader, Icmpv4Header, Icmpv4Slice, Icmpv4Type, Icmpv6Header, Icmpv6Slice, Icmpv6Type,
-    TcpHeader, TcpOptionElement, TcpOptionReadError, TcpOptionWriteError, TcpOptions,
-    TcpOptionsIterator, TcpSlice, TransportHeader, TransportSlice, UdpHeader, UdpSlice, icmpv4,
-    icmpv6,
-};
+pub use ep_base::AtLeast;
+pub use ep_base::EtherPayloadSlice;
+pub use ep_base::EtherType;
+pub use ep_base::IpFragOffset;
+pub use ep_base::IpNumber;
+pub use ep_base::IpPayloadSlice;
+pub use ep_base::Ipv4Dscp;
+pub use ep_base::Ipv4Ecn;
+pub use ep_base::Ipv6FlowLabel;
+pub use ep_base::LenSource;
+pub use ep_base::MacsecAn;
+pub use ep_base::MacsecShortLen;
+pub use ep_base::VlanId;
+pub use ep_base::VlanPcp;
+pub use ep_base::checksum;
+pub use ep_base::ether_type;
+pub use ep_base::ip_number;
+pub use ep_build::PacketBuilder;
+pub use ep_build::PacketBuilderStep;
+pub use ep_ext::IpAuthHeader;
+pub use ep_ext::IpAuthHeaderSlice;
+pub use ep_ext::Ipv4Extensions;
+pub use ep_ext::Ipv4ExtensionsSlice;
+pub use ep_ext::Ipv6ExtensionSlice;
+pub use ep_ext::Ipv6ExtensionSliceIter;
+pub use ep_ext::Ipv6Extensions;
+pub use ep_ext::Ipv6ExtensionsSlice;
+pub use ep_ext::Ipv6FragmentHeader;
+pub use ep_ext::Ipv6FragmentHeaderSlice;
+pub use ep_ext::Ipv6RawExtHeader;
+pub use ep_ext::Ipv6RawExtHeaderSlice;
+pub use ep_ext::Ipv6RoutingExtensions;
+pub use ep_ip::IpSlice;
+pub use ep_ip::Ipv4Header;
+pub use ep_ip::Ipv4HeaderSlice;
+pub use ep_ip::Ipv4Options;
+pub use ep_ip::Ipv4Slice;
+pub use ep_ip::Ipv6Header;
+pub use ep_ip::Ipv6HeaderSlice;
+pub use ep_ip::Ipv6Slice;
+pub use ep_lax::LaxEtherPayloadSlice;
+pub use ep_lax::LaxIpPayloadSlice;
+pub use ep_lax::LaxIpv4Slice;
+pub use ep_lax::LaxIpv6Slice;
+pub use ep_lax::LaxLinkExtSlice;
+pub use ep_lax::LaxMacsecPayloadSlice;
+pub use ep_lax::LaxMacsecSlice;
+pub use ep_lax::LaxNetSlice;
+pub use ep_lax::LaxSlicedPacket;
+pub use ep_link::ArpHardwareId;
+pub use ep_link::ArpOperation;
+pub use ep_link::ArpPacket;
+pub use ep_link::ArpPacketSlice;
+pub use ep_link::DoubleVlanHeader;
+pub use ep_link::DoubleVlanSlice;
+pub use ep_link::Ethernet2Header;
+pub use ep_link::Ethernet2Slice;
+pub use ep_link::LinkExtHeader;
+pub use ep_link::LinkExtSlice;
+pub use ep_link::LinkHeader;
+pub use ep_link::LinkSlice;
+pub use ep_link::LinuxSllHeader;
+pub use ep_link::LinuxSllPacketType;
+pub use ep_link::LinuxSllPayloadSlice;
+pub use ep_link::LinuxSllProtocolType;
+pub use ep_link::LinuxSllSlice;
+pub use ep_link::MacsecHeader;
+pub use ep_link::MacsecHeaderSlice;
+pub use ep_link::MacsecPType;
+pub use ep_link::MacsecPayloadSlice;
+pub use ep_link::MacsecSlice;
+pub use ep_link::SingleVlanHeader;
+pub use ep_link::SingleVlanSlice;
+pub use ep_link::VlanHeader;
+pub use ep_link::VlanSlice;
+pub use ep_packet::Entry;
+pub use ep_packet::InternetSlice;
+pub use ep_packet::IpHeader;
+pub use ep_packet::IpHeaders;
+pub use ep_packet::NetHeaders;
+pub use ep_packet::NetSlice;
+pub use ep_packet::PacketHeaders;
+pub use ep_packet::PayloadSlice;
+pub use ep_packet::SlicedPacket;
+pub use ep_transport::IcmpEchoHeader;
+pub use ep_transport::Icmpv4Header;
+pub use ep_transport::Icmpv4Slice;
+pub use ep_transport::Icmpv4Type;
+pub use ep_transport::Icmpv6Header;
+pub use ep_transport::Icmpv6Slice;
+pub use ep_transport::Icmpv6Type;
+pub use ep_transport::TcpHeader;
+pub use ep_transport::TcpOptionElement;
+pub use ep_transport::TcpOptionReadError;
+pub use ep_transport::TcpOptionWriteError;
+pub use ep_transport::TcpOptions;
+pub use ep_transport::TcpOptionsIterator;
+pub use ep_transport::TcpSlice;
+pub use ep_transport::TransportHeader;
+pub use ep_transport::TransportSlice;
+pub use ep_transport::UdpHeader;
+pub use ep_transport::UdpSlice;
+pub use ep_transport::icmpv4;
+pub use ep_transport::icmpv6;
 
 /// Putting fragmented IP payloads together again.
 pub mod defrag {

@@ -16,8 +16,8 @@ const UDP: [u8; 50] = [
 
 /// An IPv6 packet with four bytes of the number 59, which no layer reads.
 const IPV6_PACKET: [u8; 44] = [
-    0x60, 0, 0, 0, 0, 4, 59, 64, 0, 0, 0, 0, 0, 0, 0, 0, 0, 0, 0, 0, 0, 0, 0, 1, 0, 0, 0, 0, 0, 0, 0,
-    0, 0, 0, 0, 0, 0, 0, 0, 2, 1, 2, 3, 4,
+    0x60, 0, 0, 0, 0, 4, 59, 64, 0, 0, 0, 0, 0, 0, 0, 0, 0, 0, 0, 0, 0, 0, 0, 1, 0, 0, 0, 0, 0, 0,
+    0, 0, 0, 0, 0, 0, 0, 0, 0, 2, 1, 2, 3, 4,
 ];
 
 /// An unmodified payload of MACsec, of which a VLAN tag has four bytes, and an IPv4 packet of four more.
@@ -35,7 +35,9 @@ const MACSEC: Entry = Entry::EtherType(EtherType::MACSEC);
 /// The packet that the bytes are read as.
 fn read<'a>(rt: &impl Abort, entry: Entry, bytes: &'a [u8]) -> LaxSlicedPacket<'a> {
     let mut packet = LaxSlicedPacket::new();
-    packet.slice_into(entry, bytes).expect(rt, "the first header stands");
+    packet
+        .slice_into(entry, bytes)
+        .expect(rt, "the first header stands");
     packet
 }
 
@@ -142,12 +144,7 @@ fn datagram_lengths(rt: HostRuntime) {
         let mut frame = UDP;
         frame[17] = total_len;
         frame[39] = says;
-        ends_in(
-            &rt,
-            &read(&rt, Entry::Ethernet, &frame),
-            len,
-            incomplete,
-        );
+        ends_in(&rt, &read(&rt, Entry::Ethernet, &frame), len, incomplete);
     }
 }
 
@@ -229,13 +226,7 @@ fn short_lengths_that_stop(rt: HostRuntime) {
     let mut bytes = MACSEC_PACKET;
     bytes[1] = 2;
     let packet = read(&rt, MACSEC, &bytes);
-    misses(
-        &rt,
-        &packet,
-        Layer::VlanHeader,
-        (8, 4, 0),
-        LenSource::Slice,
-    );
+    misses(&rt, &packet, Layer::VlanHeader, (8, 4, 0), LenSource::Slice);
     same(&rt, &packet.link_exts.len(), &1);
     bytes[1] = 1;
     let refused = macsec::HeaderError::InvalidUnmodifiedShortLen;
@@ -252,7 +243,12 @@ fn short_lengths_that_stop(rt: HostRuntime) {
 /// A modified payload of MACsec.
 #[test]
 fn modified_payloads(rt: HostRuntime) {
-    for (short_len, len, incomplete) in [(0u8, 4, false), (3, 3, false), (4, 4, false), (5, 4, true)] {
+    for (short_len, len, incomplete) in [
+        (0u8, 4, false),
+        (3, 3, false),
+        (4, 4, false),
+        (5, 4, true),
+    ] {
         let bytes = [0x0c, short_len, 0, 0, 0, 0, 0xaa, 0xbb, 0xcc, 0xdd];
         let packet = read(&rt, MACSEC, &bytes);
         ends_in(&rt, &packet, len, incomplete);
@@ -345,12 +341,7 @@ fn errors_in_headers(rt: HostRuntime) {
     frame[14] = 0x44;
     let short = ipv4::HeaderError::HeaderLengthSmallerThanHeader { ihl: 4 };
     let packet = read(&rt, Entry::Ethernet, &frame);
-    stops(
-        &rt,
-        &packet,
-        SliceError::Ipv4(short),
-        Layer::Ipv4Header,
-    );
+    stops(&rt, &packet, SliceError::Ipv4(short), Layer::Ipv4Header);
     frame[14] = 0x45;
     frame[23] = 6;
     let packet = read(&rt, Entry::Ethernet, &frame);
@@ -376,8 +367,16 @@ fn errors_in_headers(rt: HostRuntime) {
 /// A first header that is refused.
 #[test]
 fn refused_first_headers(rt: HostRuntime) {
-    same(&rt, &LaxSlicedPacket::from_ethernet(&[0; 13]).is_err(), &true);
-    same(&rt, &LaxSlicedPacket::from_linux_sll(&[0; 15]).is_err(), &true);
+    same(
+        &rt,
+        &LaxSlicedPacket::from_ethernet(&[0; 13]).is_err(),
+        &true,
+    );
+    same(
+        &rt,
+        &LaxSlicedPacket::from_linux_sll(&[0; 15]).is_err(),
+        &true,
+    );
     same(&rt, &LaxSlicedPacket::from_ip(&[]).is_err(), &true);
     same(&rt, &LaxSlicedPacket::from_ip(&[0x50]).is_err(), &true);
     same(&rt, &LaxSlicedPacket::from_ip(&[0x45; 19]).is_err(), &true);
