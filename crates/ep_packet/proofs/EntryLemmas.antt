@@ -1,124 +1,122 @@
 -- What the entries find, from the link layer and what lies behind it.
-use Rattle.std.proofs.Common.{◌≡◌, ℕ, ◌++◌, List, [], Option, Some, refl, sym, ap, ◌∙◌, inr}
+use Rattle.std.proofs.Common.{◌≡◌, ℕ, List, Option, Some, Result, refl, sym, ap, subst, ◌∙◌, inr}
+use Rattle.std.specs.Prelude.{IfOk, IfErr, IsOkAnd}
 use Rattle.std.specs.Option.{option_map}
-use Rattle.std.proofs.lemmas.List.{append-nil}
+use Rattle.std.proofs.Math.Path.{transport}
+use Rattle.std.proofs.lemmas.Result.{IfOk-weaker, IfErr-weaker}
+use Rattle.ep_base.specs.Bytes.{AreBytes}
 use Rattle.ep_base.specs.Readings.{slices}
-use Rattle.ep_base.specs.declared.ether_payload_slice.EtherPayloadSlice.{EtherPayloadSlice}
-use Rattle.ep_base.specs.declared.ether_type.EtherType.{EtherType}
-use Rattle.ep_base.specs.declared.len_source.LenSource.TheVariants as source
-use Rattle.ep_link.specs.declared.link.ethernet2_slice.Ethernet2Slice.{Ethernet2Slice}
-use Rattle.ep_link.specs.declared.link.linux_sll_slice.LinuxSllSlice.{LinuxSllSlice}
+use Rattle.ep_base.proofs.DecidedLemmas.{only_of}
 use Rattle.ep_link.specs.declared.link.link_slice.LinkSlice.{LinkSlice}
-use Rattle.ep_link.specs.declared.link.link_slice.LinkSlice.TheVariants as link
-use Rattle.ep_link.specs.Ethernet2.{ethernet2_header_len, IsEthernet2}
-use Rattle.ep_link.specs.Ethernet2Slices.{ethernet2_slice_bytes, ethernet2_slice_header, ethernet2_slice_parts, ethernet2_slice_payload}
-use Rattle.ep_link.specs.LinkSlices.{ether_payload, link_layer_of, link_layer_payload, link_slice_bytes}
-use Rattle.ep_link.specs.LinuxSll.{linux_sll_header_len, IsLinuxSll, protocol_ether_type}
-use Rattle.ep_link.specs.LinuxSllSlices.{linux_sll_slice_bytes, linux_sll_slice_header, linux_sll_slice_parts, linux_sll_slice_payload}
+use Rattle.ep_link.specs.LinkSlices.{link_layer_of, link_layer_payload}
+use Rattle.ep_packet.specs.declared.entry.Entry.{Entry}
+use Rattle.ep_packet.specs.declared.entry.Entry.TheVariants.{Ethernet as ethernet, LinuxSll as linux_sll}
+use Rattle.ep_packet.specs.declared.entry.Entry.TheVariants.{EtherType as ether_type, Ip as ip}
 use Rattle.ep_packet.specs.declared.err.slice_error.SliceError.{SliceError}
+use Rattle.ep_packet.specs.declared.link_part.LinkPart.{LinkPart}
 use Rattle.ep_packet.specs.declared.sliced_packet.SlicedPacket.{SlicedPacket}
-use Rattle.ep_packet.specs.declared.entry.Entry.TheVariants.{Ethernet as ethernet, LinuxSll as linux_sll, EtherType as ether_type}
-use Rattle.ep_packet.specs.Layers.{layers_of}
+use Rattle.ep_packet.specs.Layers.{Layers, layers_of}
 use Rattle.ep_packet.specs.Frame.{IsFrame, IsInside, most_link_exts}
 use Rattle.ep_packet.specs.FrameRefusals.{RefusesFrame, RefusesInside}
+use Rattle.ep_packet.specs.LinkParts.{BeginsPacket, IsLinkFront, LinkFront, front_of}
 use Rattle.ep_packet.specs.ShownBytes.{ShowsBytes, ShowsInside, ShowsLink}
 use Rattle.ep_packet.specs.Walk.{HoldsBehind}
-use Rattle.ep_packet.proofs.WalkLemmas.{along}
+use Rattle.ep_packet.proofs.LayerLawLemmas.{frame_law}
 
--- slices that show what lies in a link slice show the bytes
-shows_link : (bytes left payload : List ℕ) (slice : LinkSlice) (packet : SlicedPacket) → packet.link ≡ Some slice
-    → bytes ≡ link_slice_bytes slice ++ left → payload ≡ link_layer_payload (link_layer_of slice)
-    → ShowsInside payload packet.link_exts.items packet.net packet.transport → ShowsBytes bytes packet
-shows_link bytes left payload slice packet is parts same shows =
-    along (λ (l : Option LinkSlice) (b : List ℕ). ShowsLink bytes l packet.link_exts.items packet.net packet.transport)
-    (Some slice) packet.link payload payload (sym is) refl (
-      (left, parts),
-      along (λ (b c : List ℕ). ShowsInside b packet.link_exts.items packet.net packet.transport)
-          payload (link_layer_payload (link_layer_of slice)) payload payload same refl shows,
-    )
+-- the payload of a link layer is that which the layer carries
+carried : (front known : LinkFront) → front ≡ known → known.payload ≡ link_layer_payload known.link
+    → front.payload ≡ link_layer_payload front.link
+carried front known same there =
+    ap (λ (f : LinkFront). f.payload) same ∙ there ∙ sym (ap (λ (f : LinkFront). link_layer_payload f.link) same)
 
--- behind an Ethernet II header
-pub ethernet_holds : (bytes left payload : List ℕ) (frame : Ethernet2Slice) (type : EtherType) (packet : SlicedPacket)
-    → bytes ≡ ethernet2_slice_bytes frame ++ left → IsEthernet2 bytes (ethernet2_slice_parts frame left)
-    → type ≡ (ethernet2_slice_header frame).ether_type → payload ≡ ethernet2_slice_payload frame
-    → HoldsBehind (link.Ethernet2 frame) (Some type) payload packet
-    → IsFrame ethernet bytes (layers_of packet) × ShowsBytes bytes packet
-ethernet_holds bytes left payload frame type packet parts is same_type same_payload holds = (
-  (
-    ethernet2_slice_parts frame left,
-    is,
-    ap (option_map link_layer_of) holds.has_link,
-    along (λ (t : EtherType) (b : List ℕ). IsInside slices most_link_exts (Some t) b
-        (layers_of packet).link_exts (layers_of packet).net (layers_of packet).transport)
-        type (ethernet2_slice_header frame).ether_type payload (ethernet2_slice_payload frame) same_type same_payload
-        holds.inside,
-  ),
-  shows_link bytes left payload (link.Ethernet2 frame) packet holds.has_link parts same_payload holds.shows,
+pub payload_there : (entry : Entry) (bytes : List ℕ) (front : LinkFront) → IsLinkFront entry bytes front
+    → front.payload ≡ link_layer_payload front.link
+payload_there ethernet bytes front is = carried front _ is.2 refl
+payload_there linux_sll bytes front is = carried front _ is.2 refl
+payload_there (ether_type type) bytes front is = carried front _ is refl
+payload_there ip bytes front is = absurd is
+
+-- a link layer and what its payload holds are a frame
+is_frame : (entry : Entry) (bytes : List ℕ) (front : LinkFront) (layers : Layers) → IsLinkFront entry bytes front
+    → layers.link ≡ Some front.link
+    → IsInside slices most_link_exts front.type front.payload layers.link_exts layers.net layers.transport
+    → IsFrame entry bytes layers
+is_frame ethernet bytes front layers is link inside = (
+  is.0,
+  is.1,
+  link ∙ (λ i. Some (is.2 i).link),
+  transport (λ i. IsInside slices most_link_exts (is.2 i).type
+      (is.2 i).payload layers.link_exts layers.net layers.transport) inside,
 )
+is_frame linux_sll bytes front layers is link inside = (
+  is.0,
+  is.1,
+  link ∙ (λ i. Some (is.2 i).link),
+  transport (λ i. IsInside slices most_link_exts (is.2 i).type
+      (is.2 i).payload layers.link_exts layers.net layers.transport) inside,
+)
+is_frame (ether_type type) bytes front layers is link inside = (
+  link ∙ (λ i. Some (is i).link),
+  transport (λ i. IsInside slices most_link_exts (is i).type (is i).payload
+      layers.link_exts layers.net layers.transport) inside,
+)
+is_frame ip bytes front layers is link inside = absurd is
 
--- and a refusal there
-pub ethernet_refused : (bytes left payload : List ℕ) (frame : Ethernet2Slice) (type : EtherType) (error : SliceError)
-    → IsEthernet2 bytes (ethernet2_slice_parts frame left)
-    → type ≡ (ethernet2_slice_header frame).ether_type → payload ≡ ethernet2_slice_payload frame
-    → RefusesInside slices most_link_exts ethernet2_header_len (Some type) payload error
-    → RefusesFrame ethernet bytes error
-ethernet_refused bytes left payload frame type error is same_type same_payload refused =
+-- and what refuses its payload refuses the frame
+is_refused : (entry : Entry) (bytes : List ℕ) (front : LinkFront) (error : SliceError) → IsLinkFront entry bytes front
+    → RefusesInside slices most_link_exts front.offset front.type front.payload error → RefusesFrame entry bytes error
+is_refused ethernet bytes front error is refused =
     inr (
-      ethernet2_slice_parts frame left,
-      is,
-      along (λ (t : EtherType) (b : List ℕ). RefusesInside slices most_link_exts ethernet2_header_len (Some t) b error)
-          type (ethernet2_slice_header frame).ether_type payload (ethernet2_slice_payload frame)
-          same_type same_payload refused,
+      is.0,
+      is.1,
+      transport (λ i. RefusesInside slices most_link_exts (is.2 i).offset (is.2 i).type
+          (is.2 i).payload error) refused,
     )
-
--- behind the header of a Linux cooked capture
-pub linux_sll_holds : (bytes left payload : List ℕ) (frame : LinuxSllSlice) (type : Option EtherType)
-    (packet : SlicedPacket)
-    → bytes ≡ linux_sll_slice_bytes frame ++ left → IsLinuxSll bytes (linux_sll_slice_parts frame left)
-    → type ≡ protocol_ether_type (linux_sll_slice_header frame).protocol_type → payload ≡ linux_sll_slice_payload frame
-    → HoldsBehind (link.LinuxSll frame) type payload packet
-    → IsFrame linux_sll bytes (layers_of packet) × ShowsBytes bytes packet
-linux_sll_holds bytes left payload frame type packet parts is same_type same_payload holds = (
-  (
-    linux_sll_slice_parts frame left,
-    is,
-    ap (option_map link_layer_of) holds.has_link,
-    along (λ (t : Option EtherType) (b : List ℕ). IsInside slices most_link_exts t b
-        (layers_of packet).link_exts (layers_of packet).net (layers_of packet).transport)
-        type (protocol_ether_type (linux_sll_slice_header frame).protocol_type) payload (linux_sll_slice_payload frame)
-        same_type same_payload holds.inside,
-  ),
-  shows_link bytes left payload (link.LinuxSll frame) packet holds.has_link parts same_payload holds.shows,
-)
-
--- and a refusal there
-pub linux_sll_refused : (bytes left payload : List ℕ) (frame : LinuxSllSlice)
-    (type : Option EtherType) (error : SliceError)
-    → IsLinuxSll bytes (linux_sll_slice_parts frame left)
-    → type ≡ protocol_ether_type (linux_sll_slice_header frame).protocol_type → payload ≡ linux_sll_slice_payload frame
-    → RefusesInside slices most_link_exts linux_sll_header_len type payload error
-    → RefusesFrame linux_sll bytes error
-linux_sll_refused bytes left payload frame type error is same_type same_payload refused =
+is_refused linux_sll bytes front error is refused =
     inr (
-      linux_sll_slice_parts frame left,
-      is,
-      along (λ (t : Option EtherType) (b : List ℕ). RefusesInside slices most_link_exts linux_sll_header_len t b error)
-          type (protocol_ether_type (linux_sll_slice_header frame).protocol_type) payload
-          (linux_sll_slice_payload frame)
-          same_type same_payload refused,
+      is.0,
+      is.1,
+      transport (λ i. RefusesInside slices most_link_exts (is.2 i).offset (is.2 i).type
+          (is.2 i).payload error) refused,
+    )
+is_refused (ether_type type) bytes front error is refused =
+    transport (λ i. RefusesInside slices most_link_exts (is i).offset (is i).type (is i).payload error) refused
+is_refused ip bytes front error is refused = absurd is
+
+-- slices that show what lies in a link layer show the bytes
+shows_behind : (entry : Entry) (bytes : List ℕ) (part : LinkPart) (packet : SlicedPacket)
+    → BeginsPacket entry bytes part → HoldsBehind part.link part.ether_type part.slice.now packet
+    → ShowsBytes bytes packet
+shows_behind entry bytes part packet begins behind =
+    subst (λ (l : Option LinkSlice). ShowsLink bytes l packet.link_exts.items packet.net packet.transport)
+    (sym behind.has_link) (
+      begins.shows,
+      subst (λ (b : List ℕ). ShowsInside b packet.link_exts.items packet.net packet.transport)
+          (payload_there entry bytes (front_of part) begins.is) behind.shows,
     )
 
--- in the payload of a link layer
-pub ether_payload_holds : (bytes : List ℕ) (payload : EtherPayloadSlice) (packet : SlicedPacket)
-    → payload.len_source ≡ source.Slice → payload.payload.now ≡ bytes
-    → HoldsBehind (link.EtherPayload payload) (Some payload.ether_type) bytes packet
-    → IsFrame (ether_type payload.ether_type) bytes (layers_of packet) × ShowsBytes bytes packet
-ether_payload_holds bytes payload packet whole same holds = (
-  (
-    ap (option_map link_layer_of) holds.has_link
-        ∙ (λ i. Some (ether_payload payload.ether_type (whole i) (same i))),
-    holds.inside,
-  ),
-  shows_link bytes [] bytes (link.EtherPayload payload) packet holds.has_link
-      (sym same ∙ sym (append-nil payload.payload.now)) (sym same) holds.shows,
-)
+-- what a call answers that reads the frame behind a link layer, whose packet is shown by its answer
+pub record EntersFrame (A : Type 0) (entry : Entry) (bytes : List ℕ) (result : Result A SliceError)
+    (shown : A → SlicedPacket) : Type 0 where
+  pub ok : IfOk result (λ a. IsFrame entry bytes (layers_of (shown a)))
+  pub only : (layers : Layers) → IsFrame entry bytes layers → IsOkAnd result (λ a. layers_of (shown a) ≡ layers)
+  pub shows : IfOk result (λ a. ShowsBytes bytes (shown a))
+  pub err : IfErr result (RefusesFrame entry bytes)
+
+pub enters_frame : {A : Type 0} (entry : Entry) (bytes : List ℕ) (part : LinkPart) (result : Result A SliceError)
+    (shown : A → SlicedPacket) → AreBytes bytes → BeginsPacket entry bytes part
+    → IfOk result (λ a. HoldsBehind part.link part.ether_type part.slice.now (shown a))
+    → IfErr result (RefusesInside slices most_link_exts part.offset part.ether_type part.slice.now)
+    → EntersFrame A entry bytes result shown
+enters_frame entry bytes part result shown fits begins ok err =
+    let is = IfOk-weaker result _ (λ a. IsFrame entry bytes (layers_of (shown a)))
+    (λ a behind. is_frame entry bytes (front_of part) (layers_of (shown a)) begins.is
+    (ap (option_map link_layer_of) behind.has_link) behind.inside) ok in
+    let refuses = IfErr-weaker result _ (RefusesFrame entry bytes)
+    (λ error refused. is_refused entry bytes (front_of part) error begins.is refused) err in
+    record {
+      ok = is;
+      only = only_of (λ a. layers_of (shown a)) (frame_law entry bytes fits) result is refuses;
+      shows = IfOk-weaker result _ _ (λ a behind. shows_behind entry bytes part (shown a) begins behind) ok;
+      err = refuses;
+    }

@@ -1,5 +1,6 @@
 -- What the walk over a frame fills in, one step after another, from what the layers' calls ensure.
-use Rattle.std.proofs.Common.{◌≡◌, ◌⊎◌, ℕ, zero, suc, ◌+◌, ◌≤◌, ◌<◌, ◌==◌, if◌then◌else◌, Bool, List, [], ◌∷◌, ◌++◌, length, Option, Some, None, refl, sym, ap, subst, ◌∙◌, inl, inr, arith, length-append}
+use Rattle.std.proofs.Common.{◌≡◌, ◌⊎◌, ℕ, zero, suc, ◌+◌, ◌≤◌, ◌<◌, ◌==◌, if◌then◌else◌, Bool, List, [], ◌∷◌, ◌++◌}
+use Rattle.std.proofs.Common.{length, Option, Some, None, refl, sym, ap, subst, ◌∙◌, inl, inr, arith, length-append}
 use Rattle.std.specs.Option.{option_map}
 use Rattle.std.proofs.Math.Dec.{eqb-suc-zero}
 use Rattle.std.proofs.lemmas.List.{append-nil}
@@ -16,10 +17,12 @@ use Rattle.ep_link.specs.EtherPayloads.{EtherPayload}
 use Rattle.ep_link.specs.LinkSlices.{whole_ether_payload}
 use Rattle.ep_link.specs.Macsec.{unmodified, modified}
 use Rattle.ep_link.specs.declared.link_ext.link_ext_header.LinkExtHeader.{LinkExtHeader}
-use Rattle.ep_link.specs.LinkExtensions.{LinkExtension, vlan, macsec, BeginsLinkExtension, extension_ether_payload, extension_payload, extension_type}
+use Rattle.ep_link.specs.LinkExtensions.{LinkExtension, vlan, macsec, BeginsLinkExtension, extension_ether_payload}
+use Rattle.ep_link.specs.LinkExtensions.{extension_payload, extension_type}
 use Rattle.ep_link.specs.declared.link_ext.single_vlan_header.SingleVlanHeader.{SingleVlanHeader}
+use Rattle.ep_ip.specs.declared.ipv4_header.Ipv4Header.{Ipv4Header}
 use Rattle.ep_ip.specs.declared.ipv6_header.Ipv6Header.{Ipv6Header}
-use Rattle.ep_ip.specs.IpPackets.{IpPacket, IpPart, IsIp, IsIpv6, RefusesIp, ipv4_part, ipv6_part}
+use Rattle.ep_ip.specs.IpPackets.{IpPacket, IpPart, IsIp, IsIpv4, IsIpv6, RefusesIp, ipv4_part, ipv6_part}
 use Rattle.ep_ip.proofs.IpBytesLemmas.{ipv4_packet_bytes, ipv6_len, ipv6_packet_bytes}
 use Rattle.ep_ip.specs.Ipv6.{ipv6_bytes}
 use Rattle.ep_transport.specs.TransportParts.{TransportLayer}
@@ -31,7 +34,8 @@ use Rattle.ep_packet.specs.IpHeaders.{ip_headers_of, ip_part_payload, of_slice_e
 use Rattle.ep_packet.specs.NetHeaders.{net_headers_of}
 use Rattle.ep_packet.specs.PacketHeaders.{Headers, arp_packet, net_header_in, net_header_of, transport_header_in}
 use Rattle.ep_packet.specs.PayloadParts.{PayloadPart, empty, ether, ip, innermost_part}
-use Rattle.ep_packet.specs.FrameRefusals.{RefusesNetLayer, RefusesNetPart, RefusesTransportBehind, RefusesTransportIn, ip_content_refusal, net_header_len}
+use Rattle.ep_packet.specs.FrameRefusals.{RefusesNetLayer, RefusesNetPart, RefusesTransportBehind, RefusesTransportIn}
+use Rattle.ep_packet.specs.FrameRefusals.{ip_content_refusal, net_header_len}
 use Rattle.ep_packet.proofs.WalkLemmas.{ends_at}
 use Rattle.ep_packet.specs.HeadersWalk.{FillsInside, FillsNet, FillsIp, FillsTransport, with_net}
 use Rattle.ep_packet.specs.declared.ip_headers.IpHeaders.{IpHeaders}
@@ -114,69 +118,53 @@ ipv6_end (suc n) len content left sum (inl cut) whole same =
     ap (λ (b : Bool). if b then len else 40 + suc n) (eqb-suc-zero n) ∙ omega (arith, cut.1, whole, same)
 ipv6_end (suc n) len content left sum (inr cut) whole same = absurd (omega (arith, cut.0))
 
+-- how many bytes a front, what is behind it and what is left have
+parts_len : (bytes front behind left : List ℕ) (len : ℕ) → length front ≡ len → bytes ≡ (front ++ behind) ++ left
+    → length bytes ≡ (len + length behind) + length left
+parts_len bytes front behind left len len_is parts =
+    omega (arith, len_is, ap length parts, length-append (front ++ behind) left, length-append front behind)
+
+ipv4_whole : (bytes : List ℕ) (packet : IpPacket Ipv4Header) → IsIpv4 headers bytes packet
+    → length bytes ≡ (net_header_len (ip_layer (ipv4_part packet)) + length packet.payload.bytes) + length packet.left
+ipv4_whole bytes packet is =
+    let are = ipv4_packet_bytes headers bytes packet is in
+    parts_len bytes are.headers packet.payload.bytes packet.left _ are.len_is are.parts
+
+ipv6_whole : (bytes : List ℕ) (packet : IpPacket Ipv6Header) → IsIpv6 headers bytes packet
+    → length bytes ≡ (net_header_len (ip_layer (ipv6_part packet)) + length packet.payload.bytes) + length packet.left
+ipv6_whole bytes packet is =
+    let are = ipv6_packet_bytes headers bytes packet is in
+    parts_len bytes are.headers packet.payload.bytes packet.left _ are.len_is are.parts
+
+-- the content of a packet of IPv6 is what is behind its header
+content_len : (bytes : List ℕ) (packet : IpPacket Ipv6Header) (is : IsIpv6 headers bytes packet)
+    → length bytes ≡ (40 + length is.content) + length packet.left
+content_len bytes packet is =
+    parts_len bytes (ipv6_bytes packet.header) is.content packet.left 40 (ipv6_len packet.header is.cut.fits)
+    is.cut.parts
+
 -- the content of a packet is its headers and its payload
 part_content : (bytes : List ℕ) (part : IpPart) → IsIp headers bytes part
     → content_end (ip_headers_of part) (length bytes)
     ≡ net_header_len (ip_layer part) + length (ip_part_payload part).bytes
 part_content bytes (ipv4_part packet) is =
-    let are = ipv4_packet_bytes headers bytes packet is in
     let cut = is.cut in
     omega (
       arith,
       cut.cut,
-      are.len_is,
-      ap length are.parts,
-      length-append (are.headers ++ packet.payload.bytes) packet.left,
-      length-append are.headers packet.payload.bytes,
-      ap length cut.parts,
-      length-append (cut.encoded ++ is.content) packet.left,
-      length-append cut.encoded is.content,
+      ipv4_whole bytes packet is,
+      parts_len bytes cut.encoded is.content packet.left (length cut.encoded) refl cut.parts,
     )
 part_content bytes (ipv6_part packet) is =
-    let are = ipv6_packet_bytes headers bytes packet is in
-    let cut = is.cut in
-    let front = ipv6_bytes packet.header in
-    let whole : length bytes ≡ (net_header_len (ip_layer (ipv6_part packet)) + length packet.payload.bytes)
-    + length packet.left =
-    omega (
-      arith,
-      are.len_is,
-      ap length are.parts,
-      length-append (are.headers ++ packet.payload.bytes) packet.left,
-      length-append are.headers packet.payload.bytes,
-    ) in
-    let same : length bytes ≡ 40 + length is.content + length packet.left =
-    omega (
-      arith,
-      ipv6_len packet.header cut.fits,
-      ap length cut.parts,
-      length-append (front ++ is.content) packet.left,
-      length-append front is.content,
-    ) in
     ipv6_end packet.header.payload_length (length bytes) (length is.content) packet.left
-    (net_header_len (ip_layer (ipv6_part packet)) + length packet.payload.bytes) cut.cut whole same
+    (net_header_len (ip_layer (ipv6_part packet)) + length packet.payload.bytes) is.cut.cut
+    (ipv6_whole bytes packet is) (content_len bytes packet is)
 
 -- headers and payload are some of the bytes
 part_within : (bytes : List ℕ) (part : IpPart) → IsIp headers bytes part
     → net_header_len (ip_layer part) + length (ip_part_payload part).bytes ≤ length bytes
-part_within bytes (ipv4_part packet) is =
-    let are = ipv4_packet_bytes headers bytes packet is in
-    omega (
-      arith,
-      are.len_is,
-      ap length are.parts,
-      length-append (are.headers ++ packet.payload.bytes) packet.left,
-      length-append are.headers packet.payload.bytes,
-    )
-part_within bytes (ipv6_part packet) is =
-    let are = ipv6_packet_bytes headers bytes packet is in
-    omega (
-      arith,
-      are.len_is,
-      ap length are.parts,
-      length-append (are.headers ++ packet.payload.bytes) packet.left,
-      length-append are.headers packet.payload.bytes,
-    )
+part_within bytes (ipv4_part packet) is = omega (arith, ipv4_whole bytes packet is)
+part_within bytes (ipv6_part packet) is = omega (arith, ipv6_whole bytes packet is)
 
 -- the content that the length field of IPv4 counts is the headers and the payload
 pub behind_headers : (bytes : List ℕ) (part : IpPart) (payload : IpPayloadSlice) → IsIp headers bytes part
@@ -188,28 +176,7 @@ behind_headers bytes part payload is same =
 -- and so is what is behind the header of IPv6, with that header
 pub ipv6_content : (bytes : List ℕ) (packet : IpPacket Ipv6Header) (is : IsIpv6 headers bytes packet)
     → 40 + length is.content ≡ net_header_len (ip_layer (ipv6_part packet)) + length packet.payload.bytes
-ipv6_content bytes packet is =
-    let are = ipv6_packet_bytes headers bytes packet is in
-    let cut = is.cut in
-    let front = ipv6_bytes packet.header in
-    let whole : length bytes ≡ (net_header_len (ip_layer (ipv6_part packet)) + length packet.payload.bytes)
-    + length packet.left =
-    omega (
-      arith,
-      are.len_is,
-      ap length are.parts,
-      length-append (are.headers ++ packet.payload.bytes) packet.left,
-      length-append are.headers packet.payload.bytes,
-    ) in
-    let content : length bytes ≡ 40 + length is.content + length packet.left =
-    omega (
-      arith,
-      ipv6_len packet.header cut.fits,
-      ap length cut.parts,
-      length-append (front ++ is.content) packet.left,
-      length-append front is.content,
-    ) in
-    omega (arith, whole, content)
+ipv6_content bytes packet is = omega (arith, ipv6_whole bytes packet is, content_len bytes packet is)
 
 -- what was read of a packet of bytes was filled in
 pub fills_read : (bytes : List ℕ) (part : IpPart) (net : Option NetHeaders) (payload : IpPayloadSlice) (offset : ℕ)

@@ -160,6 +160,10 @@ checked header fits = record {
   options = fits.options;
 }
 
+-- a packet behind which nothing is left
+abbrev whole_packet : {Header : Type 0} → Header → List ExtensionPart → IpPayload → IpPacket Header
+whole_packet header parts payload = record { header = header; extensions = parts; payload = payload; left = [] }
+
 read_ipv4 : (header : Ipv4Header) (extensions : Ipv4Extensions) (last : IpNumber) (payload : List ℕ)
     → FitsIpv4 header → FitParts (ipv4_parts (ipv4_linked extensions last))
     → header.protocol ≡ ipv4_first extensions last
@@ -175,12 +179,8 @@ read_ipv4 header extensions last payload fits fit protocol total other =
     let content = parts_bytes parts ++ payload in
     let whole = checked header fits in
     let written = variant.Ipv4 header (ipv4_linked extensions last) in
-    let is : IsIpv4 by_value (written_headers written parts ++ payload) (record {
-      header = there;
-      extensions = parts;
-      payload = payload_of_headers written last payload;
-      left = [];
-    }) = record {
+    let is : IsIpv4 by_value (written_headers written parts ++ payload)
+    (whole_packet there parts (payload_of_headers written last payload)) = record {
       content = content;
       cut = record {
         encoded = ipv4_bytes there;
@@ -229,12 +229,8 @@ read_ipv6 header extensions last payload fits fit next field other =
     let len : header.payload_length ≡ length content =
     omega (arith, field, length-append (parts_bytes parts) payload) in
     let written = variant.Ipv6 header (ipv6_linked extensions last) in
-    let is : IsIpv6 by_value (written_headers written parts ++ payload) (record {
-      header = header;
-      extensions = parts;
-      payload = payload_of_headers written last payload;
-      left = [];
-    }) = record {
+    let is : IsIpv6 by_value (written_headers written parts ++ payload)
+    (whole_packet header parts (payload_of_headers written last payload)) = record {
       content = content;
       cut = record {
         fits = fits;

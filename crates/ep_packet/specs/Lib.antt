@@ -12,6 +12,7 @@ pub mod FrameCuts
 pub mod VlanTags
 pub mod ShownBytes
 pub mod Walk
+pub mod LinkParts
 pub mod IpHeaders
 pub mod NetHeaders
 pub mod PayloadParts

@@ -9,14 +9,12 @@ use Rattle.ep_link.specs.LinkExtensions.{link_extension_of}
 use Rattle.ep_transport.specs.declared.transport_slice.TransportSlice.{TransportSlice}
 use Rattle.ep_transport.specs.TransportParts.{transport_layer_of}
 use Rattle.ep_packet.specs.declared.err.slice_error.SliceError.{SliceError}
-use Rattle.ep_packet.specs.declared.entry.Entry.{Entry}
 use Rattle.ep_packet.specs.declared.net_slice.NetSlice.{NetSlice}
 use Rattle.ep_packet.specs.declared.sliced_packet.SlicedPacket.{SlicedPacket}
-use Rattle.ep_packet.specs.declared.sliced_packet_walk.LinkPart.{LinkPart}
-use Rattle.ep_packet.specs.Layers.{layers_of, net_layer_of}
-use Rattle.ep_packet.specs.Frame.{NetKind, IsFrame, IsInside, IsNetPart, most_link_exts, net_kind}
-use Rattle.ep_packet.specs.FrameRefusals.{RefusesFrame, RefusesInside, RefusesNetPart, net_header_len}
-use Rattle.ep_packet.specs.ShownBytes.{ShowsBytes, ShowsInside, ShowsNet, net_slice_bytes, net_slice_payload}
+use Rattle.ep_packet.specs.Layers.{net_layer_of}
+use Rattle.ep_packet.specs.Frame.{NetKind, IsInside, IsNetPart, most_link_exts, net_kind}
+use Rattle.ep_packet.specs.FrameRefusals.{RefusesInside, RefusesNetPart, net_header_len}
+use Rattle.ep_packet.specs.ShownBytes.{ShowsInside, ShowsNet, net_slice_bytes, net_slice_payload}
 
 -- the slices are the net layer of a kind that bytes are and the transport layer in it, and show these bytes
 pub record HoldsNet (kind : Option NetKind) (bytes : List ℕ) (net : Option NetSlice)
@@ -57,12 +55,3 @@ pub record HasExtensions (offset : ℕ) (type : Option EtherType) (bytes : List 
       → HoldsNet (net_kind_in rest_type) rest net transport → HoldsInside type bytes extensions net transport
   pub refused : (error : SliceError) → RefusesNetPart slices rest_offset (net_kind_in rest_type) rest error
       → RefusesInside slices most_link_exts offset type bytes error
-
--- The bytes begin with this link layer, as an entry says: the packet is the link layer and what its payload holds, and
--- its refusal is that of the payload.
-pub record BeginsPacket (entry : Entry) (bytes : List ℕ) (part : LinkPart) : Type 0 where
-  pub holds : (packet : SlicedPacket) → HoldsBehind part.link part.ether_type part.slice.now packet
-      → IsFrame entry bytes (layers_of packet) × ShowsBytes bytes packet
-  pub refused : (error : SliceError)
-      → RefusesInside slices most_link_exts part.offset part.ether_type part.slice.now error
-      → RefusesFrame entry bytes error

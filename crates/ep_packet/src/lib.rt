@@ -6,6 +6,7 @@ pub mod err;
 mod ip_headers;
 mod ip_headers_read;
 pub mod laws;
+mod link_part;
 mod net_headers;
 mod net_headers_fill;
 mod net_slice;
@@ -43,6 +44,7 @@ pub use ep_transport::{
     icmpv6,
 };
 pub use ip_headers::IpHeaders;
+pub use link_part::{LinkPart, of_linux_sll};
 pub use net_headers::{IpHeader, NetHeaders};
 pub use net_slice::{InternetSlice, NetSlice};
 pub use packet_headers::PacketHeaders;

@@ -8,8 +8,9 @@ ghost use Rattle.ep_packet.specs.Walk.{HoldsBehind};
 
 use crate::entry::Entry;
 use crate::err::SliceError;
+use crate::link_part::{LinkPart, of_linux_sll};
 use crate::net_slice::NetSlice;
-use crate::sliced_packet_walk::{LinkPart, fill_inside, fill_ip};
+use crate::sliced_packet_walk::{fill_inside, fill_ip};
 use arrayvec::ArrayVec;
 use ep_base::{EtherPayloadSlice, EtherType, IpPayloadSlice, LenSource, VlanId};
 use ep_link::{DoubleVlanSlice, LinkExtSlice, LinkSlice, VlanSlice};
@@ -71,7 +72,7 @@ impl<'a> SlicedPacket<'a> {
     {
         match LinkPart::ethernet(slice) {
             Ok(part) => slice_behind(part),
-            Err(error) => Err(error),
+            Err(error) => Err(SliceError::Len(error)),
         }
     }
 
@@ -86,7 +87,7 @@ impl<'a> SlicedPacket<'a> {
     {
         match LinkPart::linux_sll(slice) {
             Ok(part) => slice_behind(part),
-            Err(error) => Err(error),
+            Err(error) => Err(of_linux_sll(error)),
         }
     }
 
@@ -198,7 +199,7 @@ impl<'a> SlicedPacket<'a> {
     {
         match LinkPart::ethernet(slice) {
             Ok(part) => self.fill_behind(part),
-            Err(error) => Err(error),
+            Err(error) => Err(SliceError::Len(error)),
         }
     }
 
@@ -211,7 +212,7 @@ impl<'a> SlicedPacket<'a> {
     {
         match LinkPart::linux_sll(slice) {
             Ok(part) => self.fill_behind(part),
-            Err(error) => Err(error),
+            Err(error) => Err(of_linux_sll(error)),
         }
     }
 

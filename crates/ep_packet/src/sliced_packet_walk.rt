@@ -20,97 +20,12 @@ ghost use Rattle.ep_packet.specs.Walk.{HasExtensions, HasHeaders, HoldsInside, H
 use crate::err::SliceError;
 use crate::net_slice::NetSlice;
 use arrayvec::ArrayVec;
-use ep_base::err::{ip, ipv4, ipv6, linux_sll, macsec, tcp};
-use ep_base::{EtherPayloadSlice, EtherType, IpPayloadSlice, LenSource, ether_type};
+use ep_base::err::{ip, ipv4, ipv6, macsec, tcp};
+use ep_base::{EtherType, IpPayloadSlice, ether_type};
 use ep_ext::Ipv4ExtensionsSlice;
 use ep_ip::{IpSlice, Ipv4Slice, Ipv6Header, Ipv6Slice};
-use ep_link::{
-    ArpPacketSlice, Ethernet2Header, Ethernet2Slice, LinkExtSlice, LinkSlice, LinuxSllHeader,
-    LinuxSllSlice,
-};
+use ep_link::{ArpPacketSlice, LinkExtSlice};
 use ep_transport::TransportSlice;
-
-/// The link layer with which a packet begins, and the bytes in it.
-#[derive(Drop)]
-pub(crate) struct LinkPart<'a> {
-    /// The link layer.
-    pub(crate) link: LinkSlice<'a>,
-    /// How far behind the packet's start its payload lies.
-    pub(crate) offset: usize,
-    /// The payload's type, where it is known.
-    pub(crate) ether_type: Option<EtherType>,
-    /// The payload.
-    pub(crate) slice: &'a [u8],
-}
-
-impl<'a> LinkPart<'a> {
-    ghost use Rattle.ep_packet.specs.declared.entry.Entry.TheVariants.{Ethernet as ethernet, LinuxSll as linux_sll, EtherType as of_type};
-    ghost use Rattle.ep_packet.specs.FrameRefusals.{RefusesFrame};
-    ghost use Rattle.ep_packet.specs.Walk.{BeginsPacket};
-
-    /// The Ethernet II header with which a packet begins.
-    #[inline(always)]
-    pub(crate) fn ethernet(slice: &'a [u8]) -> Result<LinkPart<'a>, SliceError>
-        ensures ok { IfOk result (BeginsPacket ethernet slice.now) }
-        ensures place { IfOk result (λ part. part.offset + length part.slice.now < 2 ^ 64) }
-        ensures err { IfErr result (RefusesFrame ethernet slice.now) }
-    {
-        let frame = match Ethernet2Slice::from_slice_without_fcs(slice) {
-            Ok(frame) => frame,
-            Err(error) => return Err(SliceError::Len(error)),
-        };
-        let ether_type = frame.ether_type();
-        let payload = frame.payload_slice();
-        Ok(LinkPart {
-            link: LinkSlice::Ethernet2(frame),
-            offset: Ethernet2Header::LEN,
-            ether_type: Some(ether_type),
-            slice: payload,
-        })
-    }
-
-    /// The header of a Linux cooked capture with which a packet begins.
-    #[inline(always)]
-    pub(crate) fn linux_sll(slice: &'a [u8]) -> Result<LinkPart<'a>, SliceError>
-        ensures ok { IfOk result (BeginsPacket linux_sll slice.now) }
-        ensures place { IfOk result (λ part. part.offset + length part.slice.now < 2 ^ 64) }
-        ensures err { IfErr result (RefusesFrame linux_sll slice.now) }
-    {
-        let frame = match LinuxSllSlice::from_slice(slice) {
-            Ok(frame) => frame,
-            Err(linux_sll::HeaderSliceError::Len(error)) => return Err(SliceError::Len(error)),
-            Err(linux_sll::HeaderSliceError::Content(error)) => return Err(SliceError::LinuxSll(
-                error,
-            )),
-        };
-        let ether_type = frame.protocol_type().ether_type();
-        let payload = frame.payload_slice();
-        Ok(LinkPart {
-            link: LinkSlice::LinuxSll(frame),
-            offset: LinuxSllHeader::LEN,
-            ether_type,
-            slice: payload,
-        })
-    }
-
-    /// The payload of a link layer, of this type, of which the link layer is no part of the packet.
-    #[inline(always)]
-    pub(crate) fn ether_type(ether_type: EtherType, slice: &'a [u8]) -> LinkPart<'a>
-        ensures begins { BeginsPacket (of_type ether_type) slice.now result }
-        ensures place { result.offset + length result.slice.now < 2 ^ 64 }
-    {
-        LinkPart {
-            link: LinkSlice::EtherPayload(EtherPayloadSlice {
-                ether_type,
-                len_source: LenSource::Slice,
-                payload: slice,
-            }),
-            offset: 0,
-            ether_type: Some(ether_type),
-            slice,
-        }
-    }
-}
 
 /// The bytes behind link extensions.
 #[derive(Drop)]

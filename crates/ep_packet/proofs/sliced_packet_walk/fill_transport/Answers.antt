@@ -21,51 +21,49 @@ use Rattle.ep_packet.specs.Walk.{HasHeaders}
 use Rattle.ep_packet.proofs.NetWalkLemmas.{headers_len, ipv4_payload_refused}
 use Rattle.ep_packet.proofs.sliced_packet_walk.fill_transport.Goals as goal
 
--- the headers of a packet have this length, and end within it
-record HeadersEnd (offset : ℕ) (net : NetSlice) (header extensions : List ℕ) : Type 0 where
-  len : length header + length extensions ≡ net_header_len (net_layer_of net)
-  within : offset + net_header_len (net_layer_of net) < 2 ^ 64
+-- headers of this many bytes are those of a packet, and end within it
+record HeadersEnd (offset : ℕ) (net : NetSlice) (len : ℕ) : Type 0 where
+  same : len ≡ net_header_len (net_layer_of net)
+  within : offset + len < 2 ^ 64
 
-ipv4_end : (offset : ℕ) (net : NetSlice) (packet : Ipv4Slice) (header extensions : List ℕ)
+ipv4_end : (offset header_len extensions_len : ℕ) (net : NetSlice) (packet : Ipv4Slice) (header extensions : List ℕ)
     → net ≡ slice.Ipv4 packet → offset + length (net_slice_bytes net) < 2 ^ 64 → HasHeaders net
     → header ++ ipv4_slice_content packet ≡ ipv4_slice_bytes packet
     → extensions ++ (ipv4_slice_payload packet).bytes ≡ ipv4_slice_content packet
-    → HeadersEnd offset (slice.Ipv4 packet) header extensions
-ipv4_end offset net packet header extensions is place has front behind =
+    → header_len ≡ length header → extensions_len ≡ length extensions
+    → HeadersEnd offset (slice.Ipv4 packet) (header_len + extensions_len)
+ipv4_end offset header_len extensions_len net packet header extensions is place has front behind header_is
+    extensions_are =
     let here : HasHeaders (slice.Ipv4 packet) = subst HasHeaders is has in
     let there : offset + length (ipv4_slice_bytes packet) < 2 ^ 64 =
     subst (λ (n : NetSlice). offset + length (net_slice_bytes n) < 2 ^ 64) is place in
+    let len = headers_len (ipv4_slice_bytes packet) header (ipv4_slice_content packet) extensions
+    (ipv4_slice_payload packet).bytes (net_header_len (net_layer_of (slice.Ipv4 packet))) front behind here in
     record {
-      len = headers_len (ipv4_slice_bytes packet) header (ipv4_slice_content packet) extensions
-          (ipv4_slice_payload packet).bytes (net_header_len (net_layer_of (slice.Ipv4 packet))) front behind here;
-      within = omega (arith, here, there);
+      same = omega (arith, len, header_is, extensions_are);
+      within = omega (arith, len, header_is, extensions_are, here, there);
     }
 
-ipv6_end : (offset : ℕ) (net : NetSlice) (packet : Ipv6Slice) (extensions : List ℕ) → net ≡ slice.Ipv6 packet
+ipv6_end : (offset : ℕ) (net : NetSlice) (packet : Ipv6Slice) (extensions shown : List ℕ) → net ≡ slice.Ipv6 packet
     → offset + length (net_slice_bytes net) < 2 ^ 64 → HasHeaders net
-    → extensions ++ (ipv6_slice_payload packet).bytes ≡ ipv6_slice_content packet
-    → HeadersEnd offset (slice.Ipv6 packet) (ipv6_header_slice_bytes packet.header) extensions
-ipv6_end offset net packet extensions is place has behind =
+    → extensions ++ (ipv6_slice_payload packet).bytes ≡ ipv6_slice_content packet → shown ≡ extensions
+    → HeadersEnd offset (slice.Ipv6 packet) (40 + length shown)
+ipv6_end offset net packet extensions shown is place has behind same =
     let here : HasHeaders (slice.Ipv6 packet) = subst HasHeaders is has in
     let there : offset + length (ipv6_slice_bytes packet) < 2 ^ 64 =
     subst (λ (n : NetSlice). offset + length (net_slice_bytes n) < 2 ^ 64) is place in
+    let len = headers_len (ipv6_slice_bytes packet) (ipv6_header_slice_bytes packet.header) (ipv6_slice_content packet)
+    extensions (ipv6_slice_payload packet).bytes (net_header_len (net_layer_of (slice.Ipv6 packet))) refl behind here in
     record {
-      len = headers_len (ipv6_slice_bytes packet) (ipv6_header_slice_bytes packet.header) (ipv6_slice_content packet)
-          extensions (ipv6_slice_payload packet).bytes (net_header_len (net_layer_of (slice.Ipv6 packet))) refl behind
-          here;
-      within = omega (arith, here, there);
+      same = omega (arith, len, packet.header.bytes.whole, ap length same);
+      within = omega (arith, len, packet.header.bytes.whole, ap length same, here, there);
     }
 
 -- the payload of a packet, as its net layer has it
-payload_4 : (net : NetSlice) (packet : Ipv4Slice) (payload : IpPayload) → net ≡ slice.Ipv4 packet
-    → payload ≡ ipv4_slice_payload packet → Some payload ≡ net_payload (net_layer_of net)
-payload_4 net packet payload is same =
-    ap Some same ∙ sym (ap (λ (n : NetSlice). net_payload (net_layer_of n)) is)
-
-payload_6 : (net : NetSlice) (packet : Ipv6Slice) (payload : IpPayload) → net ≡ slice.Ipv6 packet
-    → payload ≡ ipv6_slice_payload packet → Some payload ≡ net_payload (net_layer_of net)
-payload_6 net packet payload is same =
-    ap Some same ∙ sym (ap (λ (n : NetSlice). net_payload (net_layer_of n)) is)
+payload_in : (net packet : NetSlice) (payload known : IpPayload) → net ≡ packet → payload ≡ known
+    → Some known ≡ net_payload (net_layer_of packet) → Some payload ≡ net_payload (net_layer_of net)
+payload_in net packet payload known is same there =
+    ap Some same ∙ there ∙ sym (ap (λ (n : NetSlice). net_payload (net_layer_of n)) is)
 
 -- what lies in the payload lies behind the net layer
 lies_behind : (net : NetSlice) (payload : IpPayload) (transport : Option TransportLayer)
@@ -76,65 +74,54 @@ lies_behind net payload transport same inside =
 
 pub overflow_add-headers_len : goal.overflow_add-headers_len
 overflow_add-headers_len c =
-    let ends = ipv4_end c.args.offset c.args.net.now c.in-Ipv4.packet (ipv4_header_slice_bytes c.header.result)
-    (extension_bytes c.extensions.result) c.in-Ipv4.is c.requires.place c.requires.headers c.header.ensures.bytes
-    c.extensions.ensures.bytes in
-    omega (
-      arith,
-      ends.len,
-      ends.within,
-      c.header_len.ensures.bytes,
-      c.ipv4_extensions_len-extensions_len.ensures,
-    )
+    let ends = ipv4_end c.args.offset c.header_len.result c.ipv4_extensions_len-extensions_len.result c.args.net.now
+    c.in-Ipv4.packet (ipv4_header_slice_bytes c.header.result) (extension_bytes c.extensions.result) c.in-Ipv4.is
+    c.requires.place c.requires.headers c.header.ensures.bytes c.extensions.ensures.bytes c.header_len.ensures.bytes
+    c.ipv4_extensions_len-extensions_len.ensures in
+    omega (arith, ends.within)
 
 pub overflow_add-offset : goal.overflow_add-offset
 overflow_add-offset c =
-    let ends = ipv4_end c.args.offset c.args.net.now c.in-Ipv4.packet (ipv4_header_slice_bytes c.header.result)
-    (extension_bytes c.extensions.result) c.in-Ipv4.is c.requires.place c.requires.headers c.header.ensures.bytes
-    c.extensions.ensures.bytes in
-    omega (
-      arith,
-      ends.len,
-      ends.within,
-      c.header_len.ensures.bytes,
-      c.ipv4_extensions_len-extensions_len.ensures,
-    )
+    let ends = ipv4_end c.args.offset c.header_len.result c.ipv4_extensions_len-extensions_len.result c.args.net.now
+    c.in-Ipv4.packet (ipv4_header_slice_bytes c.header.result) (extension_bytes c.extensions.result) c.in-Ipv4.is
+    c.requires.place c.requires.headers c.header.ensures.bytes c.extensions.ensures.bytes c.header_len.ensures.bytes
+    c.ipv4_extensions_len-extensions_len.ensures in
+    omega (arith, ends.within)
 
 pub fill_transport_in-requires : goal.fill_transport_in-requires
 fill_transport_in-requires c =
-    let ends = ipv4_end c.args.offset c.args.net.now c.in-Ipv4.packet (ipv4_header_slice_bytes c.header.result)
-    (extension_bytes c.extensions.result) c.in-Ipv4.is c.requires.place c.requires.headers c.header.ensures.bytes
-    c.extensions.ensures.bytes in
-    omega (
-      arith,
-      ends.len,
-      ends.within,
-      c.header_len.ensures.bytes,
-      c.ipv4_extensions_len-extensions_len.ensures,
-    )
+    let ends = ipv4_end c.args.offset c.header_len.result c.ipv4_extensions_len-extensions_len.result c.args.net.now
+    c.in-Ipv4.packet (ipv4_header_slice_bytes c.header.result) (extension_bytes c.extensions.result) c.in-Ipv4.is
+    c.requires.place c.requires.headers c.header.ensures.bytes c.extensions.ensures.bytes c.header_len.ensures.bytes
+    c.ipv4_extensions_len-extensions_len.ensures in
+    omega (arith, ends.within)
 
 pub overflow_add-headers_len-in-Ipv6 : goal.overflow_add-headers_len-in-Ipv6
 overflow_add-headers_len-in-Ipv6 c =
     let ends = ipv6_end c.args.offset c.args.net.now c.in-Ipv6.packet (extensions_bytes c.extensions-in-Ipv6.result)
-    c.in-Ipv6.is c.requires.place c.requires.headers c.extensions-in-Ipv6.ensures.bytes in
-    omega (arith, ends.len, ends.within, c.in-Ipv6.packet.header.bytes.whole, ap length c.slice.ensures)
+    c.slice.result.now c.in-Ipv6.is c.requires.place c.requires.headers c.extensions-in-Ipv6.ensures.bytes
+    c.slice.ensures in
+    omega (arith, ends.within)
 
 pub overflow_add-offset-in-Ipv6 : goal.overflow_add-offset-in-Ipv6
 overflow_add-offset-in-Ipv6 c =
     let ends = ipv6_end c.args.offset c.args.net.now c.in-Ipv6.packet (extensions_bytes c.extensions-in-Ipv6.result)
-    c.in-Ipv6.is c.requires.place c.requires.headers c.extensions-in-Ipv6.ensures.bytes in
-    omega (arith, ends.len, ends.within, c.in-Ipv6.packet.header.bytes.whole, ap length c.slice.ensures)
+    c.slice.result.now c.in-Ipv6.is c.requires.place c.requires.headers c.extensions-in-Ipv6.ensures.bytes
+    c.slice.ensures in
+    omega (arith, ends.within)
 
 pub fill_transport_in-requires-in-Ipv6 : goal.fill_transport_in-requires-in-Ipv6
 fill_transport_in-requires-in-Ipv6 c =
     let ends = ipv6_end c.args.offset c.args.net.now c.in-Ipv6.packet (extensions_bytes c.extensions-in-Ipv6.result)
-    c.in-Ipv6.is c.requires.place c.requires.headers c.extensions-in-Ipv6.ensures.bytes in
-    omega (arith, ends.len, ends.within, c.in-Ipv6.packet.header.bytes.whole, ap length c.slice.ensures)
+    c.slice.result.now c.in-Ipv6.is c.requires.place c.requires.headers c.extensions-in-Ipv6.ensures.bytes
+    c.slice.ensures in
+    omega (arith, ends.within)
 
 pub returns-in-Ipv4-clause-ok : goal.returns-in-Ipv4-clause-ok
 returns-in-Ipv4-clause-ok c =
     let payload = ip_payload_of c.payload.result.now in
-    let same = payload_4 c.args.net.now c.in-Ipv4.packet payload c.in-Ipv4.is c.payload.ensures in
+    let same = payload_in c.args.net.now (slice.Ipv4 c.in-Ipv4.packet) payload (ipv4_slice_payload c.in-Ipv4.packet)
+    c.in-Ipv4.is c.payload.ensures refl in
     IfOk-weaker c.fill_transport_in.result _ _
     (λ done inside. lies_behind c.args.net.now payload
     (option_map transport_layer_of c.fill_transport_in.new.transport) same inside)
@@ -149,24 +136,21 @@ returns-in-Ipv4-clause-bytes c =
 
 pub returns-in-Ipv4-clause-err : goal.returns-in-Ipv4-clause-err
 returns-in-Ipv4-clause-err c =
-    let packet = c.in-Ipv4.packet in
-    let len = net_header_len (net_layer_of (slice.Ipv4 packet)) in
-    let lens = headers_len (ipv4_slice_bytes packet) (ipv4_header_slice_bytes c.header.result)
-    (ipv4_slice_content packet)
-    (extension_bytes c.extensions.result) (ipv4_slice_payload packet).bytes len c.header.ensures.bytes
-    c.extensions.ensures.bytes (subst HasHeaders c.in-Ipv4.is c.requires.headers) in
-    let same : c.header_len.result + c.ipv4_extensions_len-extensions_len.result ≡ len =
-    omega (arith, c.header_len.ensures.bytes, c.ipv4_extensions_len-extensions_len.ensures, lens) in
+    let ends = ipv4_end c.args.offset c.header_len.result c.ipv4_extensions_len-extensions_len.result c.args.net.now
+    c.in-Ipv4.packet (ipv4_header_slice_bytes c.header.result) (extension_bytes c.extensions.result) c.in-Ipv4.is
+    c.requires.place c.requires.headers c.header.ensures.bytes c.extensions.ensures.bytes c.header_len.ensures.bytes
+    c.ipv4_extensions_len-extensions_len.ensures in
     IfErr-weaker c.fill_transport_in.result _ _
     (λ error refused. ipv4_payload_refused c.args.offset
-    (c.header_len.result + c.ipv4_extensions_len-extensions_len.result) c.args.net.now packet
-    (ip_payload_of c.payload.result.now) error c.in-Ipv4.is c.payload.ensures same refused)
+    (c.header_len.result + c.ipv4_extensions_len-extensions_len.result) c.args.net.now c.in-Ipv4.packet
+    (ip_payload_of c.payload.result.now) error c.in-Ipv4.is c.payload.ensures ends.same refused)
     c.fill_transport_in.ensures.err
 
 pub returns-in-Ipv6-clause-ok : goal.returns-in-Ipv6-clause-ok
 returns-in-Ipv6-clause-ok c =
     let payload = ip_payload_of c.payload-in-Ipv6.result.now in
-    let same = payload_6 c.args.net.now c.in-Ipv6.packet payload c.in-Ipv6.is c.payload-in-Ipv6.ensures in
+    let same = payload_in c.args.net.now (slice.Ipv6 c.in-Ipv6.packet) payload (ipv6_slice_payload c.in-Ipv6.packet)
+    c.in-Ipv6.is c.payload-in-Ipv6.ensures refl in
     IfOk-weaker c.fill_transport_in-in-Ipv6.result _ _
     (λ done inside. lies_behind c.args.net.now payload
     (option_map transport_layer_of c.fill_transport_in-in-Ipv6.new.transport) same inside)
@@ -183,12 +167,12 @@ pub returns-in-Ipv6-clause-err : goal.returns-in-Ipv6-clause-err
 returns-in-Ipv6-clause-err c =
     let net = c.args.net.now in
     let payload = ip_payload_of c.payload-in-Ipv6.result.now in
-    let same = payload_6 net c.in-Ipv6.packet payload c.in-Ipv6.is c.payload-in-Ipv6.ensures in
-    let ends = ipv6_end c.args.offset net c.in-Ipv6.packet (extensions_bytes c.extensions-in-Ipv6.result)
-    c.in-Ipv6.is c.requires.place c.requires.headers c.extensions-in-Ipv6.ensures.bytes in
-    let len : 40 + length c.slice.result.now ≡ net_header_len (net_layer_of (slice.Ipv6 c.in-Ipv6.packet)) =
-    omega (arith, ends.len, c.in-Ipv6.packet.header.bytes.whole, ap length c.slice.ensures) in
-    let behind = len ∙ sym (ap (λ (n : NetSlice). net_header_len (net_layer_of n)) c.in-Ipv6.is) in
+    let same = payload_in net (slice.Ipv6 c.in-Ipv6.packet) payload (ipv6_slice_payload c.in-Ipv6.packet) c.in-Ipv6.is
+    c.payload-in-Ipv6.ensures refl in
+    let ends = ipv6_end c.args.offset c.args.net.now c.in-Ipv6.packet (extensions_bytes c.extensions-in-Ipv6.result)
+    c.slice.result.now c.in-Ipv6.is c.requires.place c.requires.headers c.extensions-in-Ipv6.ensures.bytes
+    c.slice.ensures in
+    let behind = ends.same ∙ sym (ap (λ (n : NetSlice). net_header_len (net_layer_of n)) c.in-Ipv6.is) in
     IfErr-weaker c.fill_transport_in-in-Ipv6.result _ _
     (λ error refused. subst (λ (p : Option IpPayload).
     RefusesTransportBehind slices (c.args.offset + net_header_len (net_layer_of net)) p error)

@@ -1,14 +1,13 @@
-use Rattle.std.proofs.lemmas.Result.{IfOk-weaker, IfErr-weaker}
+use Rattle.std.proofs.Common.{arith}
+use Rattle.ep_packet.specs.declared.entry.Entry.TheVariants.{EtherType as ether_type}
+use Rattle.ep_packet.proofs.EntryLemmas.{enters_frame}
 use Rattle.ep_packet.proofs.sliced_packet.SlicedPacket.fill_ether_type.Goals as goal
 
 pub returns : goal.returns
 returns c =
-    let begins = c.ether_type.ensures.begins in
     let packet = c.fill_behind.new.self in
-    record {
-      ok = IfOk-weaker c.fill_behind.result _ _
-          (λ _ behind. (begins.holds packet behind).0) c.fill_behind.ensures.ok;
-      bytes = IfOk-weaker c.fill_behind.result _ _
-          (λ _ behind. (begins.holds packet behind).1) c.fill_behind.ensures.ok;
-      err = IfErr-weaker c.fill_behind.result _ _ begins.refused c.fill_behind.ensures.err;
-    }
+    let enters = enters_frame (ether_type c.args.ether_type) c.args.slice.now c.ether_type.result c.fill_behind.result
+    (λ _. packet)
+    (λ i. omega (arith, c.type_inv.slice i)) c.ether_type.ensures.begins c.fill_behind.ensures.ok
+    c.fill_behind.ensures.err in
+    record { ok = enters.ok; bytes = enters.shows; err = enters.err }

@@ -1,14 +1,11 @@
-use Rattle.std.proofs.lemmas.Result.{IfOk-weaker, IfErr-weaker}
+use Rattle.std.proofs.Common.{arith}
+use Rattle.ep_packet.specs.declared.entry.Entry.TheVariants.{LinuxSll as linux_sll}
+use Rattle.ep_packet.proofs.EntryLemmas.{enters_frame}
 use Rattle.ep_packet.proofs.sliced_packet.SlicedPacket.fill_linux_sll.Goals as goal
 
 pub returns-in-Ok : goal.returns-in-Ok
 returns-in-Ok c =
-    let begins = c.in-Ok.ensures.ok in
     let packet = c.fill_behind.new.self in
-    record {
-      ok = IfOk-weaker c.fill_behind.result _ _
-          (λ _ behind. (begins.holds packet behind).0) c.fill_behind.ensures.ok;
-      bytes = IfOk-weaker c.fill_behind.result _ _
-          (λ _ behind. (begins.holds packet behind).1) c.fill_behind.ensures.ok;
-      err = IfErr-weaker c.fill_behind.result _ _ begins.refused c.fill_behind.ensures.err;
-    }
+    let enters = enters_frame linux_sll c.args.slice.now c.in-Ok.part c.fill_behind.result (λ _. packet)
+    (λ i. omega (arith, c.type_inv.slice i)) c.in-Ok.ensures.ok c.fill_behind.ensures.ok c.fill_behind.ensures.err in
+    record { ok = enters.ok; bytes = enters.shows; err = enters.err }
