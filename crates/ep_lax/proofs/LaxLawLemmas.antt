@@ -55,7 +55,7 @@ one_same value = record { value = value; is = refl; only = λ other same. same }
 
 -- ---- the transport layer
 
-header_cut_is_one : (outer : Bool) (header : TransportHeader) (payload : List ℕ)
+pub header_cut_is_one : (outer : Bool) (header : TransportHeader) (payload : List ℕ)
     → IsOne (IsHeaderCutLaxly outer header payload)
 header_cut_is_one outer (header.Udp udp) payload =
     one_as (λ (cut : LaxCut). layer_cut (header.Udp udp) cut.payload cut.incomplete)
@@ -113,7 +113,7 @@ front_rest_fits number bytes [] last rest fits is = subst AreBytes (sym is.1) fi
 front_rest_fits number bytes (part ∷ parts) last rest fits is =
     front_rest_fits (part_next part) is.0 parts last rest (part_behind_fits number bytes part is.0 is.1 fits) is.2
 
-rest_fits : (version : IpVersion) (number : ℕ) (bytes : List ℕ) (chain : ExtensionChain)
+pub rest_fits : (version : IpVersion) (number : ℕ) (bytes : List ℕ) (chain : ExtensionChain)
     (stop : Option HeaderSliceError) → AreBytes bytes → IsFrontChain version number bytes chain stop
     → AreBytes chain.rest
 rest_fits version number bytes chain None fits is =

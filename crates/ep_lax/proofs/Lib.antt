@@ -9,3 +9,7 @@ pub mod LaxWalkLemmas
 pub mod LaxNetLemmas
 pub mod LaxLinkLemmas
 pub mod LaxPayloadLemmas
+pub mod MoreTransportLemmas
+pub mod MoreIpLemmas
+pub mod MoreBytesLemmas
+pub mod HeaderBytesLemmas

@@ -9,3 +9,4 @@ pub mod LaxPackets
 pub mod LaxPayloads
 pub mod LaxWalk
 pub mod StrictFrames
+pub mod LaxHeaders

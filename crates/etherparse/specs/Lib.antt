@@ -102,6 +102,7 @@ pub use Rattle.ep_lax.specs.LaxViews
 pub use Rattle.ep_lax.specs.LaxPackets
 pub use Rattle.ep_lax.specs.LaxPayloads
 pub use Rattle.ep_lax.specs.StrictFrames
+pub use Rattle.ep_lax.specs.LaxHeaders
 -- building
 pub use Rattle.ep_build.specs.AppendedFrames
 pub use Rattle.ep_build.specs.BuildErrors

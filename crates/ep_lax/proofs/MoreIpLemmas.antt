@@ -1,0 +1,405 @@
+-- That a packet of IP with more bytes behind it shows the headers that it shows without them, and those behind them.
+use Rattle.std.proofs.Common.{◌≡◌, if◌then◌else◌, ℕ, ◌+◌, ◌≤◌, Bool, true, false, List, [], ◌∷◌, ◌++◌, map, length, take, drop, Option, Some, None, refl, sym, ap, subst, ◌∙◌, inl, inr, append_assoc, length-append, arith}
+use Rattle.std.proofs.Math.Seq.{take-append_seam}
+use Rattle.std.proofs.lemmas.Bool.{cases_lt}
+use Rattle.std.proofs.lemmas.List.{append-nil, map-append, take-append-drop, take-append-le}
+use Rattle.ep_base.specs.Bytes.{AreBytes}
+use Rattle.ep_base.specs.LaxCut.{LaxCut, IsLaxCut, cuts}
+use Rattle.ep_base.specs.Readings.{slices}
+use Rattle.ep_base.specs.declared.err.layer.Layer.{Layer}
+use Rattle.ep_base.specs.declared.err.ipv6_exts.HeaderSliceError.{HeaderSliceError}
+use Rattle.ep_base.specs.declared.len_source.LenSource.{LenSource}
+use Rattle.ep_base.specs.declared.len_source.LenSource.TheVariants as source
+use Rattle.ep_base.proofs.LaxCutLemmas.{cuts_not, cuts_there, lax_cut_is_one}
+use Rattle.ep_ext.specs.Chains.{IpVersion, ipv4, ipv6, ExtensionChain, chain_of, chain_fragments, demand_of, takes, IsChainBehind, RefusesChainBehind}
+use Rattle.ep_ext.specs.ExtensionParts.{ExtensionPart, hop_by_hop, destination_options, routing, fragment, authentication, part_len, part_next, IsExtensionPart}
+use Rattle.ep_ext.specs.FrontChains.{AreInFront, IsFrontChain}
+use Rattle.ep_ext.specs.RawExtension.{raw_extension_bytes}
+use Rattle.ep_ext.proofs.ChainLemmas.{behind_decided}
+use Rattle.ep_ext.proofs.HeaderLawLemmas.{header_laws}
+use Rattle.ep_ext.proofs.PartLemmas.{part_behind_fits}
+use Rattle.ep_ip.specs.declared.ipv4_header.Ipv4Header.{Ipv4Header}
+use Rattle.ep_ip.specs.declared.ipv6_header.Ipv6Header.{Ipv6Header}
+use Rattle.ep_ip.specs.IpPackets.{IpPacket}
+use Rattle.ep_ip.specs.Ipv4.{IsIpv4Header, ipv4_header_len, is_ipv4_fragment}
+use Rattle.ep_ip.specs.Ipv6.{IsIpv6Header, ipv6_bytes}
+use Rattle.ep_packet.specs.declared.err.slice_error.SliceError.{SliceError}
+use Rattle.ep_packet.specs.FrameRefusals.{net_header_len}
+use Rattle.ep_packet.specs.Layers.{NetLayer, ipv4_layer, ipv6_layer}
+use Rattle.ep_lax.specs.Lax.{IsIpLayer, IsIpv4Net, IsIpv6Net, chain_refusal}
+use Rattle.ep_lax.specs.LaxHeaders.{LayerHeader, of_ipv4, of_ipv6, of_extension, net_headers, transport_headers, ShowsFront}
+use Rattle.ep_lax.specs.LaxIp.{LaxIp, lax_ip_of, lax_ipv6_source, stop_behind}
+use Rattle.ep_lax.specs.LaxLayers.{LaxNet, net_with, no_transport, told}
+use Rattle.ep_lax.proofs.LaxIpLemmas.{behind_ipv4_fits, behind_ipv6_fits, cut_fits}
+use Rattle.ep_lax.proofs.LaxLawLemmas.{ip_layer_is_one, rest_fits}
+use Rattle.ep_lax.proofs.MoreTransportLemmas.{parts_more, shows_behind, shows_before, transport_more}
+
+-- ---- what a length field cuts
+
+-- bytes that begin with a list and with a longer one: the longer one begins with the list
+front_of_longer : (a x b y : List ℕ) → a ++ x ≡ b ++ y → length a ≤ length b → (rest : List ℕ) × (b ≡ a ++ rest)
+front_of_longer a x b y same within =
+    let n = length a in
+    let front : take n b ≡ a = sym (take-append-le n b y within) ∙ ap (take n) (sym same) ∙ take-append_seam a x in
+    (drop n b, sym (take-append-drop n b) ∙ ap (λ (l : List ℕ). l ++ drop n b) front)
+
+-- what a field leaves to the payload does not become less
+cut_grows : (least says there more : ℕ) → (if cuts least says there then says else there)
+    ≤ (if cuts least says (there + more) then says else there + more)
+cut_grows least says there more =
+    elim (cases_lt says least) [
+      | inl short ↦ by_cuts false false (cuts_not least says there (inl short))
+          (cuts_not least says (there + more) (inl short)) (omega arith)
+      | inr enough ↦ elim (cases_lt there says) [
+        | inl long ↦ elim (cases_lt (there + more) says) [
+          | inl longer ↦ by_cuts false false (cuts_not least says there (inr long))
+              (cuts_not least says (there + more) (inr longer)) (omega arith)
+          | inr within ↦ by_cuts false true (cuts_not least says there (inr long))
+              (cuts_there least says (there + more) enough within) (omega arith)
+        ]
+        | inr within ↦ by_cuts true true (cuts_there least says there enough within)
+            (cuts_there least says (there + more) enough (omega arith)) (omega arith)
+      ]
+    ]
+  where
+    by_cuts : (here further : Bool) → cuts least says there ≡ here → cuts least says (there + more) ≡ further
+        → (if here then says else there) ≤ (if further then says else there + more)
+        → (if cuts least says there then says else there)
+        ≤ (if cuts least says (there + more) then says else there + more)
+    by_cuts here further is goes_on less =
+        subst (λ (h : Bool). (if h then says else there) ≤ (if cuts least says (there + more) then says else there + more))
+        (sym is)
+        (subst (λ (f : Bool). (if here then says else there) ≤ (if f then says else there + more)) (sym goes_on) less)
+
+pub cut_more : (least says : ℕ) (named : LenSource) (outer inner : Bool) (len : ℕ) (behind more : List ℕ)
+    (cut longer : LaxCut) → IsLaxCut least says named outer len behind cut
+    → IsLaxCut least says named inner len (behind ++ more) longer
+    → (rest : List ℕ) × (longer.payload ≡ cut.payload ++ rest)
+cut_more least says named outer inner len behind more cut longer is there =
+    let all : len + length (behind ++ more) ≡ len + length behind + length more =
+    omega (arith, length-append behind more) in
+    let end : len + length longer.payload ≡ (if cuts least says (len + length behind + length more) then says
+    else len + length behind + length more) =
+    there.ends ∙ ap (λ (n : ℕ). if cuts least says n then says else n) all in
+    let grows = cut_grows least says (len + length behind) (length more) in
+    let within : length cut.payload ≤ length longer.payload = omega (arith, is.ends, end, grows) in
+    front_of_longer cut.payload (cut.left ++ more) longer.payload longer.left
+    (sym (parts_more behind cut.payload cut.left more is.parts) ∙ there.parts) within
+
+-- ---- chains of extension headers
+
+part_more : (number : ℕ) (bytes more : List ℕ) (part : ExtensionPart) (behind : List ℕ)
+    → IsExtensionPart number bytes part behind → IsExtensionPart number (bytes ++ more) part (behind ++ more)
+part_more number bytes more (hop_by_hop header) behind is =
+    (is.0, record { fits = is.1.fits; parts = parts_more bytes (raw_extension_bytes header) behind more is.1.parts })
+part_more number bytes more (destination_options header) behind is =
+    (is.0, record { fits = is.1.fits; parts = parts_more bytes (raw_extension_bytes header) behind more is.1.parts })
+part_more number bytes more (routing header) behind is =
+    (is.0, record { fits = is.1.fits; parts = parts_more bytes (raw_extension_bytes header) behind more is.1.parts })
+part_more number bytes more (fragment header) behind is = (
+  is.0,
+  record {
+    encoded = is.1.encoded;
+    encodes = is.1.encodes;
+    parts = parts_more bytes is.1.encoded behind more is.1.parts;
+  },
+)
+part_more number bytes more (authentication header) behind is = (
+  is.0,
+  record {
+    encoded = is.1.encoded;
+    encodes = is.1.encodes;
+    parts = parts_more bytes is.1.encoded behind more is.1.parts;
+  },
+)
+
+-- a chain that ends is the same with more bytes behind it
+chain_more : (version : IpVersion) (taken : List ℕ) (number : ℕ) (bytes more : List ℕ) (parts : List ExtensionPart)
+    (last : ℕ) (rest : List ℕ) → IsChainBehind version slices taken number bytes parts last rest
+    → IsChainBehind version slices taken number (bytes ++ more) parts last (rest ++ more)
+chain_more version taken number bytes more [] last rest is = (is.0, is.1, ap (λ (l : List ℕ). l ++ more) is.2)
+chain_more version taken number bytes more (part ∷ parts) last rest is = (
+  is.0,
+  (
+    is.1.0 ++ more,
+    part_more number bytes more part is.1.0 is.1.1,
+    chain_more version (number ∷ taken) (part_next part) is.1.0 more parts last rest is.1.2,
+  ),
+)
+
+-- what bytes of a number are behind the headers that were taken, up to the first header that is refused
+abbrev IsFrontBehind : IpVersion → List ℕ → ℕ → ℕ → List ℕ → ExtensionChain → Option HeaderSliceError → Type 0
+IsFrontBehind version taken offset number bytes chain None =
+    IsChainBehind version slices taken number bytes chain.parts chain.last chain.rest
+IsFrontBehind version taken offset number bytes chain (Some error) =
+    RefusesChainBehind version slices taken offset number bytes chain.parts error
+    × AreInFront number bytes chain.parts chain.last chain.rest
+
+record MoreFront (version : IpVersion) (taken : List ℕ) (offset number : ℕ) (bytes : List ℕ)
+    (parts : List ExtensionPart) : Type 0 where
+  others : List ExtensionPart
+  last : ℕ
+  rest : List ℕ
+  stop : Option HeaderSliceError
+  is : IsFrontBehind version taken offset number bytes (chain_of (parts ++ others) last rest) stop
+
+-- there is something
+front_there : (version : IpVersion) (taken : List ℕ) (offset number : ℕ) (bytes : List ℕ) → AreBytes bytes
+    → MoreFront version taken offset number bytes []
+front_there version taken offset number bytes fits =
+    elim (behind_decided header_laws (length bytes + 1) version slices taken offset number bytes (omega arith) fits).some [
+      | inl found ↦
+          record { others = found.0.parts; last = found.0.last; rest = found.0.rest; stop = None; is = found.1 }
+      | inr refused ↦
+          let behind = stand taken offset number bytes refused.1.0 refused.0 refused.1.1 in
+          record {
+            others = refused.1.0;
+            last = behind.0;
+            rest = behind.1;
+            stop = Some refused.0;
+            is = (refused.1.1, behind.2);
+          }
+    ]
+  where
+    stand : (taken : List ℕ) (offset number : ℕ) (bytes : List ℕ) (parts : List ExtensionPart)
+        (error : HeaderSliceError) → RefusesChainBehind version slices taken offset number bytes parts error
+        → (last : ℕ) × (rest : List ℕ) × AreInFront number bytes parts last rest
+    stand taken offset number bytes [] error refused = (number, bytes, (refl, refl))
+    stand taken offset number bytes (part ∷ parts) error refused =
+        let more = stand (number ∷ taken) (offset + part_len part) (part_next part) refused.1.0 parts error
+        refused.1.2 in
+        (more.0, more.1, (refused.1.0, refused.1.1, more.2))
+
+-- a header before them
+front_with : (version : IpVersion) (taken : List ℕ) (offset number : ℕ) (bytes : List ℕ) (part : ExtensionPart)
+    (behind : List ℕ) (chain : ExtensionChain) (stop : Option HeaderSliceError)
+    → demand_of version slices taken number ≡ takes → IsExtensionPart number bytes part behind
+    → IsFrontBehind version (number ∷ taken) (offset + part_len part) (part_next part) behind chain stop
+    → IsFrontBehind version taken offset number bytes (chain_of (part ∷ chain.parts) chain.last chain.rest) stop
+front_with version taken offset number bytes part behind chain None demand is front = (demand, (behind, is, front))
+front_with version taken offset number bytes part behind chain (Some error) demand is front =
+    ((demand, (behind, is, front.0)), (behind, is, front.1))
+
+-- where a header is refused, those before it stand also with more bytes behind it
+refused_more : (version : IpVersion) (taken : List ℕ) (offset number : ℕ) (bytes more : List ℕ)
+    (parts : List ExtensionPart) (error : HeaderSliceError) → AreBytes (bytes ++ more)
+    → RefusesChainBehind version slices taken offset number bytes parts error
+    → MoreFront version taken offset number (bytes ++ more) parts
+refused_more version taken offset number bytes more [] error fits refused =
+    front_there version taken offset number (bytes ++ more) fits
+refused_more version taken offset number bytes more (part ∷ parts) error fits refused =
+    let behind = refused.1.0 ++ more in
+    let here = part_more number bytes more part refused.1.0 refused.1.1 in
+    let next = refused_more version (number ∷ taken) (offset + part_len part) (part_next part) refused.1.0 more parts
+    error (part_behind_fits number (bytes ++ more) part behind here fits) refused.1.2 in
+    record {
+      others = next.others;
+      last = next.last;
+      rest = next.rest;
+      stop = next.stop;
+      is = front_with version taken offset number (bytes ++ more) part behind
+          (chain_of (parts ++ next.others) next.last next.rest) next.stop refused.0 here next.is;
+    }
+
+front_chain : (version : IpVersion) (number : ℕ) (bytes : List ℕ) (chain : ExtensionChain)
+    (stop : Option HeaderSliceError) → IsFrontBehind version [] 0 number bytes chain stop
+    → IsFrontChain version number bytes chain stop
+front_chain version number bytes chain None is = is
+front_chain version number bytes chain (Some error) is = is
+
+-- ---- a packet
+
+-- the headers of a packet are its own and its extension headers
+pub record IpHeaders {Header : Type 0} (layer_of : IpPacket Header → NetLayer) : Type 0 where
+  pub head : Header → LayerHeader
+  pub are : (packet : IpPacket Header)
+      → net_headers (Some (layer_of packet)) ≡ head packet.header ∷ map of_extension packet.extensions
+
+-- the headers of a net layer and of what is inside it
+abbrev pub inner_headers : LaxNet → List LayerHeader
+inner_headers net = net_headers net.layer ++ transport_headers net.inside.layer
+
+-- a packet, and what is inside it, that show the front of a packet whose payload is a front of this one's
+record MorePacket {Header : Type 0} (version : IpVersion) (layer_of : IpPacket Header → NetLayer) (place : ℕ)
+    (header : Header) (len number : ℕ) (fragmented : List ExtensionPart → Bool) (end : LenSource) (cut : LaxCut)
+    (net : LaxNet) : Type 0 where
+  chain : ExtensionChain
+  refused : Option HeaderSliceError
+  front : IsFrontChain version number cut.payload chain refused
+  read : LaxNet
+  is : IsIpLayer version layer_of place (lax_ip_of header len (fragmented chain.parts) end cut chain refused) read
+  shows : ShowsFront (inner_headers net) net.inside.stop (inner_headers read) read.inside.stop
+
+-- a net layer behind which the walk stopped shows the front of what it begins with
+shows_stopped : (net : LaxNet) (layer : NetLayer) (incomplete : Bool) (refusal : SliceError × Layer)
+    (more headers : List LayerHeader) (stop : Option (SliceError × Layer))
+    → net ≡ net_with layer incomplete (no_transport incomplete (Some refusal))
+    → headers ≡ net_headers (Some layer) ++ more → ShowsFront (inner_headers net) net.inside.stop headers stop
+shows_stopped net layer incomplete refusal more headers stop same parts =
+    subst (λ (n : LaxNet). ShowsFront (inner_headers n) n.inside.stop headers stop) (sym same)
+    (subst (λ (l : List LayerHeader). ShowsFront l (Some refusal) headers stop)
+    (sym (append-nil (net_headers (Some layer))))
+    (shows_before (net_headers (Some layer)) more headers refusal stop parts))
+
+packet_more : {Header : Type 0} (version : IpVersion) (layer_of : IpPacket Header → NetLayer)
+    → IpHeaders layer_of → (offset place : ℕ) (header : Header) (len number : ℕ)
+    (fragmented : List ExtensionPart → Bool) (limit end : LenSource) (cut longer : LaxCut) (rest : List ℕ)
+    → longer.payload ≡ cut.payload ++ rest → AreBytes longer.payload → (chain : ExtensionChain)
+    (refused : Option HeaderSliceError) → IsFrontChain version number cut.payload chain refused → (net : LaxNet)
+    → IsIpLayer version layer_of offset (lax_ip_of header len (fragmented chain.parts) limit cut chain refused) net
+    → MorePacket version layer_of place header len number fragmented end longer net
+packet_more version layer_of heads offset place header len number fragmented limit end cut longer rest parts fits chain
+    None front net layer =
+    let behind = chain_of chain.parts chain.last (chain.rest ++ rest) in
+    let stands : IsFrontChain version number longer.payload behind None =
+    subst (λ (l : List ℕ). IsFrontChain version number l behind None) (sym parts)
+    (chain_more version [] number cut.payload rest chain.parts chain.last chain.rest front) in
+    let shown = lax_ip_of header len (fragmented chain.parts) limit cut chain None in
+    let read = lax_ip_of header len (fragmented chain.parts) end longer behind None in
+    let inside = layer.0 in
+    let more = transport_more (offset + net_header_len (layer_of shown.packet))
+    (place + net_header_len (layer_of read.packet)) cut.incomplete longer.incomplete shown.packet.payload end rest
+    (rest_fits version number longer.payload behind None fits stands) inside layer.1 in
+    let same = heads.are shown.packet ∙ sym (heads.are read.packet) in
+    record {
+      chain = behind;
+      refused = None;
+      front = stands;
+      read = net_with (layer_of read.packet) longer.incomplete more.read;
+      is = (more.read, more.is, refl);
+      shows = subst (λ (n : LaxNet). ShowsFront (inner_headers n) n.inside.stop
+          (inner_headers (net_with (layer_of read.packet) longer.incomplete more.read)) more.read.stop)
+          (sym layer.2)
+          (subst (λ (l : List LayerHeader). ShowsFront (l ++ transport_headers inside.layer) inside.stop
+          (net_headers (Some (layer_of read.packet)) ++ transport_headers more.read.layer) more.read.stop) (sym same)
+          (shows_behind (net_headers (Some (layer_of read.packet))) (transport_headers inside.layer)
+          (transport_headers more.read.layer) inside.stop more.read.stop more.shows));
+    }
+packet_more version layer_of heads offset place header len number fragmented limit end cut longer rest parts fits chain
+    (Some error) front net layer =
+    let found = refused_more version [] 0 number cut.payload rest chain.parts error (subst AreBytes parts fits)
+    front.0 in
+    let behind = chain_of (chain.parts ++ found.others) found.last found.rest in
+    let stands : IsFrontChain version number longer.payload behind found.stop =
+    subst (λ (l : List ℕ). IsFrontChain version number l behind found.stop) (sym parts)
+    (front_chain version number (cut.payload ++ rest) behind found.stop found.is) in
+    let shown = lax_ip_of header len (fragmented chain.parts) limit cut chain (Some error) in
+    let read = lax_ip_of header len (fragmented behind.parts) end longer behind found.stop in
+    let one = ip_layer_is_one version layer_of place read
+    (rest_fits version number longer.payload behind found.stop fits stands) in
+    let refusal = told (chain_refusal version offset (stop_behind len limit error)) in
+    let extensions : List ExtensionPart → List LayerHeader = map of_extension in
+    let inner = transport_headers one.is.0.layer in
+    let all : inner_headers one.value ≡ net_headers (Some (layer_of shown.packet)) ++ (extensions found.others ++ inner) =
+    ap inner_headers one.is.2 ∙ ap (λ (l : List LayerHeader). l ++ inner) (heads.are read.packet
+    ∙ ap (λ (l : List LayerHeader). heads.head header ∷ l) (map-append of_extension chain.parts found.others)
+    ∙ ap (λ (l : List LayerHeader). l ++ extensions found.others) (sym (heads.are shown.packet)))
+    ∙ append_assoc (net_headers (Some (layer_of shown.packet))) (extensions found.others) inner in
+    record {
+      chain = behind;
+      refused = found.stop;
+      front = stands;
+      read = one.value;
+      is = one.is;
+      shows = shows_stopped net (layer_of shown.packet) cut.incomplete refusal (extensions found.others ++ inner)
+          (inner_headers one.value) one.value.inside.stop (layer.2 ∙ ap (net_with (layer_of shown.packet) cut.incomplete)
+          layer.1) all;
+    }
+
+-- ---- each version
+
+abbrev pub ipv4_heads : IpHeaders ipv4_layer
+ipv4_heads = record { head = of_ipv4; are = λ packet. refl }
+
+abbrev pub ipv6_heads : IpHeaders ipv6_layer
+ipv6_heads = record { head = of_ipv6; are = λ packet. refl }
+
+-- a net layer of these bytes, and what is inside it, that show what a front of the bytes shows
+pub record MoreNet (Is : LaxNet → Type 0) (net : LaxNet) : Type 0 where
+  pub read : LaxNet
+  pub is : Is read
+  pub shows : ShowsFront (inner_headers net) net.inside.stop (inner_headers read) read.inside.stop
+
+pub ipv4_more : (offset place : ℕ) (outer inner : Bool) (bytes more : List ℕ) (net : LaxNet)
+    → AreBytes (bytes ++ more) → IsIpv4Net offset outer bytes net → MoreNet (IsIpv4Net place inner (bytes ++ more)) net
+ipv4_more offset place outer inner bytes more net fits is =
+    let header = is.1.0.0 in
+    let behind = is.1.2 in
+    let len = ipv4_header_len header in
+    let read : Ipv4Header × List ℕ = (header, is.1.0.1 ++ more) in
+    let stands : IsIpv4Header (bytes ++ more) read = record {
+      encoded = is.1.1.encoded;
+      encodes = is.1.1.encodes;
+      parts = parts_more bytes is.1.1.encoded is.1.0.1 more is.1.1.parts;
+    } in
+    let cut = lax_cut_is_one len header.total_len source.Ipv4HeaderTotalLen inner len read.1 (omega arith) in
+    let rest = cut_more len header.total_len source.Ipv4HeaderTotalLen outer inner len is.1.0.1 more behind.cut
+    cut.value behind.cuts cut.is in
+    let payload = cut_fits len header.total_len source.Ipv4HeaderTotalLen inner len read.1 cut.value
+    (behind_ipv4_fits (bytes ++ more) read fits stands) cut.is in
+    let layer = subst (λ (lax : LaxIp Ipv4Header). IsIpLayer ipv4 ipv4_layer offset lax net) behind.is is.2 in
+    let found = packet_more ipv4 ipv4_layer ipv4_heads offset place header len header.protocol.0
+    (λ (parts : List ExtensionPart). is_ipv4_fragment header) behind.cut.source cut.value.source behind.cut cut.value
+    rest.0 rest.1 payload behind.chain behind.refused behind.front net layer in
+    record {
+      read = found.read;
+      is = (
+        lax_ip_of header len (is_ipv4_fragment header) cut.value.source cut.value found.chain found.refused,
+        (
+          read,
+          stands,
+          record {
+            cut = cut.value;
+            chain = found.chain;
+            refused = found.refused;
+            cuts = cut.is;
+            front = found.front;
+            is = refl;
+          },
+        ),
+        found.is,
+      );
+      shows = found.shows;
+    }
+
+pub ipv6_more : (offset place : ℕ) (outer inner : Bool) (bytes more : List ℕ) (net : LaxNet)
+    → AreBytes (bytes ++ more) → IsIpv6Net offset outer bytes net → MoreNet (IsIpv6Net place inner (bytes ++ more)) net
+ipv6_more offset place outer inner bytes more net fits is =
+    let header = is.1.0.0 in
+    let behind = is.1.2 in
+    let says = 40 + header.payload_length in
+    let read : Ipv6Header × List ℕ = (header, is.1.0.1 ++ more) in
+    let stands : IsIpv6Header (bytes ++ more) read = record {
+      fits = is.1.1.fits;
+      parts = parts_more bytes (ipv6_bytes header) is.1.0.1 more is.1.1.parts;
+    } in
+    let cut = lax_cut_is_one 41 says source.Ipv6HeaderPayloadLen inner 40 read.1 (omega arith) in
+    let rest = cut_more 41 says source.Ipv6HeaderPayloadLen outer inner 40 is.1.0.1 more behind.cut cut.value
+    behind.cuts cut.is in
+    let payload = cut_fits 41 says source.Ipv6HeaderPayloadLen inner 40 read.1 cut.value
+    (behind_ipv6_fits (bytes ++ more) read fits stands) cut.is in
+    let layer = subst (λ (lax : LaxIp Ipv6Header). IsIpLayer ipv6 ipv6_layer offset lax net) behind.is is.2 in
+    let found = packet_more ipv6 ipv6_layer ipv6_heads offset place header 40 header.next_header.0 chain_fragments
+    (lax_ipv6_source header behind.cut) (lax_ipv6_source header cut.value) behind.cut cut.value rest.0 rest.1 payload
+    behind.chain behind.refused behind.front net layer in
+    record {
+      read = found.read;
+      is = (
+        lax_ip_of header 40 (chain_fragments found.chain.parts) (lax_ipv6_source header cut.value) cut.value found.chain
+            found.refused,
+        (
+          read,
+          stands,
+          record {
+            cut = cut.value;
+            chain = found.chain;
+            refused = found.refused;
+            cuts = cut.is;
+            front = found.front;
+            is = refl;
+          },
+        ),
+        found.is,
+      );
+      shows = found.shows;
+    }

@@ -1,0 +1,267 @@
+-- That a payload of IP with more bytes behind it shows the transport header that it shows without them, but for an ICMPv4
+-- timestamp that is too long then.
+use Rattle.std.proofs.Common.{◌≡◌, ◌⊎◌, not, nat_lt, if◌then◌else◌, ℕ, ◌+◌, ◌<◌, Bool, false, List, [], ◌∷◌, ◌++◌, length, Option, Some, None, refl, sym, ap, subst, ◌∙◌, inl, inr, append_assoc, length-append, arith}
+use Rattle.std.proofs.lemmas.Bool.{cases_eq, cases_lt, ne_eqb}
+use Rattle.std.proofs.lemmas.Grind.{common_steps}
+use Rattle.std.proofs.lemmas.List.{append-nil}
+use Rattle.ep_base.specs.Bytes.{AreBytes}
+use Rattle.ep_base.specs.IpNumbers.{icmpv4_number}
+use Rattle.ep_base.specs.IpPayload.{IpPayload}
+use Rattle.ep_base.specs.Missing.{HasExactLength}
+use Rattle.ep_base.specs.Readings.{behind_header, headers, len_error}
+use Rattle.ep_base.specs.Tables.{first_row, parts_of}
+use Rattle.ep_base.specs.declared.err.layer.Layer.{Layer}
+use Rattle.ep_base.specs.declared.err.layer.Layer.TheVariants as layer
+use Rattle.ep_base.specs.declared.err.len_error.LenError.{LenError}
+use Rattle.ep_base.specs.declared.err.tcp.HeaderSliceError.TheVariants as transport_error
+use Rattle.ep_base.specs.declared.len_source.LenSource.{LenSource}
+use Rattle.ep_base.specs.declared.len_source.LenSource.TheVariants as source
+use Rattle.ep_transport.specs.declared.icmpv4_header.Icmpv4Header.{Icmpv4Header}
+use Rattle.ep_transport.specs.declared.icmpv4_type.Icmpv4Type.{Icmpv4Type}
+use Rattle.ep_transport.specs.declared.icmpv4_type.Icmpv4Type.TheVariants as message
+use Rattle.ep_transport.specs.declared.transport_header.TransportHeader.{TransportHeader}
+use Rattle.ep_transport.specs.declared.transport_header.TransportHeader.TheVariants as header
+use Rattle.ep_transport.specs.Icmpv4.{IsIcmpv4, icmpv4_kind, icmpv4_kind_at, icmpv4_len, icmpv4_rows, icmpv4_timestamp_rows}
+use Rattle.ep_transport.specs.TransportParts.{transport_layer, IsTransportLayer}
+use Rattle.ep_transport.specs.Udp.{udp_bytes}
+use Rattle.ep_transport.proofs.TransportLemmas.{icmpv4_refused}
+use Rattle.ep_packet.specs.declared.err.slice_error.SliceError.{SliceError}
+use Rattle.ep_packet.specs.declared.err.slice_error.SliceError.TheVariants.{Len}
+use Rattle.ep_packet.proofs.OffsetLemmas.{transport_encoded}
+use Rattle.ep_lax.specs.Lax.{IsHeaderCutLaxly, IsLaxTransport}
+use Rattle.ep_lax.specs.LaxHeaders.{LayerHeader, of_transport, transport_headers, ShowsFront}
+use Rattle.ep_lax.specs.LaxLayers.{LaxTransport, no_transport, told}
+use Rattle.ep_lax.proofs.LaxLawLemmas.{header_cut_is_one, transport_is_one}
+
+-- ---- what shows a front
+
+-- headers that stand in front of both
+pub shows_behind : (before shown whole : List LayerHeader) (end stop : Option (SliceError × Layer))
+    → ShowsFront shown end whole stop → ShowsFront (before ++ shown) end (before ++ whole) stop
+shows_behind before shown whole end stop (inl first) = inl (record {
+  more = first.more;
+  parts = ap (λ (l : List LayerHeader). before ++ l) first.parts ∙ sym (append_assoc before shown first.more);
+  all = first.all;
+})
+shows_behind before shown whole end stop (inr last) = inr (record {
+  header = last.header;
+  timestamp = last.timestamp;
+  parts = ap (λ (l : List LayerHeader). before ++ l) last.parts
+      ∙ sym (append_assoc before whole (of_transport (header.Icmpv4 last.header) ∷ []));
+  refusal = last.refusal;
+  stops = last.stops;
+  exact = last.exact;
+  long = last.long;
+})
+
+-- where the walk stopped, whatever stands behind what is shown
+pub shows_before : (shown more whole : List LayerHeader) (end : SliceError × Layer)
+    (stop : Option (SliceError × Layer)) → whole ≡ shown ++ more → ShowsFront shown (Some end) whole stop
+shows_before shown more whole end stop parts =
+    inl (record { more = more; parts = parts; all = λ none. cc none })
+
+-- the same headers
+pub shows_same : (shown whole : List LayerHeader) (end stop : Option (SliceError × Layer)) → whole ≡ shown
+    → ShowsFront shown end whole stop
+shows_same shown whole end stop same =
+    inl (record { more = []; parts = same ∙ sym (append-nil shown); all = λ none. refl })
+
+-- ---- a header with more bytes behind it
+
+-- what follows a header goes on
+pub parts_more : (bytes front behind more : List ℕ) → bytes ≡ front ++ behind → bytes ++ more ≡ front ++ (behind ++ more)
+parts_more bytes front behind more parts =
+    ap (λ (l : List ℕ). l ++ more) parts ∙ append_assoc front behind more
+
+-- bytes that begin with the header of a timestamp, and are more than its own
+record IsLongTimestamp (number : ℕ) (bytes : List ℕ) (read : TransportHeader) : Type 0 where
+  icmp : Icmpv4Header
+  number_is : number ≡ icmpv4_number
+  same : read ≡ header.Icmpv4 icmp
+  timestamp : icmpv4_len (icmpv4_kind icmp.icmp_type) ≡ 20
+  refusal : LenError
+  refused : first_row (icmpv4_rows bytes) ≡ Some refusal
+  exact : HasExactLength refusal.layer
+  long : 20 < refusal.len
+
+-- the row of a timestamp, where there are more
+timestamp_refused : (value : Icmpv4Type) (n : ℕ) → icmpv4_len (icmpv4_kind value) ≡ 20 → 20 < n
+    → (error : LenError) × (first_row (icmpv4_timestamp_rows (icmpv4_kind value) n) ≡ Some error)
+    × HasExactLength error.layer × (error.len ≡ n)
+timestamp_refused (message.TimestampRequest times) n is long = (
+  len_error 20 n source.Slice layer.Icmpv4Timestamp,
+  (λ i. if not (ne_eqb n 20 (λ same. omega arith) i) then Some (len_error 20 n source.Slice layer.Icmpv4Timestamp)
+      else None),
+  inl refl,
+  refl,
+)
+timestamp_refused (message.TimestampReply times) n is long = (
+  len_error 20 n source.Slice layer.Icmpv4TimestampReply,
+  (λ i. if not (ne_eqb n 20 (λ same. omega arith) i)
+      then Some (len_error 20 n source.Slice layer.Icmpv4TimestampReply) else None),
+  inr refl,
+  refl,
+)
+timestamp_refused _ n is long = absurd (omega (arith, is))
+
+-- the same among the rows of ICMP
+timestamp_row : (bytes : List ℕ) (value : Icmpv4Type) (error : LenError) → icmpv4_kind_at bytes ≡ icmpv4_kind value
+    → 20 < length bytes → first_row (icmpv4_timestamp_rows (icmpv4_kind value) (length bytes)) ≡ Some error
+    → first_row (icmpv4_rows bytes) ≡ Some error
+timestamp_row bytes value error is long row =
+    let enough : nat_lt (length bytes) 8 ≡ false = grind (arith, common_steps) in
+    (λ i. if enough i then Some (len_error 8 (length bytes) source.Slice layer.Icmpv4)
+    else first_row (icmpv4_timestamp_rows (is i) (length bytes))) ∙ row
+
+icmpv4_longer : (number : ℕ) (bytes more : List ℕ) (icmp : Icmpv4Header) (payload : List ℕ) → number ≡ icmpv4_number
+    → IsIcmpv4 bytes (parts_of icmp payload []) → 0 < length more → icmpv4_len (icmpv4_kind icmp.icmp_type) ≡ 20
+    → IsLongTimestamp number (bytes ++ more) (header.Icmpv4 icmp)
+icmpv4_longer number bytes more icmp payload number_is is some twenty =
+    let longer = bytes ++ more in
+    let parts = parts_more bytes is.encoded payload more is.parts in
+    let found : icmpv4_kind_at longer ≡ icmpv4_kind icmp.icmp_type =
+    ap icmpv4_kind_at (parts ∙ ap (λ (l : List ℕ). l ++ (payload ++ more)) is.encodes.same) ∙ is.encodes.fits.kind in
+    let len : length is.encoded ≡ 20 =
+    transport_encoded (Some (transport_layer (header.Icmpv4 icmp) payload)) is.encoded is.encodes ∙ twenty in
+    let long : 20 < length longer =
+    omega (arith, ap length parts, length-append is.encoded (payload ++ more), length-append payload more, len, some) in
+    let row = timestamp_refused icmp.icmp_type (length longer) twenty long in
+    record {
+      icmp = icmp;
+      number_is = number_is;
+      same = refl;
+      timestamp = twenty;
+      refusal = row.0;
+      refused = timestamp_row longer icmp.icmp_type row.0 found long row.1;
+      exact = row.2;
+      long = omega (arith, row.3, long);
+    }
+
+-- a message of ICMP that is no timestamp goes on, and a timestamp with nothing behind it is the same
+icmpv4_more : (number : ℕ) (bytes more : List ℕ) (icmp : Icmpv4Header) (payload : List ℕ) → number ≡ icmpv4_number
+    → IsIcmpv4 bytes (parts_of icmp payload [])
+    → IsTransportLayer headers number (bytes ++ more) (header.Icmpv4 icmp) (payload ++ more)
+    ⊎ IsLongTimestamp number (bytes ++ more) (header.Icmpv4 icmp)
+icmpv4_more number bytes more icmp payload number_is is =
+    let goes_on : (icmpv4_len (icmpv4_kind icmp.icmp_type) ≡ 20 → payload ++ more ≡ [])
+    → IsIcmpv4 (bytes ++ more) (parts_of icmp (payload ++ more) []) =
+    λ ends. record {
+      encoded = is.encoded;
+      encodes = is.encodes;
+      parts = parts_more bytes is.encoded payload more is.parts;
+      ends = ends;
+      whole = refl;
+    } in
+    elim (cases_eq (icmpv4_len (icmpv4_kind icmp.icmp_type)) 20) [
+      | inl twenty ↦ elim (cases_lt 0 (length more)) [
+        | inl some ↦ inr (icmpv4_longer number bytes more icmp payload number_is is some twenty)
+        | inr none ↦
+            let nothing : more ≡ [] = empty more (omega arith) in
+            inl (number_is, goes_on (λ same. (λ i. is.ends twenty i ++ nothing i)))
+      ]
+      | inr other ↦ inl (number_is, goes_on (λ twenty. absurd (other twenty)))
+    ]
+  where
+    empty : (list : List ℕ) → length list ≡ 0 → list ≡ []
+    empty [] none = refl
+    empty (byte ∷ others) none = absurd (omega (arith, none))
+
+-- a transport layer, where the length field of UDP does not cut, with more bytes behind it
+layer_more : (number : ℕ) (bytes more : List ℕ) (h : TransportHeader) (payload : List ℕ)
+    → IsTransportLayer headers number bytes h payload
+    → IsTransportLayer headers number (bytes ++ more) h (payload ++ more) ⊎ IsLongTimestamp number (bytes ++ more) h
+layer_more number bytes more (header.Udp udp) payload is =
+    inl (is.0, record { fits = is.1.fits; parts = parts_more bytes (udp_bytes udp) payload more is.1.parts })
+layer_more number bytes more (header.Tcp tcp) payload is =
+    inl (
+      is.0,
+      record {
+        encoded = is.1.encoded;
+        encodes = is.1.encodes;
+        parts = parts_more bytes is.1.encoded payload more is.1.parts;
+        whole = refl;
+      },
+    )
+layer_more number bytes more (header.Icmpv4 icmp) payload is =
+    icmpv4_more number bytes more icmp payload is.0 is.1
+layer_more number bytes more (header.Icmpv6 icmp) payload is =
+    inl (
+      is.0,
+      record {
+        encoded = is.1.encoded;
+        encodes = is.1.encodes;
+        parts = parts_more bytes is.1.encoded payload more is.1.parts;
+        whole = refl;
+      },
+    )
+
+-- ---- the transport layer
+
+-- the header of a layer is shown, whatever its length field cuts
+pub cut_shows : (outer : Bool) (h : TransportHeader) (payload : List ℕ) (lax : LaxTransport)
+    → IsHeaderCutLaxly outer h payload lax → transport_headers lax.layer ≡ of_transport h ∷ []
+cut_shows outer (header.Udp udp) payload lax is = ap (λ (l : LaxTransport). transport_headers l.layer) is.2
+cut_shows outer (header.Tcp tcp) payload lax is = ap (λ (l : LaxTransport). transport_headers l.layer) is
+cut_shows outer (header.Icmpv4 icmp) payload lax is = ap (λ (l : LaxTransport). transport_headers l.layer) is
+cut_shows outer (header.Icmpv6 icmp) payload lax is = ap (λ (l : LaxTransport). transport_headers l.layer) is
+
+-- what shows the transport header of a payload, and what a payload shows that has more bytes behind it
+pub record MoreTransport (offset : ℕ) (outer : Bool) (payload : IpPayload) (lax : LaxTransport) : Type 0 where
+  pub read : LaxTransport
+  pub is : IsLaxTransport offset outer payload read
+  pub shows : ShowsFront (transport_headers lax.layer) lax.stop (transport_headers read.layer) read.stop
+
+-- a payload with more bytes behind it
+abbrev pub payload_with : IpPayload → LenSource → List ℕ → IpPayload
+payload_with payload end more =
+    record { number = payload.number; fragmented = payload.fragmented; source = end; bytes = payload.bytes ++ more }
+
+pub transport_more : (offset place : ℕ) (outer inner : Bool) (payload : IpPayload) (end : LenSource) (more : List ℕ)
+    → AreBytes (payload.bytes ++ more) → (lax : LaxTransport) → IsLaxTransport offset outer payload lax
+    → MoreTransport place inner (payload_with payload end more) lax
+transport_more offset place outer inner payload end more fits lax (inl refused) =
+    let one = transport_is_one place inner (payload_with payload end more) fits in
+    record {
+      read = one.value;
+      is = one.is;
+      shows = subst (λ (l : LaxTransport). ShowsFront (transport_headers l.layer) l.stop
+          (transport_headers one.value.layer) one.value.stop) (sym refused.2)
+          (shows_before [] (transport_headers one.value.layer) (transport_headers one.value.layer) (told refused.0)
+          one.value.stop refl);
+    }
+transport_more offset place outer inner payload end more fits lax (inr (None, part, same)) = record {
+  read = no_transport inner None;
+  is = inr (None, part, refl);
+  shows = shows_same (transport_headers lax.layer) [] lax.stop None
+      (λ i. transport_headers (sym same i).layer);
+}
+transport_more offset place outer inner payload end more fits lax (inr (Some layer, part, cut)) =
+    let shown = cut_shows outer layer.header layer.payload lax cut in
+    elim (layer_more payload.number payload.bytes more layer.header layer.payload part.1) [
+      | inl stands ↦
+          let one = header_cut_is_one inner layer.header (layer.payload ++ more) in
+          record {
+            read = one.value;
+            is = inr (Some (transport_layer layer.header (layer.payload ++ more)), (part.0, stands), one.is);
+            shows = shows_same (transport_headers lax.layer) (transport_headers one.value.layer) lax.stop
+                one.value.stop
+                (cut_shows inner layer.header (layer.payload ++ more) one.value one.is ∙ sym shown);
+          }
+      | inr long ↦
+          let error = behind_header place end long.refusal in
+          let refused = icmpv4_refused headers payload.number payload.fragmented (payload.bytes ++ more) long.refusal
+          part.0 long.number_is long.refused in
+          record {
+            read = no_transport inner (Some (told (Len error)));
+            is = inl (Len error, (transport_error.Len long.refusal, refused, refl), refl);
+            shows = inr (record {
+              header = long.icmp;
+              timestamp = long.timestamp;
+              parts = shown ∙ ap (λ (h : TransportHeader). of_transport h ∷ []) long.same;
+              refusal = error;
+              stops = refl;
+              exact = long.exact;
+              long = long.long;
+            });
+          }
+    ]

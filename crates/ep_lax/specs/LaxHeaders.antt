@@ -1,0 +1,136 @@
+-- The headers of layers, from the link layer to the transport layer, and which of them a front of the bytes shows.
+use Rattle.std.specs.Prelude.{◌≡◌, ◌⊎◌, ◌<◌, ℕ, List, [], ◌∷◌, ◌++◌, length, map, Option, Some, None}
+use Rattle.ep_base.specs.Missing.{HasExactLength}
+use Rattle.ep_base.specs.declared.err.layer.Layer.{Layer}
+use Rattle.ep_base.specs.declared.err.len_error.LenError.{LenError}
+use Rattle.ep_ext.specs.ExtensionParts.{ExtensionPart, EncodesPart, part_len}
+use Rattle.ep_ip.specs.declared.ipv4_header.Ipv4Header.{Ipv4Header}
+use Rattle.ep_ip.specs.declared.ipv6_header.Ipv6Header.{Ipv6Header}
+use Rattle.ep_link.specs.declared.link.link_header.LinkHeader.{LinkHeader}
+use Rattle.ep_link.specs.declared.link.link_header.LinkHeader.TheVariants.{Ethernet2, LinuxSll}
+use Rattle.ep_link.specs.declared.link_ext.link_ext_header.LinkExtHeader.{LinkExtHeader}
+use Rattle.ep_link.specs.declared.link_ext.link_ext_header.LinkExtHeader.TheVariants.{Vlan, Macsec}
+use Rattle.ep_ip.specs.Ipv4.{EncodesIpv4, ipv4_header_len}
+use Rattle.ep_ip.specs.Ipv6.{FitsIpv6, ipv6_bytes}
+use Rattle.ep_link.specs.Arp.{Arp, FitsArp, arp_bytes, arp_len}
+use Rattle.ep_link.specs.Ethernet2.{FitsEthernet2, ethernet2_bytes}
+use Rattle.ep_link.specs.LinkExtensions.{LinkExtension, extension_header, link_ext_header_len}
+use Rattle.ep_link.specs.LinkSlices.{LinkLayer, ethernet2, linux_sll, ether_payload, linux_sll_payload, link_header_len}
+use Rattle.ep_link.specs.LinuxSll.{FitsLinuxSll, linux_sll_bytes}
+use Rattle.ep_link.specs.Macsec.{EncodesMacsec}
+use Rattle.ep_link.specs.Vlan.{FitsVlan, vlan_bytes}
+use Rattle.ep_transport.specs.declared.icmpv4_header.Icmpv4Header.{Icmpv4Header}
+use Rattle.ep_transport.specs.declared.transport_header.TransportHeader.{TransportHeader}
+use Rattle.ep_transport.specs.declared.transport_header.TransportHeader.TheVariants.{Icmpv4}
+use Rattle.ep_transport.specs.Icmpv4.{icmpv4_kind, icmpv4_len}
+use Rattle.ep_transport.specs.TransportHeaders.{EncodesTransportHeader, transport_header_len}
+use Rattle.ep_transport.specs.TransportParts.{TransportLayer}
+use Rattle.ep_packet.specs.declared.err.slice_error.SliceError.{SliceError}
+use Rattle.ep_packet.specs.declared.err.slice_error.SliceError.TheVariants.{Len}
+use Rattle.ep_packet.specs.Layers.{Layers, NetLayer, arp, ipv4, ipv6}
+use Rattle.ep_lax.specs.LaxLayers.{LaxLayers, told}
+use Rattle.ep_lax.specs.StrictFrames.{layers_in}
+
+-- ---- the headers
+
+-- a header of a layer
+pub data LayerHeader : Type 0 where
+  of_link : LinkHeader → LayerHeader
+  of_tag : LinkExtHeader → LayerHeader
+  of_ipv4 : Ipv4Header → LayerHeader
+  of_ipv6 : Ipv6Header → LayerHeader
+  of_extension : ExtensionPart → LayerHeader
+  of_arp : Arp → LayerHeader
+  of_transport : TransportHeader → LayerHeader
+
+-- that of a link layer, where it has one
+abbrev pub link_headers : Option LinkLayer → List LayerHeader
+link_headers None = []
+link_headers (Some (ethernet2 header payload)) = of_link (Ethernet2 header) ∷ []
+link_headers (Some (linux_sll header payload)) = of_link (LinuxSll header) ∷ []
+link_headers (Some (ether_payload type source payload)) = []
+link_headers (Some (linux_sll_payload protocol payload)) = []
+
+-- the tag of a link extension
+abbrev pub tag_header : LinkExtension → LayerHeader
+tag_header extension = of_tag (extension_header extension)
+
+-- that of a net layer, where there is one, with the extension headers behind it
+abbrev pub net_headers : Option NetLayer → List LayerHeader
+net_headers None = []
+net_headers (Some (ipv4 header extensions payload)) = of_ipv4 header ∷ map of_extension extensions
+net_headers (Some (ipv6 header extensions payload)) = of_ipv6 header ∷ map of_extension extensions
+net_headers (Some (arp packet)) = of_arp packet ∷ []
+
+-- that of a transport layer, where there is one
+abbrev pub transport_headers : Option TransportLayer → List LayerHeader
+transport_headers None = []
+transport_headers (Some layer) = of_transport layer.header ∷ []
+
+-- the headers of layers, in the order in which they stand
+abbrev pub frame_headers : Layers → List LayerHeader
+frame_headers layers =
+    link_headers layers.link
+    ++ (map tag_header layers.link_exts ++ (net_headers layers.net ++ transport_headers layers.transport))
+
+-- those of layers that were read laxly
+abbrev pub shown_headers : LaxLayers → List LayerHeader
+shown_headers read = frame_headers (layers_in read)
+
+-- ---- their bytes
+
+-- the bytes are a header's, whatever its reserved bits
+abbrev pub EncodesHeader : LayerHeader → List ℕ → Type 0
+EncodesHeader (of_link (Ethernet2 header)) bytes = FitsEthernet2 header × (bytes ≡ ethernet2_bytes header)
+EncodesHeader (of_link (LinuxSll header)) bytes = FitsLinuxSll header × (bytes ≡ linux_sll_bytes header)
+EncodesHeader (of_tag (Vlan tag)) bytes = FitsVlan tag × (bytes ≡ vlan_bytes tag)
+EncodesHeader (of_tag (Macsec tag)) bytes = EncodesMacsec bytes tag
+EncodesHeader (of_ipv4 header) bytes = EncodesIpv4 bytes header
+EncodesHeader (of_ipv6 header) bytes = FitsIpv6 header × (bytes ≡ ipv6_bytes header)
+EncodesHeader (of_extension part) bytes = EncodesPart bytes part
+EncodesHeader (of_arp packet) bytes = FitsArp packet × (bytes ≡ arp_bytes packet)
+EncodesHeader (of_transport header) bytes = EncodesTransportHeader header bytes
+
+-- the number of them
+abbrev pub header_len : LayerHeader → ℕ
+header_len (of_link header) = link_header_len header
+header_len (of_tag tag) = link_ext_header_len tag
+header_len (of_ipv4 header) = ipv4_header_len header
+header_len (of_ipv6 header) = 40
+header_len (of_extension part) = part_len part
+header_len (of_arp packet) = arp_len packet
+header_len (of_transport header) = transport_header_len header
+
+-- The bytes begin with these headers, one after the other. The headers say how long each is: so bytes of which others
+-- are a front begin with the same bytes, where both begin with the same headers.
+abbrev pub BeginWith : List LayerHeader → List ℕ → Type 0
+BeginWith [] bytes = Unit {0}
+BeginWith (header ∷ others) bytes =
+    (encoded rest : List ℕ) × (bytes ≡ encoded ++ rest) × EncodesHeader header encoded
+    × (length encoded ≡ header_len header) × BeginWith others rest
+
+-- ---- what a front shows
+
+-- The headers of a front of some bytes, the walk over which stopped so, are a front of these headers; and all of them,
+-- where it did not stop.
+pub record AreFirst (shown : List LayerHeader) (stop : Option (SliceError × Layer)) (headers : List LayerHeader) : Type 0
+  where
+    pub more : List LayerHeader
+    pub parts : headers ≡ shown ++ more
+    pub all : stop ≡ None → more ≡ []
+
+-- The headers of a front are these, and then an ICMPv4 timestamp or timestamp reply, at which the walk over all bytes
+-- stops: the message is longer than its 20 bytes there (RFC 792).
+pub record EndInTimestamp (shown headers : List LayerHeader) (stop : Option (SliceError × Layer)) : Type 0 where
+  pub header : Icmpv4Header
+  pub timestamp : icmpv4_len (icmpv4_kind header.icmp_type) ≡ 20
+  pub parts : shown ≡ headers ++ of_transport (Icmpv4 header) ∷ []
+  pub refusal : LenError
+  pub stops : stop ≡ Some (told (Len refusal))
+  pub exact : HasExactLength refusal.layer
+  pub long : 20 < refusal.len
+
+-- all bytes show these headers, and a front of them those
+abbrev pub ShowsFront : List LayerHeader → Option (SliceError × Layer) → List LayerHeader → Option (SliceError × Layer)
+    → Type 0
+ShowsFront shown end headers stop = AreFirst shown end headers ⊎ EndInTimestamp shown headers stop
