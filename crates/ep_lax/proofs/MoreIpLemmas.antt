@@ -4,6 +4,7 @@ use Rattle.std.proofs.Math.Seq.{take-append_seam}
 use Rattle.std.proofs.lemmas.Bool.{cases_lt}
 use Rattle.std.proofs.lemmas.List.{append-nil, map-append, take-append-drop, take-append-le}
 use Rattle.ep_base.specs.Bytes.{AreBytes}
+use Rattle.ep_base.specs.IpPayload.{IpPayload}
 use Rattle.ep_base.specs.LaxCut.{LaxCut, IsLaxCut, cuts}
 use Rattle.ep_base.specs.Readings.{slices}
 use Rattle.ep_base.specs.declared.err.layer.Layer.{Layer}
@@ -26,13 +27,13 @@ use Rattle.ep_ip.specs.Ipv6.{IsIpv6Header, ipv6_bytes}
 use Rattle.ep_packet.specs.declared.err.slice_error.SliceError.{SliceError}
 use Rattle.ep_packet.specs.FrameRefusals.{net_header_len}
 use Rattle.ep_packet.specs.Layers.{NetLayer, ipv4_layer, ipv6_layer}
-use Rattle.ep_lax.specs.Lax.{IsIpLayer, IsIpv4Net, IsIpv6Net, chain_refusal}
+use Rattle.ep_lax.specs.Lax.{IsInsideIp, IsIpLayer, IsIpv4Net, IsIpv6Net, IsLaxTransport, chain_refusal}
 use Rattle.ep_lax.specs.LaxHeaders.{LayerHeader, of_ipv4, of_ipv6, of_extension, net_headers, transport_headers, ShowsFront}
 use Rattle.ep_lax.specs.LaxIp.{LaxIp, lax_ip_of, lax_ipv6_source, stop_behind}
 use Rattle.ep_lax.specs.LaxLayers.{LaxNet, net_with, no_transport, told}
 use Rattle.ep_lax.proofs.LaxIpLemmas.{behind_ipv4_fits, behind_ipv6_fits, cut_fits}
 use Rattle.ep_lax.proofs.LaxLawLemmas.{ip_layer_is_one, rest_fits}
-use Rattle.ep_lax.proofs.MoreTransportLemmas.{parts_more, shows_behind, shows_before, transport_more}
+use Rattle.ep_lax.proofs.MoreTransportLemmas.{parts_more, payload_with, shows_behind, shows_before, transport_more}
 
 -- ---- what a length field cuts
 
@@ -215,20 +216,36 @@ pub record IpHeaders {Header : Type 0} (layer_of : IpPacket Header → NetLayer)
   pub are : (packet : IpPacket Header)
       → net_headers (Some (layer_of packet)) ≡ head packet.header ∷ map of_extension packet.extensions
 
+-- those of packets of the same header and extension headers
+same_headers : {Header : Type 0} (layer_of : IpPacket Header → NetLayer) → IpHeaders layer_of
+    → (shown read : IpPacket Header) → shown.header ≡ read.header → shown.extensions ≡ read.extensions
+    → net_headers (Some (layer_of shown)) ≡ net_headers (Some (layer_of read))
+same_headers layer_of heads shown read same parts =
+    heads.are shown ∙ (λ i. heads.head (same i) ∷ map of_extension (parts i)) ∙ sym (heads.are read)
+
+-- those of a packet with more extension headers, and others behind them
+headers_with : {Header : Type 0} (layer_of : IpPacket Header → NetLayer) → (heads : IpHeaders layer_of)
+    → (shown read : IpPacket Header) (others : List ExtensionPart) (inner : List LayerHeader)
+    → read.header ≡ shown.header → read.extensions ≡ shown.extensions ++ others
+    → net_headers (Some (layer_of read)) ++ inner
+    ≡ net_headers (Some (layer_of shown)) ++ (map of_extension others ++ inner)
+headers_with layer_of heads shown read others inner same parts =
+    let more : List LayerHeader = map of_extension others in
+    ap (λ (l : List LayerHeader). l ++ inner) (heads.are read
+    ∙ (λ i. heads.head (same i) ∷ map of_extension (parts i))
+    ∙ ap (λ (l : List LayerHeader). heads.head shown.header ∷ l) (map-append of_extension shown.extensions others)
+    ∙ ap (λ (l : List LayerHeader). l ++ more) (sym (heads.are shown)))
+    ∙ append_assoc (net_headers (Some (layer_of shown))) more inner
+
 -- the headers of a net layer and of what is inside it
 abbrev pub inner_headers : LaxNet → List LayerHeader
 inner_headers net = net_headers net.layer ++ transport_headers net.inside.layer
 
--- a packet, and what is inside it, that show the front of a packet whose payload is a front of this one's
-record MorePacket {Header : Type 0} (version : IpVersion) (layer_of : IpPacket Header → NetLayer) (place : ℕ)
-    (header : Header) (len number : ℕ) (fragmented : List ExtensionPart → Bool) (end : LenSource) (cut : LaxCut)
-    (net : LaxNet) : Type 0 where
-  chain : ExtensionChain
-  refused : Option HeaderSliceError
-  front : IsFrontChain version number cut.payload chain refused
-  read : LaxNet
-  is : IsIpLayer version layer_of place (lax_ip_of header len (fragmented chain.parts) end cut chain refused) read
-  shows : ShowsFront (inner_headers net) net.inside.stop (inner_headers read) read.inside.stop
+-- a net layer of these bytes, and what is inside it, that show what a front of the bytes shows
+pub record MoreNet (Is : LaxNet → Type 0) (net : LaxNet) : Type 0 where
+  pub read : LaxNet
+  pub is : Is read
+  pub shows : ShowsFront (inner_headers net) net.inside.stop (inner_headers read) read.inside.stop
 
 -- a net layer behind which the walk stopped shows the front of what it begins with
 shows_stopped : (net : LaxNet) (layer : NetLayer) (incomplete : Bool) (refusal : SliceError × Layer)
@@ -240,6 +257,73 @@ shows_stopped net layer incomplete refusal more headers stop same parts =
     (subst (λ (l : List LayerHeader). ShowsFront l (Some refusal) headers stop)
     (sym (append-nil (net_headers (Some layer))))
     (shows_before (net_headers (Some layer)) more headers refusal stop parts))
+
+-- a packet whose last extension header is refused, and one that has its headers and others
+packet_stopped : {Header : Type 0} (version : IpVersion) (layer_of : IpPacket Header → NetLayer)
+    → IpHeaders layer_of → (offset place : ℕ) (shown read : LaxIp Header) (error : HeaderSliceError)
+    (others : List ExtensionPart) (net : LaxNet) → shown.stop ≡ Some error
+    → read.packet.header ≡ shown.packet.header → read.packet.extensions ≡ shown.packet.extensions ++ others
+    → AreBytes read.packet.payload.bytes → IsIpLayer version layer_of offset shown net
+    → MoreNet (IsIpLayer version layer_of place read) net
+packet_stopped version layer_of heads offset place shown read error others net stops same parts fits layer =
+    let one = ip_layer_is_one version layer_of place read fits in
+    let inner = transport_headers one.is.0.layer in
+    let inside = subst (λ (s : Option HeaderSliceError). IsInsideIp version offset
+    (net_header_len (layer_of shown.packet)) shown.incomplete shown.packet.payload s layer.0) stops layer.1 in
+    record {
+      read = one.value;
+      is = one.is;
+      shows = shows_stopped net (layer_of shown.packet) shown.incomplete (told (chain_refusal version offset error))
+          (map of_extension others ++ inner) (inner_headers one.value) one.value.inside.stop
+          (layer.2 ∙ ap (net_with (layer_of shown.packet) shown.incomplete) inside)
+          (ap inner_headers one.is.2
+          ∙ headers_with layer_of heads shown.packet read.packet others inner same parts);
+    }
+
+-- a packet and one of the same headers, with more bytes behind its payload
+packet_whole : {Header : Type 0} (version : IpVersion) (layer_of : IpPacket Header → NetLayer)
+    → IpHeaders layer_of → (offset place : ℕ) (shown read : LaxIp Header) (rest : List ℕ) (net : LaxNet)
+    → shown.stop ≡ None → read.stop ≡ None → read.packet.header ≡ shown.packet.header
+    → read.packet.extensions ≡ shown.packet.extensions
+    → payload_with shown.packet.payload read.packet.payload.source rest ≡ read.packet.payload
+    → AreBytes read.packet.payload.bytes → IsIpLayer version layer_of offset shown net
+    → MoreNet (IsIpLayer version layer_of place read) net
+packet_whole version layer_of heads offset place shown read rest net stops goes_on same parts payload fits layer =
+    let shown_len = net_header_len (layer_of shown.packet) in
+    let read_len = net_header_len (layer_of read.packet) in
+    let inside = subst (λ (s : Option HeaderSliceError). IsInsideIp version offset shown_len shown.incomplete
+    shown.packet.payload s layer.0) stops layer.1 in
+    let found = transport_more (offset + shown_len) (place + read_len) shown.incomplete read.incomplete
+    shown.packet.payload read.packet.payload.source rest
+    (subst AreBytes (sym (ap (λ (p : IpPayload). p.bytes) payload)) fits) layer.0 inside in
+    let transport = subst (λ (p : IpPayload). IsLaxTransport (place + read_len) read.incomplete p found.read) payload
+    found.is in
+    let longer = net_with (layer_of read.packet) read.incomplete found.read in
+    record {
+      read = longer;
+      is = (
+        found.read,
+        subst (λ (s : Option HeaderSliceError). IsInsideIp version place read_len read.incomplete read.packet.payload s
+            found.read) (sym goes_on) transport,
+        refl,
+      );
+      shows = subst (λ (n : LaxNet). ShowsFront (inner_headers n) n.inside.stop (inner_headers longer) found.read.stop)
+          (sym layer.2)
+          (subst (λ (l : List LayerHeader). ShowsFront (l ++ transport_headers layer.0.layer) layer.0.stop
+          (inner_headers longer) found.read.stop) (same_headers layer_of heads read.packet shown.packet same parts)
+          (shows_behind (net_headers (Some (layer_of read.packet))) (transport_headers layer.0.layer)
+          (transport_headers found.read.layer) layer.0.stop found.read.stop found.shows));
+    }
+
+-- a packet of this header whose content begins with the content of another, and shows what that one shows
+record MorePacket {Header : Type 0} (version : IpVersion) (layer_of : IpPacket Header → NetLayer) (place : ℕ)
+    (header : Header) (len number : ℕ) (fragmented : List ExtensionPart → Bool) (end : LenSource) (cut : LaxCut)
+    (net : LaxNet) : Type 0 where
+  chain : ExtensionChain
+  refused : Option HeaderSliceError
+  front : IsFrontChain version number cut.payload chain refused
+  more : MoreNet
+      (IsIpLayer version layer_of place (lax_ip_of header len (fragmented chain.parts) end cut chain refused)) net
 
 packet_more : {Header : Type 0} (version : IpVersion) (layer_of : IpPacket Header → NetLayer)
     → IpHeaders layer_of → (offset place : ℕ) (header : Header) (len number : ℕ)
@@ -254,26 +338,14 @@ packet_more version layer_of heads offset place header len number fragmented lim
     let stands : IsFrontChain version number longer.payload behind None =
     subst (λ (l : List ℕ). IsFrontChain version number l behind None) (sym parts)
     (chain_more version [] number cut.payload rest chain.parts chain.last chain.rest front) in
-    let shown = lax_ip_of header len (fragmented chain.parts) limit cut chain None in
-    let read = lax_ip_of header len (fragmented chain.parts) end longer behind None in
-    let inside = layer.0 in
-    let more = transport_more (offset + net_header_len (layer_of shown.packet))
-    (place + net_header_len (layer_of read.packet)) cut.incomplete longer.incomplete shown.packet.payload end rest
-    (rest_fits version number longer.payload behind None fits stands) inside layer.1 in
-    let same = heads.are shown.packet ∙ sym (heads.are read.packet) in
     record {
       chain = behind;
       refused = None;
       front = stands;
-      read = net_with (layer_of read.packet) longer.incomplete more.read;
-      is = (more.read, more.is, refl);
-      shows = subst (λ (n : LaxNet). ShowsFront (inner_headers n) n.inside.stop
-          (inner_headers (net_with (layer_of read.packet) longer.incomplete more.read)) more.read.stop)
-          (sym layer.2)
-          (subst (λ (l : List LayerHeader). ShowsFront (l ++ transport_headers inside.layer) inside.stop
-          (net_headers (Some (layer_of read.packet)) ++ transport_headers more.read.layer) more.read.stop) (sym same)
-          (shows_behind (net_headers (Some (layer_of read.packet))) (transport_headers inside.layer)
-          (transport_headers more.read.layer) inside.stop more.read.stop more.shows));
+      more = packet_whole version layer_of heads offset place
+          (lax_ip_of header len (fragmented chain.parts) limit cut chain None)
+          (lax_ip_of header len (fragmented chain.parts) end longer behind None) rest net refl refl refl refl refl
+          (rest_fits version number longer.payload behind None fits stands) layer;
     }
 packet_more version layer_of heads offset place header len number fragmented limit end cut longer rest parts fits chain
     (Some error) front net layer =
@@ -283,27 +355,15 @@ packet_more version layer_of heads offset place header len number fragmented lim
     let stands : IsFrontChain version number longer.payload behind found.stop =
     subst (λ (l : List ℕ). IsFrontChain version number l behind found.stop) (sym parts)
     (front_chain version number (cut.payload ++ rest) behind found.stop found.is) in
-    let shown = lax_ip_of header len (fragmented chain.parts) limit cut chain (Some error) in
-    let read = lax_ip_of header len (fragmented behind.parts) end longer behind found.stop in
-    let one = ip_layer_is_one version layer_of place read
-    (rest_fits version number longer.payload behind found.stop fits stands) in
-    let refusal = told (chain_refusal version offset (stop_behind len limit error)) in
-    let extensions : List ExtensionPart → List LayerHeader = map of_extension in
-    let inner = transport_headers one.is.0.layer in
-    let all : inner_headers one.value ≡ net_headers (Some (layer_of shown.packet)) ++ (extensions found.others ++ inner) =
-    ap inner_headers one.is.2 ∙ ap (λ (l : List LayerHeader). l ++ inner) (heads.are read.packet
-    ∙ ap (λ (l : List LayerHeader). heads.head header ∷ l) (map-append of_extension chain.parts found.others)
-    ∙ ap (λ (l : List LayerHeader). l ++ extensions found.others) (sym (heads.are shown.packet)))
-    ∙ append_assoc (net_headers (Some (layer_of shown.packet))) (extensions found.others) inner in
     record {
       chain = behind;
       refused = found.stop;
       front = stands;
-      read = one.value;
-      is = one.is;
-      shows = shows_stopped net (layer_of shown.packet) cut.incomplete refusal (extensions found.others ++ inner)
-          (inner_headers one.value) one.value.inside.stop (layer.2 ∙ ap (net_with (layer_of shown.packet) cut.incomplete)
-          layer.1) all;
+      more = packet_stopped version layer_of heads offset place
+          (lax_ip_of header len (fragmented chain.parts) limit cut chain (Some error))
+          (lax_ip_of header len (fragmented behind.parts) end longer behind found.stop) (stop_behind len limit error)
+          found.others net refl refl refl
+          (rest_fits version number longer.payload behind found.stop fits stands) layer;
     }
 
 -- ---- each version
@@ -313,12 +373,6 @@ ipv4_heads = record { head = of_ipv4; are = λ packet. refl }
 
 abbrev pub ipv6_heads : IpHeaders ipv6_layer
 ipv6_heads = record { head = of_ipv6; are = λ packet. refl }
-
--- a net layer of these bytes, and what is inside it, that show what a front of the bytes shows
-pub record MoreNet (Is : LaxNet → Type 0) (net : LaxNet) : Type 0 where
-  pub read : LaxNet
-  pub is : Is read
-  pub shows : ShowsFront (inner_headers net) net.inside.stop (inner_headers read) read.inside.stop
 
 pub ipv4_more : (offset place : ℕ) (outer inner : Bool) (bytes more : List ℕ) (net : LaxNet)
     → AreBytes (bytes ++ more) → IsIpv4Net offset outer bytes net → MoreNet (IsIpv4Net place inner (bytes ++ more)) net
@@ -342,7 +396,7 @@ ipv4_more offset place outer inner bytes more net fits is =
     (λ (parts : List ExtensionPart). is_ipv4_fragment header) behind.cut.source cut.value.source behind.cut cut.value
     rest.0 rest.1 payload behind.chain behind.refused behind.front net layer in
     record {
-      read = found.read;
+      read = found.more.read;
       is = (
         lax_ip_of header len (is_ipv4_fragment header) cut.value.source cut.value found.chain found.refused,
         (
@@ -357,9 +411,9 @@ ipv4_more offset place outer inner bytes more net fits is =
             is = refl;
           },
         ),
-        found.is,
+        found.more.is,
       );
-      shows = found.shows;
+      shows = found.more.shows;
     }
 
 pub ipv6_more : (offset place : ℕ) (outer inner : Bool) (bytes more : List ℕ) (net : LaxNet)
@@ -383,7 +437,7 @@ ipv6_more offset place outer inner bytes more net fits is =
     (lax_ipv6_source header behind.cut) (lax_ipv6_source header cut.value) behind.cut cut.value rest.0 rest.1 payload
     behind.chain behind.refused behind.front net layer in
     record {
-      read = found.read;
+      read = found.more.read;
       is = (
         lax_ip_of header 40 (chain_fragments found.chain.parts) (lax_ipv6_source header cut.value) cut.value found.chain
             found.refused,
@@ -399,7 +453,7 @@ ipv6_more offset place outer inner bytes more net fits is =
             is = refl;
           },
         ),
-        found.is,
+        found.more.is,
       );
-      shows = found.shows;
+      shows = found.more.shows;
     }
