@@ -8,6 +8,7 @@ use Rattle.ep_base.specs.declared.len_source.LenSource.TheVariants as source
 use Rattle.ep_link.specs.LinkExtensions.{LinkExtension, extension_payload}
 use Rattle.ep_link.specs.LinkSlices.{LinkLayer}
 use Rattle.ep_packet.specs.FrameBytes.{payload_behind}
+use Rattle.ep_packet.specs.Offsets.{tags_len}
 use Rattle.ep_packet.proofs.PayloadLemmas.{payload_of_last}
 use Rattle.ep_lax.specs.declared.lax_link_ext_slice.LaxLinkExtSlice.{LaxLinkExtSlice}
 use Rattle.ep_lax.specs.LaxPackets.{extensions_incomplete}
@@ -22,6 +23,11 @@ extensions_in outer [] = refl
 extensions_in outer (slice ∷ others) =
     ap (λ (more : List LinkExtension). lax_extension_of slice ∷ more)
     (extensions_in (extension_incomplete outer slice) others)
+
+-- and how many bytes their tags have
+pub tags_in : (slices : List LaxLinkExtSlice)
+    → tags_len (map lax_extension_of slices) ≡ tags_len (map extension_in (lax_extensions_of false slices))
+tags_in slices = ap tags_len (sym (extensions_in false slices))
 
 -- the payload behind them is that of the last one
 pub open_payload_of_last : (bytes : List ℕ) (slices : List LaxLinkExtSlice) (last : LaxLinkExtSlice)

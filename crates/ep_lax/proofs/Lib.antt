@@ -13,3 +13,4 @@ pub mod MoreTransportLemmas
 pub mod MoreIpLemmas
 pub mod MoreBytesLemmas
 pub mod HeaderBytesLemmas
+pub mod LaxOrderLemmas

@@ -4,6 +4,7 @@ ghost use Rattle.std.specs.Prelude.{◌≡◌, ◌++◌, ℕ, List};
 ghost use Rattle.ep_base.specs.Bytes.{AreBytes};
 ghost use Rattle.ep_base.specs.Tables.{IsDecided};
 ghost use Rattle.ep_packet.specs.Frame.{IsFrame};
+ghost use Rattle.ep_packet.specs.FrameBytes.{AreInOrder};
 ghost use Rattle.ep_packet.specs.Layers.{Layers};
 ghost use Rattle.ep_lax.specs.Lax.{IsLax};
 ghost use Rattle.ep_lax.specs.LaxHeaders.{AreFirst, BeginWith, ShowsFront, shown_headers, frame_headers};
@@ -17,6 +18,13 @@ use ep_packet::Entry;
 pub fn lax()
     ensures { (entry : Entry) (bytes : List ℕ) → AreBytes bytes
         → IsDecided (IsLax entry bytes) (RefusesLax entry bytes) }
+{}
+
+/// Bytes that are read laxly are the headers that stand, from the outside in, the payload of the last layer, and what the
+/// cuts left.
+pub fn lax_bytes()
+    ensures { (entry : Entry) (bytes : List ℕ) (read : LaxLayers) → IsLax entry bytes read
+        → AreInOrder bytes (layers_in read) }
 {}
 
 /// A frame is read laxly as the layers that it is, with the same payload; no byte of any payload is missing, and the walk

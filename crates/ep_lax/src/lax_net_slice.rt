@@ -1,8 +1,20 @@
 //! The net layer that is read laxly.
 
+ghost use Rattle.std.specs.Prelude.{◌≡◌, ◌<◌, ◌+◌, ◌^◌, length};
+ghost use Rattle.ep_ext.specs.ExtensionParts.{part_len};
+ghost use Rattle.ep_ext.specs.Ipv6ExtensionSlices.{extension_slice_bytes, extension_slice_part, ipv6_slice_parts};
+ghost use Rattle.ep_ip.specs.Ipv4.{ipv4_header_len};
+ghost use Rattle.ep_link.specs.Arp.{arp_len};
+ghost use Rattle.ep_link.specs.ArpSlices.{arp_slice_packet};
+ghost use Rattle.ep_packet.specs.Offsets.{net_layer_len, parts_len};
+ghost use Rattle.ep_lax.specs.LaxSlices.{lax_ipv4_slice_extensions, lax_ipv4_slice_header};
+ghost use Rattle.ep_lax.specs.LaxViews.{lax_net_layer_of};
+
 use crate::lax_ip_payload_slice::LaxIpPayloadSlice;
 use crate::lax_ipv4_slice::LaxIpv4Slice;
 use crate::lax_ipv6_slice::LaxIpv6Slice;
+use ep_ext::{Ipv6ExtensionSlice, Ipv6ExtensionsSlice};
+use ep_ip::Ipv6Header;
 use ep_link::ArpPacketSlice;
 
 /// The net layer of a packet, whose header stands.
@@ -17,9 +29,11 @@ pub enum LaxNetSlice<'a> {
 }
 
 impl<'a> LaxNetSlice<'a> {
-    ghost use Rattle.std.specs.Prelude.{◌≡◌};
+    ghost use Rattle.std.specs.Prelude.{◌≡◌, ◌<◌, ◌+◌, ◌^◌, ℕ, List, Some, length};
     ghost use Rattle.std.specs.Option.{option_copied, option_map};
+    ghost use Rattle.ep_packet.specs.FrameBytes.{EncodesNet};
     ghost use Rattle.ep_packet.specs.Layers.{net_payload};
+    ghost use Rattle.ep_packet.specs.Offsets.{net_layer_len};
     ghost use Rattle.ep_lax.specs.LaxSlices.{lax_ip_payload_of};
     ghost use Rattle.ep_lax.specs.LaxViews.{lax_net_layer_of};
 
@@ -33,5 +47,80 @@ impl<'a> LaxNetSlice<'a> {
             LaxNetSlice::Ipv6(packet) => Some(packet.payload()),
             LaxNetSlice::Arp(_) => None,
         }
+    }
+
+    /// The number of bytes of the IP header with the extension headers that stand, behind which the payload begins, or of
+    /// the ARP packet.
+    pub fn header_len(&self) -> usize
+        ensures value { result ≡ net_layer_len (lax_net_layer_of self.now) }
+        ensures bytes { (bytes : List ℕ) → EncodesNet (Some (lax_net_layer_of self.now)) bytes → length bytes ≡ result }
+        ensures bound { result < 2 ^ 63 + 64 }
+    {
+        headers_len(self)
+    }
+}
+
+/// The number of bytes of the headers of a net layer.
+fn headers_len(net: &LaxNetSlice<'_>) -> usize
+    ensures value { result ≡ net_layer_len (lax_net_layer_of net.now) }
+    ensures bound { result < 2 ^ 63 + 64 }
+{
+    match net {
+        LaxNetSlice::Ipv4(packet) => ipv4_len(packet),
+        LaxNetSlice::Ipv6(packet) => Ipv6Header::LEN + extensions_len(packet.extensions()),
+        LaxNetSlice::Arp(packet) => arp_len(packet),
+    }
+}
+
+/// The number of bytes of an ARP packet.
+fn arp_len(packet: &ArpPacketSlice<'_>) -> usize
+    ensures value { result ≡ arp_len (arp_slice_packet packet.now) }
+    ensures bound { result < 2 ^ 63 }
+{
+    let bytes = packet.slice();
+    let len = packet.packet_len();
+    prove!(len == bytes.len());
+    len
+}
+
+/// The number of bytes of the headers of an IPv4 packet.
+fn ipv4_len(packet: &LaxIpv4Slice<'_>) -> usize
+    ensures value { result
+        ≡ ipv4_header_len (lax_ipv4_slice_header packet.now) + parts_len (lax_ipv4_slice_extensions packet.now) }
+    ensures bound { result < 2 ^ 63 + 64 }
+{
+    let header_len = packet.header_len();
+    match &packet.extensions().auth {
+        Some(header) => header_len + header.slice().len(),
+        None => header_len,
+    }
+}
+
+/// The number of bytes of the extension headers of an IPv6 packet.
+fn extensions_len(extensions: Ipv6ExtensionsSlice<'_>) -> usize
+    ensures value { result ≡ parts_len (ipv6_slice_parts extensions.entry) }
+    ensures bound { result < 2 ^ 63 }
+{
+    let all = extensions.slice();
+    let mut len = 0;
+    for extension in extensions {
+        len += extension_len(&extension);
+    }
+    prove!(len <= all.len());
+    len
+}
+
+/// The number of bytes of an extension header.
+#[inline]
+fn extension_len(extension: &Ipv6ExtensionSlice<'_>) -> usize
+    ensures value { result ≡ part_len (extension_slice_part extension.now) }
+    ensures bytes { result ≡ length (extension_slice_bytes extension.now) }
+{
+    match extension {
+        Ipv6ExtensionSlice::HopByHop(header) => header.header_len(),
+        Ipv6ExtensionSlice::Routing(header) => header.header_len(),
+        Ipv6ExtensionSlice::Fragment(header) => header.header_len(),
+        Ipv6ExtensionSlice::DestinationOptions(header) => header.header_len(),
+        Ipv6ExtensionSlice::Authentication(header) => header.header_len(),
     }
 }

@@ -1,16 +1,20 @@
 //! What lies inside the layers of a packet that was sliced laxly: its payloads and its tags.
 
-ghost use Rattle.std.specs.Prelude.{◌≡◌, false, map};
+ghost use Rattle.std.specs.Prelude.{◌≡◌, ◌≤◌, ◌<◌, ◌+◌, ◌^◌, ℕ, false, List, drop, length, map};
 ghost use Rattle.std.specs.Option.{option_copied, option_map};
 ghost use Rattle.ep_base.specs.LaxCut.{is_missing};
 ghost use Rattle.ep_base.specs.declared.len_source.LenSource.TheVariants as source;
-ghost use Rattle.ep_packet.specs.FrameBytes.{last_payload, link_payload, payload_behind};
+ghost use Rattle.ep_link.specs.LinkSlices.{link_layer_of};
+ghost use Rattle.ep_transport.specs.TransportParts.{transport_layer_of};
+ghost use Rattle.ep_packet.specs.FrameBytes.{AreInOrder, last_payload, link_payload, payload_behind};
 ghost use Rattle.ep_packet.specs.Layers.{carries_fragment, ip_payload_in};
+ghost use Rattle.ep_packet.specs.Offsets.{link_len, net_len, payload_offset, tag_len, tags_len, transport_len};
+ghost use Rattle.ep_packet.specs.ShownBytes.{BeginsWith};
 ghost use Rattle.ep_packet.specs.VlanTags.{outer_tags, vlan_ids_in};
 ghost use Rattle.ep_lax.specs.LaxPackets.{extensions_incomplete, lax_layers_of};
 ghost use Rattle.ep_lax.specs.LaxPayloads.{lax_ether_payload_in, lax_ether_payload_of, lax_vlan_slices, source_behind};
 ghost use Rattle.ep_lax.specs.LaxSlices.{lax_ip_payload_of};
-ghost use Rattle.ep_lax.specs.LaxViews.{lax_extension_of};
+ghost use Rattle.ep_lax.specs.LaxViews.{lax_extension_of, lax_net_layer_of};
 ghost use Rattle.ep_lax.specs.StrictFrames.{layers_in};
 
 use crate::lax_ether_payload_slice::LaxEtherPayloadSlice;
@@ -20,7 +24,7 @@ use crate::lax_net_slice::LaxNetSlice;
 use crate::lax_sliced_packet::LaxSlicedPacket;
 use arrayvec::ArrayVec;
 use ep_base::{LenSource, VlanId};
-use ep_link::{DoubleVlanSlice, VlanSlice};
+use ep_link::{DoubleVlanSlice, LinkSlice, VlanSlice};
 use ep_transport::TransportSlice;
 
 impl<'a> LaxSlicedPacket<'a> {
@@ -149,6 +153,18 @@ impl<'a> LaxSlicedPacket<'a> {
         }
     }
 
+    /// How many bytes of the packet lie before this payload: those of the headers that stand.
+    pub fn payload_offset(&self) -> usize
+        ensures value { result ≡ payload_offset (layers_in (lax_layers_of self.now)) }
+        ensures place { let layers = layers_in (lax_layers_of self.now) in
+            (bytes : List ℕ) → AreInOrder bytes layers → BeginsWith (drop result bytes) (last_payload layers) }
+    {
+        link_len(&self.link)
+            + tags_len(self.link_exts.as_slice())
+            + net_len(&self.net)
+            + transport_len(&self.transport)
+    }
+
     /// Whether bytes of this payload are missing that a length field in front of it says are there.
     #[inline]
     pub fn is_incomplete(&self) -> bool
@@ -181,6 +197,60 @@ impl<'a> LaxSlicedPacket<'a> {
             Some(link) => link.payload_slice(),
             None => &[],
         }
+    }
+}
+
+/// The number of bytes of the link header.
+fn link_len(link: &Option<LinkSlice<'_>>) -> usize
+    ensures value { result ≡ link_len (option_map link_layer_of link.now) }
+    ensures bound { result ≤ 16 }
+{
+    match link {
+        Some(link) => link.header_len(),
+        None => 0,
+    }
+}
+
+/// The number of bytes of the tags of link extensions.
+fn tags_len(extensions: &[LaxLinkExtSlice<'_>]) -> usize
+    requires { length extensions.now ≤ 3 }
+    ensures value { result ≡ tags_len (map lax_extension_of extensions.now) }
+    ensures bound { result ≤ 48 }
+{
+    let mut len = 0;
+    for extension in extensions {
+        len += tag_len(extension);
+    }
+    len
+}
+
+/// The number of bytes of the tag of a link extension.
+fn tag_len(extension: &LaxLinkExtSlice<'_>) -> usize
+    ensures value { result ≡ tag_len (lax_extension_of extension.now) }
+    ensures bound { result ≤ 16 }
+{
+    extension.header_len()
+}
+
+/// The number of bytes of the headers of the net layer.
+fn net_len(net: &Option<LaxNetSlice<'_>>) -> usize
+    ensures value { result ≡ net_len (option_map lax_net_layer_of net.now) }
+    ensures bound { result < 2 ^ 63 + 64 }
+{
+    match net {
+        Some(net) => net.header_len(),
+        None => 0,
+    }
+}
+
+/// The number of bytes of the transport header.
+fn transport_len(transport: &Option<TransportSlice<'_>>) -> usize
+    ensures value { result ≡ transport_len (option_map transport_layer_of transport.now) }
+    ensures bound { result ≤ 60 }
+{
+    match transport {
+        Some(layer) => layer.header_len(),
+        None => 0,
     }
 }
 
