@@ -1,5 +1,6 @@
 /* Builds frames of Ethernet II, IPv4 and UDP by hand into one buffer, with both checksums:
-   build PAYLOAD_LEN FRAMES. Prints the time of a frame and what was summed. */
+   build PAYLOAD_LEN FRAMES. Prints the time of a frame and what was summed. With BY_ETHERPARSE the library builds them,
+   through its interface for C. */
 #include <stdint.h>
 #include <stdio.h>
 #include <stdlib.h>
@@ -14,6 +15,18 @@ struct headers {
     uint16_t source_port, destination_port;
 };
 
+#ifdef BY_ETHERPARSE
+#include <etherparse.h>
+
+size_t build(uint8_t *frame, const struct headers *h, const uint8_t *payload, size_t len) {
+    static const struct etherparse_route route = {
+        .version = 4, .with_ethernet = 1, .hop_limit = 20, .ethernet_source = {1,2,3,4,5,6},
+        .ethernet_destination = {7,8,9,10,11,12}, .ipv4_source = {192,168,1,1}, .ipv4_destination = {192,168,1,2}};
+    size_t written;
+    if (etherparse_build_udp(&route, h->source_port, h->destination_port, payload, len, frame, 2048, &written)) exit(1);
+    return written;
+}
+#else
 static void put16(uint8_t *at, uint32_t value) { at[0] = value >> 8; at[1] = value; }
 
 /* The sum of big-endian words, the last one padded with a zero byte. */
@@ -56,6 +69,7 @@ size_t build(uint8_t *frame, const struct headers *h, const uint8_t *payload, si
     put16(udp + 6, sum == 0 ? 0xffff : sum);
     return 42 + len;
 }
+#endif
 
 int main(int argc, char **argv) {
     if (argc < 3) return fprintf(stderr, "usage: build PAYLOAD_LEN FRAMES\n"), 2;

@@ -1,19 +1,37 @@
 #!/usr/bin/env python3
-"""Counts the instructions that an item takes: python3 compare/count.py PROGRAM WALK FOLDER
+"""Counts the instructions that an item takes, beside C: python3 compare/count.py PROGRAM FOLDER [TABLE]
 
-PROGRAM is out/slice_bench, WALK the built walk.c, and FOLDER has the corpora that corpora.py wrote. A count is that of
-three rounds less that of one, by two and by the number of items, as valgrind's callgrind takes them. It prints a row of
-a table for each corpus, and in it the measurements and the walk; and then the same of building alone.
+PROGRAM is out/slice_bench, and FOLDER has the corpora that corpora.py wrote. walk.c, build.c and appends.c beside this
+file are built with gcc -O2. A count is what valgrind's callgrind counts of some rounds less what it counts of one, by
+the rounds and the items. Prints the tables of docs/SPEED.md, or the one that is named:
+
+- frames: of each corpus each measurement of frames, and the walk in C;
+- building: what building a frame takes;
+- fragments: what a fragment takes that is put together, and the same by hand in C;
+- beside: what the library is measured by, beside C by hand in the same run, and beside what the Rust crate took where
+  both could be measured. Times are in it too, as times.py takes them, memory, what building takes through the
+  interface for C, and a drop, where etherparse_c and frame_bench are built.
 """
+import os
 import re
+import struct
 import subprocess
 import sys
+import tempfile
 
+sys.dont_write_bytecode = True
+import times
+
+TOP = os.path.abspath(f"{times.HERE}/../../..")
+ARCHIVE = f"{TOP}/crates/etherparse_c/out/libetherparse_c.a"
+FRAME_BENCH = f"{TOP}/crates/frame_bench/out/frame_bench"
 CORPORA = ["udp64", "udp1400", "vlan2", "mix"]
-MEASUREMENTS = ["slicing", "slicing-apart", "filling", "decoding", "rereading", "ipv4-slice", "ip-headers", "building"]
+MEASUREMENTS = [*times.MEASUREMENTS, "building"]
 # what is built from addresses, behind no tag, one and two
-BUILT = ["udp64", "vlan1", "vlan2", "tcp64", "udp64ipv6", "raw64"]
+BUILT = ["udp64", "udp1400", "vlan1", "vlan2", "tcp64", "udp64ipv6", "raw64", "mix"]
 BUILDING = ["building", "building-from-addresses"]
+# how many streams are open at once, with a fragment of 64 bytes each, and with two
+OPEN, OPEN_OF_TWO = 1_000_000, 100_000
 
 
 def collected(command):
@@ -23,27 +41,156 @@ def collected(command):
     return int(re.search(r"Collected : (\d+)", run.stderr)[1]), run.stdout
 
 
-def an_item(command, tail, items):
+def an_item(command, tail, items, rounds=3):
     """The instructions of an item, whose number the pattern finds in what is printed."""
-    (once, _), (thrice, printed) = (collected([*command, rounds, *tail]) for rounds in "13")
-    return round((thrice - once) / 2 / int(re.search(items, printed)[1]))
+    (once, _), (more, printed) = (collected([*command, str(number), *tail]) for number in (1, rounds))
+    return round((more - once) / (rounds - 1) / int(re.search(items, printed)[1]))
 
 
-def main(program, walk, folder):
-    print("| Corpus | " + " | ".join(f"`{name}`" for name in MEASUREMENTS) + " | walk in C |")
-    print("|---" * (len(MEASUREMENTS) + 2) + "|")
+def measured(program, file, name, rounds=3):
+    """The instructions of an item of a measurement."""
+    return an_item([program, file], [name], rf"{name} +(\d+)", rounds)
+
+
+def built(program, size):
+    """The instructions of a frame that a program in C builds with so many bytes of payload."""
+    (less, _), (more, _) = (collected([program, str(size), str(number)]) for number in (1000, 3000))
+    return round((more - less) / 2000)
+
+
+def frames(program, made, folder):
+    times.heading("Corpus", *(f"`{name}`" for name in MEASUREMENTS), "walk in C")
     for corpus in CORPORA:
         file = f"{folder}/{corpus}"
-        counts = [an_item([program, file], [name], rf"{name} +(\d+)") for name in MEASUREMENTS]
-        counts.append(an_item([walk, file], [], r"(\d+) frames"))
+        counts = [measured(program, file, name) for name in MEASUREMENTS]
+        counts.append(an_item([f"{made}/walk", file], [], r"(\d+) frames"))
         print(f"| `{corpus}` | " + " | ".join(f"{count:,}" for count in counts) + " |", flush=True)
-    print("\n| Corpus | " + " | ".join(f"`{name}`" for name in BUILDING) + " |")
-    print("|---" * (len(BUILDING) + 1) + "|")
+
+
+def building(program, made, folder):
+    times.heading("Corpus", *(f"`{name}`" for name in BUILDING))
     for corpus in BUILT:
-        counts = [an_item([program, f"{folder}/{corpus}"], [name], rf"{name} +(\d+)") for name in BUILDING]
+        counts = [measured(program, f"{folder}/{corpus}", name) for name in BUILDING]
         print(f"| `{corpus}` | " + " | ".join(f"{count:,}" for count in counts) + " |", flush=True)
+    print(f"\nby hand in C: {built(f'{made}/build', 64):,}; of 1,400 bytes {built(f'{made}/build', 1400):,}")
 
 
-if len(sys.argv) != 4:
-    sys.exit(__doc__)
-main(*sys.argv[1:])
+def fragment_counts(program, made, corpus):
+    """The instructions of a fragment, and by hand in C: of two rounds less one."""
+    return measured(program, corpus, "reassembly", 2), an_item([f"{made}/appends", corpus], [], r"(\d+) frames", 2)
+
+
+def fragments(program, made, folder):
+    times.heading("", *(f"`{corpus}`" for corpus in times.FRAGMENTS))
+    counts = [fragment_counts(program, made, f"{folder}/{corpus}") for corpus in times.FRAGMENTS]
+    for name, column in [("`slice_bench`", 0), ("by hand in C", 1)]:
+        print(f"| {name} | " + " | ".join(f"{count[column]:,}" for count in counts) + " |", flush=True)
+
+
+def most_memory(command):
+    """The greatest resident size of a run, in bytes."""
+    process = subprocess.Popen(command, stdout=subprocess.DEVNULL)
+    _, status, used = os.wait4(process.pid, 0)
+    process.returncode = os.waitstatus_to_exitcode(status)
+    if process.returncode:
+        sys.exit(f"count.py: {' '.join(command)} ended with status {process.returncode}")
+    return used.ru_maxrss * 1024
+
+
+def fragment(stream, place):
+    """The frame of a fragment of 64 bytes of a stream that has others behind it, with its length in front."""
+    ethernet = bytes(12) + b"\x08\x00"
+    ipv4 = struct.pack(">BBHHHBBHII", 0x45, 0, 84, stream & 0xFFFF, 0x2000 | 8 * place, 64, 17, 0, 1 + (stream >> 16), 2)
+    return struct.pack("<I", 98) + ethernet + ipv4 + bytes(64)
+
+
+def memory_of_streams(program, made):
+    """The bytes of memory that an open stream takes: of one fragment; of two, one stream after the other; of two, all
+    begun before one goes on. What as many frames of one stream take is not in it."""
+    def resident(fragments):
+        with open(f"{made}/open", "wb") as file:
+            file.writelines(fragments)
+        return most_memory([program, f"{made}/open", "1", "reassembly"])
+
+    one = (resident(fragment(stream, 0) for stream in range(OPEN)) - resident([fragment(0, 0)] * OPEN)) / OPEN
+    alone = resident([fragment(0, 0)] * 2 * OPEN_OF_TWO)
+    in_turn = resident(fragment(stream, place) for stream in range(OPEN_OF_TWO) for place in range(2))
+    at_once = resident(fragment(stream, place) for place in range(2) for stream in range(OPEN_OF_TWO))
+    return [one, (in_turn - alone) / OPEN_OF_TWO, (at_once - alone) / OPEN_OF_TWO]
+
+
+def drop_of_none():
+    """The microseconds that a drop takes that keeps all of 100,000 open streams."""
+    sys.path.insert(0, f"{TOP}/crates/frame_bench/compare")
+    import floods
+
+    streams, drops = list(floods.first_fragments(range(100_000))), [("drop 0", "ok")] * 1000
+    seconds = [min(floods.measure(FRAME_BENCH, rows)[2] for _ in range(3)) for rows in (streams, streams + drops)]
+    return (seconds[1] - seconds[0]) / len(drops) * 1e6
+
+
+def fragments_in_time(program, made, corpus, rounds):
+    """The nanoseconds of a fragment, and by hand in C."""
+    items = int(re.search(r"reassembly +(\d+)", times.ran(program, corpus, 1, "reassembly")[1])[1])
+    here = times.rounds_beyond_one(rounds, items, lambda number: [program, corpus, number, "reassembly"])
+    by_hand = [times.ran(f"{made}/appends", corpus, rounds)[1] for _ in range(times.REPEATS)]
+    return here, min(float(re.search(r"([\d.]+) ns", printed)[1]) for printed in by_hand)
+
+
+def beside(program, made, folder):
+    def row(name, here, by_hand, crate, unit=""):
+        number, hand = (f"{value:,.0f}" if value else "" for value in (here, by_hand))
+        ratio = f"{here / by_hand:.1f}" if by_hand else ""
+        print(f"| {name} | {number}{unit} | {hand}{unit if hand else ''} | {ratio} | {crate} |", flush=True)
+
+    os.sched_setaffinity(0, {max(os.sched_getaffinity(0))})
+    times.heading("", "Here", "By hand in C", "Ratio", "The Rust crate")
+    by_hand = built(f"{made}/build", 64)
+    for name, corpus, measurement, crate in [
+        ("build UDP over IPv4 from addresses", "udp64", BUILDING[1], 954),
+        ("TCP over IPv4", "tcp64", BUILDING[1], 1406),
+        ("UDP over IPv6", "udp64ipv6", BUILDING[1], 1811),
+        ("UDP over IPv4, `size`, then `write`", "udp64", "building-with-size", 1158),
+    ]:
+        row(name, measured(program, f"{folder}/{corpus}", measurement), by_hand, f"{crate:,} ({crate / 540:.1f})")
+    if os.path.exists(ARCHIVE):
+        row("`etherparse_build_udp`, 22 bytes", built(f"{made}/build_by_etherparse", 22), built(f"{made}/build", 22), "")
+    file = f"{folder}/udp64"
+    walk = an_item([f"{made}/walk", file], [], r"(\d+) frames")
+    for name in MEASUREMENTS[:3]:
+        row(f"`{name}`", measured(program, file, name), walk, f"249 ({249 / 124:.1f})")
+    walk = times.least(r"([\d.]+) ns", f"{made}/walk", file, 1000)
+    for name, part in [("decoding", 0.72), ("rereading", 0.45)]:
+        here = times.least(rf"{name} +\d+ +\d+ +([\d.]+)", program, file, 1000, name)
+        row(f"`{name}`", here, walk, f"{1 / part:.1f} times as long as here", " ns")
+    for name, corpus, part in [("one stream", "ascending", 0.56), ("1,000 streams in turn", "interleaved", 0.58)]:
+        here, hand = fragment_counts(program, made, f"{folder}/{corpus}")
+        row(f"a fragment, {name}", here, hand, f"{1 / part:.1f} times as many as here")
+    here, hand = fragments_in_time(program, made, f"{folder}/crowd", 5)
+    row("a fragment, 100,000 streams in turn", here, hand, "slower than here", " ns")
+    one, in_turn, at_once = memory_of_streams(program, made)
+    row("memory of an open stream: one fragment of 64 bytes", one, None, "567 bytes", " bytes")
+    row("two of them, one stream after the other", in_turn, None, "351 bytes", " bytes")
+    row("two of them, all begun before one goes on", at_once, None, "", " bytes")
+    if os.path.exists(FRAME_BENCH):
+        row("a drop that keeps all of 100,000 streams", drop_of_none(), None, "", " µs")
+
+
+def main(program, folder, only=None):
+    tables = [table for table in (frames, building, fragments, beside) if only in (None, table.__name__)]
+    if not tables:
+        sys.exit(__doc__)
+    with tempfile.TemporaryDirectory() as made:
+        times.build_by_hand(made)
+        if os.path.exists(ARCHIVE):
+            c = f"{TOP}/bindings/c"
+            sources = [f"{times.HERE}/build.c", f"{c}/etherparse_heap.c", ARCHIVE, "-o", f"{made}/build_by_etherparse"]
+            subprocess.run(["gcc", "-O2", "-DBY_ETHERPARSE", f"-I{c}", *sources], check=True)
+        for table in tables:
+            table(os.path.abspath(program), made, folder)
+
+
+if __name__ == "__main__":
+    if len(sys.argv) not in (3, 4):
+        sys.exit(__doc__)
+    main(*sys.argv[1:])

@@ -60,11 +60,16 @@ def heading(*names):
     print("\n| " + " | ".join(names) + " |\n" + "|---" * len(names) + "|", flush=True)
 
 
+def build_by_hand(folder):
+    """Builds the programs in C."""
+    for name in ["walk", "build", "appends"]:
+        subprocess.run(["gcc", "-O2", f"{HERE}/{name}.c", "-o", f"{folder}/{name}"], check=True)
+
+
 def main(program, folder):
     os.sched_setaffinity(0, {max(os.sched_getaffinity(0))})
     with tempfile.TemporaryDirectory() as made:
-        for name in ["walk", "build", "appends"]:
-            subprocess.run(["gcc", "-O2", f"{HERE}/{name}.c", "-o", f"{made}/{name}"], check=True)
+        build_by_hand(made)
 
         heading("Corpus", *(f"`{name}`" for name in MEASUREMENTS), "walk in C")
         for corpus in FRAMES:
@@ -90,6 +95,7 @@ def main(program, folder):
         row("by hand in C", by_hand, 0)
 
 
-if len(sys.argv) != 3:
-    sys.exit(__doc__)
-main(*sys.argv[1:])
+if __name__ == "__main__":
+    if len(sys.argv) != 3:
+        sys.exit(__doc__)
+    main(*sys.argv[1:])

@@ -167,6 +167,19 @@ pub fn built_from_addresses(alloc: Global, all: &[FrameParts<'_>]) -> Result<u64
     Ok(total)
 }
 
+/// The same of those that are UDP over IPv4 without tags, each in a new buffer, with the builder's size asked first.
+pub fn built_with_size(alloc: Global, all: &[FrameParts<'_>]) -> Result<u64, BenchError>
+    ensures err { IfErr result (λ error. error ≡ BenchError.OutOfMemory) }
+{
+    let mut total: u64 = 0;
+    for parts in all {
+        let mut buffer = Vec::new(alloc);
+        let built = build_with_size(parts, &mut buffer);
+        total = total.wrapping_add(number_of(built, buffer.as_slice())?);
+    }
+    Ok(total)
+}
+
 /// What is summed of a frame that was built, and 0 where the builder refused it.
 fn number_of(built: Result<(), BuildWriteError>, frame: &[u8]) -> Result<u64, BenchError>
     ensures err { IfErr result (λ error. error ≡ BenchError.OutOfMemory) }
@@ -242,6 +255,28 @@ pub fn build_from_addresses(
         }
         Inside::Arp(packet) => link.arp(packet.clone().unwrap()).write(buffer),
     }
+}
+
+/// The same of a frame of UDP over IPv4 without tags, and nothing of another one: the step says the size, and room for
+/// it is made, before the step writes the frame.
+fn build_with_size(parts: &FrameParts<'_>, buffer: &mut Vec<u8>) -> Result<(), BuildWriteError> {
+    if let None = &parts.tags {
+        if let Inside::Ipv4(
+            header,
+            _,
+            Behind::Transport(TransportHeader::Udp(ports), payload),
+        ) = &parts.inside
+        {
+            let step = PacketBuilder::ethernet2(parts.link.source, parts.link.destination)
+                .ipv4(header.source, header.destination, header.time_to_live)
+                .udp(ports.source_port, ports.destination_port);
+            if buffer.reserve(step.size(payload.len())).is_err() {
+                return Err(BuildWriteError::OutOfMemory);
+            }
+            return step.write(buffer, payload);
+        }
+    }
+    Ok(())
 }
 
 /// Appends the frame of a step of IP headers, the ports or the type of a transport header, and the payload. It is

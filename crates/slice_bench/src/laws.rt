@@ -2,6 +2,7 @@
 
 ghost use Rattle.std.specs.Prelude.{◌≡◌, ◌↔◌, ◌∷◌, [], IsTrue};
 ghost use Rattle.slice_bench.specs.declared.measure.Measurement.TheVariants.{Building, BuildingFromAddresses};
+ghost use Rattle.slice_bench.specs.declared.measure.Measurement.TheVariants.{BuildingWithSize};
 ghost use Rattle.slice_bench.specs.declared.measure.Measurement.TheVariants.{Decoding, Filling};
 ghost use Rattle.slice_bench.specs.declared.measure.Measurement.TheVariants.{ReadingIpHeaders, Reassembly, Rereading};
 ghost use Rattle.slice_bench.specs.declared.measure.Measurement.TheVariants.{Slicing, SlicingApart, SlicingIpv4};
@@ -11,7 +12,7 @@ use crate::measure::Measurement;
 /// All measurements are each of them once, in the order in which they are made.
 pub fn constants()
     ensures { Measurement.ALL ≡ Slicing ∷ SlicingApart ∷ Filling ∷ Decoding ∷ Rereading ∷ SlicingIpv4
-        ∷ ReadingIpHeaders ∷ Building ∷ BuildingFromAddresses ∷ Reassembly ∷ [] }
+        ∷ ReadingIpHeaders ∷ Building ∷ BuildingFromAddresses ∷ BuildingWithSize ∷ Reassembly ∷ [] }
 {}
 
 /// Measurements are equal where they are the same.

@@ -4,7 +4,7 @@ ghost use Rattle.std.specs.Prelude.{◌≡◌, ◌*◌, ◌/◌, ◌<◌, ◌^�
 ghost use Rattle.slice_bench.specs.BenchTexts.{measurement_name};
 
 use crate::bench_error::BenchError;
-use crate::building::{FrameParts, built, built_from_addresses};
+use crate::building::{FrameParts, built, built_from_addresses, built_with_size};
 use crate::columns::{
     Decoding, Filling, ReadingIpHeaders, Rereading, Slicing, SlicingApart, SlicingIpv4, total,
 };
@@ -45,13 +45,15 @@ pub enum Measurement {
     Building,
     /// A frame is built from the addresses, ports and payload of one.
     BuildingFromAddresses,
+    /// The same of UDP over IPv4 without tags, into a new buffer, with its size asked first.
+    BuildingWithSize,
     /// A frame is sliced and given to a pool, which is new in each round.
     Reassembly,
 }
 
 impl Measurement {
     /// Each of them, in the order in which they are made.
-    pub const ALL: [Measurement; 10] = [
+    pub const ALL: [Measurement; 11] = [
         Measurement::Slicing,
         Measurement::SlicingApart,
         Measurement::Filling,
@@ -61,6 +63,7 @@ impl Measurement {
         Measurement::ReadingIpHeaders,
         Measurement::Building,
         Measurement::BuildingFromAddresses,
+        Measurement::BuildingWithSize,
         Measurement::Reassembly,
     ];
 
@@ -78,6 +81,7 @@ impl Measurement {
             Measurement::ReadingIpHeaders => "ip-headers",
             Measurement::Building => "building",
             Measurement::BuildingFromAddresses => "building-from-addresses",
+            Measurement::BuildingWithSize => "building-with-size",
             Measurement::Reassembly => "reassembly",
         }
     }
@@ -92,9 +96,9 @@ impl Measurement {
             | Measurement::Rereading
             | Measurement::Reassembly => corpus.frames.len(),
             Measurement::SlicingIpv4 | Measurement::ReadingIpHeaders => corpus.ip_packets.len(),
-            Measurement::Building | Measurement::BuildingFromAddresses => {
-                corpus.frame_parts.len()
-            }
+            Measurement::Building
+            | Measurement::BuildingFromAddresses
+            | Measurement::BuildingWithSize => corpus.frame_parts.len(),
         }
     }
 
@@ -114,6 +118,7 @@ impl Measurement {
             Measurement::BuildingFromAddresses => {
                 built_from_addresses(alloc, corpus.frame_parts.as_slice())
             }
+            Measurement::BuildingWithSize => built_with_size(alloc, corpus.frame_parts.as_slice()),
             Measurement::Reassembly => handed_out(alloc, corpus.frames.as_slice()),
         }
     }
