@@ -7,7 +7,7 @@ ghost use Rattle.etherparse.specs.Frame.{IsFrame};
 ghost use Rattle.etherparse.specs.Layers.{Layers, layers_of};
 ghost use Rattle.example_filter.specs.Wanted.{is_wanted};
 
-use etherparse::{SlicedPacket, TransportSlice, VlanId};
+use etherparse::{Entry, SlicedPacket, TransportSlice, VlanId};
 use std::io;
 
 fn main(rt: HostRuntime) -> io::Result<()> {
@@ -27,8 +27,9 @@ pub fn keeps(frame: &[u8], vlan: VlanId, port: u16) -> bool
     ensures { IsTrue result ↔ ((layers : Layers) × IsFrame ethernet frame.now layers
         × IsTrue (is_wanted vlan port layers)) }
 {
-    match SlicedPacket::from_ethernet(frame) {
-        Ok(packet) => wants(&packet, vlan, port),
+    let mut packet = SlicedPacket::new();
+    match packet.slice_into(Entry::Ethernet, frame) {
+        Ok(()) => wants(&packet, vlan, port),
         Err(_) => false,
     }
 }

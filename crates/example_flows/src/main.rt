@@ -7,7 +7,7 @@ ghost use Rattle.etherparse.specs.Frame.{IsFrame};
 ghost use Rattle.etherparse.specs.Layers.{Layers, layers_of};
 ghost use Rattle.example_flows.specs.Flows.{Counts};
 
-use etherparse::{NetSlice, SlicedPacket, TransportSlice};
+use etherparse::{Entry, NetSlice, SlicedPacket, TransportSlice};
 use std::alloc::AllocError;
 use std::collections::BTreeMap;
 use std::io;
@@ -45,8 +45,9 @@ pub fn add_segment(flows: &mut Flows, frame: &[u8]) -> Result<(), AllocError>
     ensures others { ((layers : Layers) → ¬ IsFrame ethernet frame.now layers) →
         (flows.new ≡ flows.old) × (result ≡ Ok tt) }
 {
-    match SlicedPacket::from_ethernet(frame) {
-        Ok(packet) => add_packet(flows, &packet),
+    let mut packet = SlicedPacket::new();
+    match packet.slice_into(Entry::Ethernet, frame) {
+        Ok(()) => add_packet(flows, &packet),
         Err(_) => Ok(()),
     }
 }

@@ -6,7 +6,7 @@ use Rattle.example_filter.proofs.keeps.Goals as goal
 
 pub returns-in-Ok : goal.returns-in-Ok
 returns-in-Ok c = (
-  λ yes. (layers_of c.in-Ok.packet, c.in-Ok.ensures.ok, sym c.wants.ensures ∙ yes),
+  λ yes. (layers_of c.slice_into.new.self, c.in-Ok.ensures.ok, sym c.wants.ensures ∙ yes),
   λ found. c.wants.ensures ∙ ap (is_wanted c.args.vlan c.args.port) (c.in-Ok.ensures.only found.0 found.1) ∙ found.2,
 )
 
