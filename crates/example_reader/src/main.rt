@@ -9,9 +9,9 @@ ghost use Rattle.etherparse.specs.Layers.{Layers};
 ghost use Rattle.etherparse.specs.Types.Entry.TheVariants.{Ethernet as ethernet};
 ghost use Rattle.example_reader.specs.Reading.{Takes, DropsBefore};
 
-use etherparse::SlicedPacket;
 use etherparse::defrag::{IpDefragError, IpDefragPayloadVec, IpDefragPool};
 use etherparse::err::packet::SliceError;
+use etherparse::{Entry, SlicedPacket};
 use std::io;
 
 /// The streams of one wire, so without a channel, with the time of each frame in seconds.
@@ -56,8 +56,9 @@ pub fn take(pool: &mut Pool, frame: &[u8], time: u64) -> Result<Answer, SliceErr
     ensures others { ((layers : Layers) → ¬ IsFrame ethernet frame.now layers)
         → IsErrAnd result (RefusesFrame ethernet frame.now) × (pool.new ≡ pool.old) }
 {
-    match SlicedPacket::from_ethernet(frame) {
-        Ok(packet) => Ok(pool.process_sliced_packet(&packet, time, ())),
+    let mut packet = SlicedPacket::new();
+    match packet.slice_into(Entry::Ethernet, frame) {
+        Ok(()) => Ok(pool.process_sliced_packet(&packet, time, ())),
         Err(error) => Err(error),
     }
 }

@@ -5,7 +5,7 @@ use Rattle.example_reader.proofs.take.Goals as goal
 pub returns-in-Ok : goal.returns-in-Ok
 returns-in-Ok c = record {
   frames = λ layers is. rw (sym (c.in-Ok.ensures.only layers is)) c.process_sliced_packet.ensures;
-  others = λ none. absurd (none (layers_of c.in-Ok.packet) c.in-Ok.ensures.ok);
+  others = λ none. absurd (none (layers_of c.slice_into.new.self) c.in-Ok.ensures.ok);
 }
 
 pub returns-in-Err : goal.returns-in-Err
