@@ -25,11 +25,8 @@ import times
 TOP = os.path.abspath(f"{times.HERE}/../../..")
 ARCHIVE = f"{TOP}/crates/etherparse_c/out/libetherparse_c.a"
 FRAME_BENCH = f"{TOP}/crates/frame_bench/out/frame_bench"
-CORPORA = ["udp64", "udp1400", "vlan2", "mix"]
-MEASUREMENTS = [*times.MEASUREMENTS, "building"]
 # what is built from addresses, behind no tag, one and two
 BUILT = ["udp64", "udp1400", "vlan1", "vlan2", "tcp64", "udp64ipv6", "raw64", "mix"]
-BUILDING = ["building", "building-from-addresses"]
 # how many streams are open at once, with a fragment of 64 bytes each, and with two
 OPEN, OPEN_OF_TWO = 1_000_000, 100_000
 
@@ -59,18 +56,18 @@ def built(program, size):
 
 
 def frames(program, made, folder):
-    times.heading("Corpus", *(f"`{name}`" for name in MEASUREMENTS), "walk in C")
-    for corpus in CORPORA:
+    times.heading("Corpus", *(f"`{name}`" for name in times.MEASUREMENTS), "walk in C")
+    for corpus in times.FRAMES:
         file = f"{folder}/{corpus}"
-        counts = [measured(program, file, name) for name in MEASUREMENTS]
+        counts = [measured(program, file, name) for name in times.MEASUREMENTS]
         counts.append(an_item([f"{made}/walk", file], [], r"(\d+) frames"))
         print(f"| `{corpus}` | " + " | ".join(f"{count:,}" for count in counts) + " |", flush=True)
 
 
 def building(program, made, folder):
-    times.heading("Corpus", *(f"`{name}`" for name in BUILDING))
+    times.heading("Corpus", *(f"`{name}`" for name in times.BUILDING))
     for corpus in BUILT:
-        counts = [measured(program, f"{folder}/{corpus}", name) for name in BUILDING]
+        counts = [measured(program, f"{folder}/{corpus}", name) for name in times.BUILDING]
         print(f"| `{corpus}` | " + " | ".join(f"{count:,}" for count in counts) + " |", flush=True)
     print(f"\nby hand in C: {built(f'{made}/build', 64):,}; of 1,400 bytes {built(f'{made}/build', 1400):,}")
 
@@ -139,41 +136,40 @@ def fragments_in_time(program, made, corpus, rounds):
 
 def beside(program, made, folder):
     def row(name, here, by_hand, crate, unit=""):
-        number, hand = (f"{value:,.0f}" if value else "" for value in (here, by_hand))
-        ratio = f"{here / by_hand:.1f}" if by_hand else ""
-        print(f"| {name} | {number}{unit} | {hand}{unit if hand else ''} | {ratio} | {crate} |", flush=True)
+        """A row: what some things take here, what one takes by hand, if there is that, and the ratios."""
+        numbers = "; ".join(f"{number:,.0f}" for number in here) + unit
+        ratios = "; ".join(f"{number / by_hand:.1f}" for number in here) if by_hand else ""
+        print(f"| {name} | {numbers} | {f'{by_hand:,.0f}{unit}' if by_hand else ''} | {ratios} | {crate} |", flush=True)
 
     os.sched_setaffinity(0, {max(os.sched_getaffinity(0))})
     times.heading("", "Here", "By hand in C", "Ratio", "The Rust crate")
     by_hand = built(f"{made}/build", 64)
-    for name, corpus, measurement, crate in [
-        ("build UDP over IPv4 from addresses", "udp64", BUILDING[1], 954),
-        ("TCP over IPv4", "tcp64", BUILDING[1], 1406),
-        ("UDP over IPv6", "udp64ipv6", BUILDING[1], 1811),
-        ("UDP over IPv4, `size`, then `write`", "udp64", "building-with-size", 1158),
-    ]:
-        row(name, measured(program, f"{folder}/{corpus}", measurement), by_hand, f"{crate:,} ({crate / 540:.1f})")
-    if os.path.exists(ARCHIVE):
-        row("`etherparse_build_udp`, 22 bytes", built(f"{made}/build_by_etherparse", 22), built(f"{made}/build", 22), "")
+    here = [measured(program, f"{folder}/{corpus}", times.BUILDING[1]) for corpus in ("udp64", "tcp64", "udp64ipv6")]
+    row("build UDP over IPv4, TCP over IPv4, UDP over IPv6", here, by_hand, "954; 1,406; 1,811 (1.8; 2.6; 3.4)")
     file = f"{folder}/udp64"
+    row("UDP over IPv4: `size`, then `write`", [measured(program, file, "building-with-size")], by_hand, "1,158 (2.1)")
+    if os.path.exists(ARCHIVE):
+        here = built(f"{made}/build_by_etherparse", 22)
+        row("`etherparse_build_udp`, 22 bytes", [here], built(f"{made}/build", 22), "")
+    names = times.MEASUREMENTS[:3]
     walk = an_item([f"{made}/walk", file], [], r"(\d+) frames")
-    for name in MEASUREMENTS[:3]:
-        row(f"`{name}`", measured(program, file, name), walk, f"249 ({249 / 124:.1f})")
+    row(", ".join(f"`{name}`" for name in names), [measured(program, file, name) for name in names], walk, "249 (2.0)")
+    names = ["decoding", "rereading"]
     walk = times.least(r"([\d.]+) ns", f"{made}/walk", file, 1000)
-    for name, part in [("decoding", 0.72), ("rereading", 0.45)]:
-        here = times.least(rf"{name} +\d+ +\d+ +([\d.]+)", program, file, 1000, name)
-        row(f"`{name}`", here, walk, f"{1 / part:.1f} times as long as here", " ns")
-    for name, corpus, part in [("one stream", "ascending", 0.56), ("1,000 streams in turn", "interleaved", 0.58)]:
-        here, hand = fragment_counts(program, made, f"{folder}/{corpus}")
-        row(f"a fragment, {name}", here, hand, f"{1 / part:.1f} times as many as here")
-    here, hand = fragments_in_time(program, made, f"{folder}/crowd", 5)
-    row("a fragment, 100,000 streams in turn", here, hand, "slower than here", " ns")
-    one, in_turn, at_once = memory_of_streams(program, made)
-    row("memory of an open stream: one fragment of 64 bytes", one, None, "567 bytes", " bytes")
-    row("two of them, one stream after the other", in_turn, None, "351 bytes", " bytes")
-    row("two of them, all begun before one goes on", at_once, None, "", " bytes")
+    here = [times.least(rf"{name} +\d+ +\d+ +([\d.]+)", program, file, 1000, name) for name in names]
+    row(", ".join(f"`{name}`" for name in names), here, walk, "1.4; 2.2 times as long as here", " ns")
+    for name, corpus, crate in [
+        ("of one stream", "ascending", "1.8 times as many as here"),
+        ("of 1,000 streams in turn", "interleaved", "1.7 times as many as here (100 streams)"),
+    ]:
+        here, by_hand = fragment_counts(program, made, f"{folder}/{corpus}")
+        row(f"a fragment {name}", [here], by_hand, crate)
+    here, by_hand = fragments_in_time(program, made, f"{folder}/crowd", 5)
+    row("a fragment of 100,000 streams in turn", [here], by_hand, "slower than here", " ns")
+    name = "memory of an open stream: one fragment of 64 bytes; two; two, all begun before one goes on"
+    row(name, memory_of_streams(program, made), None, "567; 351 bytes", " bytes")
     if os.path.exists(FRAME_BENCH):
-        row("a drop that keeps all of 100,000 streams", drop_of_none(), None, "", " µs")
+        row("a drop that keeps all of 100,000 streams", [drop_of_none()], None, "", " µs")
 
 
 def main(program, folder, only=None):
