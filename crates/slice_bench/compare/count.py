@@ -97,7 +97,8 @@ def most_memory(command):
 def fragment(stream, place):
     """The frame of a fragment of 64 bytes of a stream that has others behind it, with its length in front."""
     ethernet = bytes(12) + b"\x08\x00"
-    ipv4 = struct.pack(">BBHHHBBHII", 0x45, 0, 84, stream & 0xFFFF, 0x2000 | 8 * place, 64, 17, 0, 1 + (stream >> 16), 2)
+    name, flags = stream & 0xFFFF, 0x2000 | 8 * place
+    ipv4 = struct.pack(">BBHHHBBHII", 0x45, 0, 84, name, flags, 64, 17, 0, 1 + (stream >> 16), 2)
     return struct.pack("<I", 98) + ethernet + ipv4 + bytes(64)
 
 
