@@ -30,7 +30,7 @@ use Rattle.ep_packet.specs.declared.entry.Entry.TheVariants.{Ethernet as etherne
 use Rattle.ep_packet.specs.Frame.{NetKind, only_ipv4, only_ipv6, only_arp, any_ip, net_kind, most_link_exts}
 use Rattle.ep_packet.specs.FrameBytes.{AreInOrder, EncodesLink, EncodesNet, behind_net, inner_payload, link_payload, payload_behind}
 use Rattle.ep_packet.specs.Layers.{Layers, NetLayer, arp, ipv4_layer, ipv6_layer}
-use Rattle.ep_lax.specs.Lax.{IsCutLaxly, IsHeaderCutLaxly, IsInsideIp, IsIpv4Net, IsIpv6Net, IsLax, IsLaxExtension, IsLaxInside, IsLaxNet, IsLaxTransport, arp_net}
+use Rattle.ep_lax.specs.Lax.{IsCutLaxly, IsHeaderCutLaxly, IsInsideIp, IsIpv4Net, IsIpv6Net, IsLax, IsLaxExtension, IsLaxInside, IsLaxNet, IsLaxTransport}
 use Rattle.ep_lax.specs.LaxIp.{LaxIp, IsLaxIpv4, IsLaxIpv6}
 use Rattle.ep_lax.specs.LaxLayers.{LaxLayers, LaxNet, LaxTransport}
 use Rattle.ep_lax.specs.StrictFrames.{extension_in, layers_in}

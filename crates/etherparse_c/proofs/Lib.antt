@@ -1,4 +1,5 @@
 pub mod HeldStepLemmas
+pub mod LaxLemmas
 pub mod ManyLemmas
 pub mod SentLemmas
 pub mod PlaceLemmas

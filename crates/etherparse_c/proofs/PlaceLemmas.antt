@@ -1,22 +1,23 @@
 -- Where in a frame the bytes are that C is told of.
 use Rattle.std.proofs.Common.{◌≡◌, ℕ, ◌+◌, ◌-◌, ◌≤◌, List, [], ◌∷◌, ◌++◌, length, take, drop, Option, refl, sym, ap, subst, ◌∙◌, arith, append_assoc, length-append}
 use Rattle.std.proofs.Math.Seq.{drop-append_seam, take-append_seam}
-use Rattle.etherparse.specs.Readings.{Reading, slices}
 use Rattle.etherparse.specs.LinkExtensions.{LinkExtension, EncodesTag}
 use Rattle.etherparse.specs.LinkSlices.{LinkLayer}
 use Rattle.etherparse.specs.TransportParts.{TransportLayer, EncodesTransport}
 use Rattle.etherparse.specs.Types.Entry.{Entry}
-use Rattle.etherparse.specs.Frame.{IsFrame, IsFrameIn}
+use Rattle.etherparse.specs.Frame.{IsFrame}
 use Rattle.etherparse.specs.FrameBytes.{AreInOrder, EncodesLink, EncodesNet, EncodesTags, last_payload}
+use Rattle.etherparse.specs.Lax.{IsLax}
+use Rattle.etherparse.specs.LaxLayers.{LaxLayers}
 use Rattle.etherparse.specs.Layers.{Layers, NetLayer}
+use Rattle.etherparse.specs.StrictFrames.{layers_in}
 use Rattle.etherparse_c.specs.declared.packet.Packet.{Packet}
 use Rattle.etherparse_c.specs.Description.{description, link_len, net_len, net_offset, payload_offset, tag_len, tags_len, transport_len, transport_offset}
-use Rattle.etherparse_c.specs.Places.{AreTagsAt, Describes, bytes_at}
+use Rattle.etherparse_c.specs.LaxAnswers.{DescribesLax, lax_description}
+use Rattle.etherparse_c.specs.Places.{AreAt, AreTagsAt, Describes, bytes_at}
 
--- what the laws of frames say: the bytes are in order, and those that encode a header are as many as it says
-pub record FrameLaws : Type 0 where
-  pub order : (reading : Reading) (entry : Entry) (bytes : List ℕ) (layers : Layers)
-      → IsFrameIn reading entry bytes layers → AreInOrder bytes layers
+-- what the law of headers says: the bytes that encode one are as many as it says
+pub record HeaderLens : Type 0 where
   pub link : (layer : Option LinkLayer) (bytes : List ℕ) → EncodesLink layer bytes → length bytes ≡ link_len layer
   pub tag : (extension : LinkExtension) (bytes : List ℕ) → EncodesTag extension bytes
       → length bytes ≡ tag_len extension
@@ -38,7 +39,7 @@ bytes_behind bytes front part behind offset len same front_len part_len =
     ∙ take-append_seam part behind
 
 -- tags that stand one after the other behind other bytes
-tags_behind : FrameLaws → (bytes front tags behind : List ℕ) (offset : ℕ) (extensions : List LinkExtension)
+tags_behind : HeaderLens → (bytes front tags behind : List ℕ) (offset : ℕ) (extensions : List LinkExtension)
     → bytes ≡ front ++ (tags ++ behind) → length front ≡ offset → EncodesTags extensions tags
     → AreTagsAt bytes offset extensions
 tags_behind laws bytes front tags behind offset [] same front_len encodes = tt
@@ -60,7 +61,7 @@ record Lens (bytes : List ℕ) (layers : Layers) (order : AreInOrder bytes layer
   net : length ((order.link ++ order.tags) ++ order.net) ≡ transport_offset layers
   transport : length (((order.link ++ order.tags) ++ order.net) ++ order.transport) ≡ payload_offset layers
 
-lens : FrameLaws → (bytes : List ℕ) (layers : Layers) (order : AreInOrder bytes layers) → Lens bytes layers order
+lens : HeaderLens → (bytes : List ℕ) (layers : Layers) (order : AreInOrder bytes layers) → Lens bytes layers order
 lens laws bytes layers order =
     let link = laws.link layers.link order.link order.link_header in
     let tags = laws.tags layers.link_exts order.tags order.tag_headers in
@@ -94,29 +95,24 @@ grouped bytes layers order =
       payload = transport ∙ sym (append_assoc ((order.link ++ order.tags) ++ order.net) order.transport _);
     }
 
--- the payload of a frame's last layer ends within the frame
-pub within : FrameLaws → (entry : Entry) (bytes : List ℕ) (layers : Layers) → IsFrame entry bytes layers
+-- the payload of the last layer ends within the bytes
+pub within : HeaderLens → (bytes : List ℕ) (layers : Layers) → AreInOrder bytes layers
     → payload_offset layers + length (last_payload layers) ≤ length bytes
-within laws entry bytes layers frame =
-    let order = laws.order slices entry bytes layers frame in
-    omega (
-      arith,
-      ap length (grouped bytes layers order).payload,
-      (lens laws bytes layers order).transport,
-      length-append (((order.link ++ order.tags) ++ order.net) ++ order.transport) (last_payload layers ++ order.left),
-      length-append (last_payload layers) order.left,
-    )
+within laws bytes layers order = omega (
+  arith,
+  ap length (grouped bytes layers order).payload,
+  (lens laws bytes layers order).transport,
+  length-append (((order.link ++ order.tags) ++ order.net) ++ order.transport) (last_payload layers ++ order.left),
+  length-append (last_payload layers) order.left,
+)
 
--- what is said of a frame is where its layers are
-describes : FrameLaws → (entry : Entry) (bytes : List ℕ) (layers : Layers) → IsFrame entry bytes layers
-    → Describes entry bytes layers (description layers)
-describes laws entry bytes layers frame =
-    let order = laws.order slices entry bytes layers frame in
+-- what is said of layers is where they are
+pub are_at : HeaderLens → (bytes : List ℕ) (layers : Layers) → AreInOrder bytes layers
+    → AreAt bytes layers (description layers)
+are_at laws bytes layers order =
     let len = lens laws bytes layers order in
     let group = grouped bytes layers order in
     record {
-      frame = frame;
-      numbers = refl;
       link = subst (EncodesLink layers.link)
           (sym (bytes_behind bytes [] order.link _ 0 (link_len layers.link) order.parts refl len.link))
           order.link_header;
@@ -136,8 +132,36 @@ describes laws entry bytes layers frame =
           refl);
     }
 
--- the same of any packet that says it
-pub places : FrameLaws → (entry : Entry) (bytes : List ℕ) (layers : Layers) (packet : Packet)
-    → IsFrame entry bytes layers → packet ≡ description layers → Describes entry bytes layers packet
-places laws entry bytes layers packet frame same =
-    subst (Describes entry bytes layers) (sym same) (describes laws entry bytes layers frame)
+-- the same of any packet that says it of a frame
+pub places : HeaderLens → (entry : Entry) (bytes : List ℕ) (layers : Layers) (packet : Packet)
+    → IsFrame entry bytes layers → AreInOrder bytes layers → packet ≡ description layers
+    → Describes entry bytes layers packet
+places laws entry bytes layers packet frame order same =
+    let at = are_at laws bytes layers order in
+    subst (Describes entry bytes layers) (sym same) (record {
+      frame = frame;
+      numbers = refl;
+      link = at.link;
+      tags = at.tags;
+      net = at.net;
+      transport = at.transport;
+      payload = at.payload;
+    })
+
+-- and of one that says it of what is read laxly
+pub lax_places : HeaderLens → (entry : Entry) (bytes : List ℕ) (read : LaxLayers) (packet : Packet)
+    → IsLax entry bytes read → AreInOrder bytes (layers_in read) → packet ≡ lax_description read
+    → DescribesLax entry bytes read packet
+lax_places laws entry bytes read packet is order same =
+    let at = are_at laws bytes (layers_in read) order in
+    subst (DescribesLax entry bytes read) (sym same) (record {
+      is = is;
+      numbers = refl;
+      places = record {
+        link = at.link;
+        tags = at.tags;
+        net = at.net;
+        transport = at.transport;
+        payload = at.payload;
+      };
+    })

@@ -302,6 +302,7 @@ plain_described link tags net transport ip offset old new shown uncut place link
       };
       payload = record {
         len_source = source_number (cut_by (end i) (header_end transport.header));
+        incomplete = 0;
         offset = place i + len i + (plain_told offset ip transport old).transport.len;
         len = length transport.payload;
       };

@@ -230,12 +230,27 @@ no_refusal = record {
   layer_start_offset = 0;
 }
 
--- the payload of the last layer
+-- the payload of the last layer, of which a frame misses no byte
 abbrev pub payload_part : Layers → Payload
 payload_part layers = record {
   len_source = source_number (payload_end layers);
+  incomplete = 0;
   offset = payload_offset layers;
   len = length (last_payload layers);
+}
+
+-- what is said of the headers of a packet, of which these are those up to the net layer's, beside what was said of the
+-- payload and of a refusal: the transport header begins where the net header ends
+abbrev pub with_headers : Part → List LinkExt → ℕ → Part → Ip → Option TransportLayer → Packet → Packet
+with_headers link link_exts count net ip transport told = record told {
+  link = link;
+  link_exts = link_exts;
+  link_ext_count = count;
+  source_port = source_port_in transport;
+  destination_port = destination_port_in transport;
+  net = net;
+  ip = ip;
+  transport = part (transport_kind transport) (net.offset + net.len) (transport_len transport);
 }
 
 -- what is said of a frame of these layers

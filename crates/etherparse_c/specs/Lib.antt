@@ -2,6 +2,7 @@ pub mod Description
 pub mod Places
 pub mod RefusalNumbers
 pub mod SliceAnswers
+pub mod LaxAnswers
 pub mod ManyAnswers
 pub mod Building
 pub mod TaggedBuilding

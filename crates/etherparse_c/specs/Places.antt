@@ -21,6 +21,15 @@ AreTagsAt bytes offset (extension ∷ others) =
     EncodesTag extension (bytes_at bytes offset (tag_len extension))
     × AreTagsAt bytes (offset + tag_len extension) others
 
+-- At the place that a packet says of a header, the bytes are that header's, up to its reserved bits, and at that of the
+-- payload they are the payload.
+pub record AreAt (bytes : List ℕ) (layers : Layers) (packet : Packet) : Type 0 where
+  pub link : EncodesLink layers.link (bytes_at bytes packet.link.offset packet.link.len)
+  pub tags : AreTagsAt bytes packet.link.len layers.link_exts
+  pub net : EncodesNet layers.net (bytes_at bytes packet.net.offset packet.net.len)
+  pub transport : EncodesTransport layers.transport (bytes_at bytes packet.transport.offset packet.transport.len)
+  pub payload : last_payload layers ≡ bytes_at bytes packet.payload.offset packet.payload.len
+
 -- The bytes are a frame of these layers, and the packet says what they are. At the place that it says of a header, the
 -- bytes are that header's, up to its reserved bits, and at that of the payload they are the payload.
 pub record Describes (entry : Entry) (bytes : List ℕ) (layers : Layers) (packet : Packet) : Type 0 where

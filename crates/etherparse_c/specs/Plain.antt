@@ -82,6 +82,7 @@ plain_told offset ip transport told = record told {
   transport = part (header_kind transport.header) (offset + ip.len) (transport_header_len transport.header);
   payload = record {
     len_source = source_number (cut_by ip.end (header_end transport.header));
+    incomplete = 0;
     offset = offset + ip.len + transport_header_len transport.header;
     len = length transport.payload;
   };

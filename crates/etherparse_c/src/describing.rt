@@ -1,20 +1,19 @@
 //! What C is told of the layers of a frame.
 
-ghost use Rattle.std.specs.Prelude.{◌≡◌, ◌+◌, ◌<◌, ◌≤◌, ◌^◌, length, map};
+ghost use Rattle.std.specs.Prelude.{◌≡◌, ◌+◌, ◌<◌, ◌^◌};
 ghost use Rattle.std.specs.Option.{option_map};
-ghost use Rattle.etherparse.specs.LinkExtensions.{link_extension_of};
 ghost use Rattle.etherparse.specs.LinkSlices.{link_layer_of};
 ghost use Rattle.etherparse.specs.Layers.{layers_of, net_layer_of};
-ghost use Rattle.etherparse.specs.Payloads.{extensions_len_source};
 ghost use Rattle.etherparse.specs.TransportParts.{transport_layer_of};
-ghost use Rattle.etherparse_c.specs.Description.{description, destination_port_in, link_part, net_end, no_refusal, no_tag, part};
-ghost use Rattle.etherparse_c.specs.Description.{payload_end, payload_offset, source_number, source_port_in, tag_part};
-ghost use Rattle.etherparse_c.specs.Description.{tag_slots, tags_len, transport_end, transport_kind, transport_len};
+ghost use Rattle.etherparse_c.specs.Description.{description, destination_port_in, link_part, net_end, no_refusal, part};
+ghost use Rattle.etherparse_c.specs.Description.{payload_end, payload_offset, source_number, source_port_in};
+ghost use Rattle.etherparse_c.specs.Description.{transport_end, transport_kind, transport_len, with_headers};
 
 use crate::net_part::{ip_part, net_part};
 use crate::numbers;
-use crate::packet::{LinkExt, Packet, Part, Payload, Refusal};
-use etherparse::{LenSource, LinkExtSlice, LinkSlice, NetSlice, SlicedPacket, TransportSlice};
+use crate::packet::{Ip, LinkExt, Packet, Part, Payload, Refusal};
+use crate::tags::placed_tags;
+use etherparse::{LenSource, LinkSlice, NetSlice, SlicedPacket, TransportSlice};
 
 /// Says what the layers of a packet are, field by field, so that no packet is built beside this one.
 #[inline(always)]
@@ -24,25 +23,47 @@ pub(crate) fn describe(told: &mut Packet, packet: &SlicedPacket<'_>)
 {
     let link = link_part(&packet.link);
     let tags = placed_tags(packet.link_exts.as_slice(), link.len);
-    let link_exts = tags.slots;
+    let count = packet.link_exts.len() as u32;
     let net = net_part(&packet.net, tags.end);
-    let transport_offset = net.offset + net.len;
-    let transport = transport_part(&packet.transport, transport_offset);
-    let payload_offset = transport_offset + transport.len;
-    told.link = link;
-    told.link_exts = link_exts;
-    told.link_ext_count = packet.link_exts.len() as u32;
-    told.source_port = source_port(&packet.transport);
-    told.destination_port = destination_port(&packet.transport);
-    told.net = net;
-    told.ip = ip_part(&packet.net);
-    told.transport = transport;
+    let ip = ip_part(&packet.net);
+    let offset = tell_headers(told, link, tags.slots, count, net, ip, &packet.transport);
     told.payload = Payload {
         len_source: source_number(payload_end(packet)),
-        offset: payload_offset,
+        incomplete: 0,
+        offset,
         len: packet.payload().len(),
     };
     told.refusal = no_refusal();
+}
+
+/// Says what the headers of a packet are, of which these are those up to the net layer's: field by field. Answers how
+/// far behind the frame's start its payload begins.
+#[inline(always)]
+pub(crate) fn tell_headers(
+    told: &mut Packet,
+    link: Part,
+    link_exts: [LinkExt; 3],
+    link_ext_count: u32,
+    net: Part,
+    ip: Ip,
+    transport: &Option<TransportSlice<'_>>,
+) -> usize
+    requires { net.offset + net.len + transport_len (option_map transport_layer_of transport.now) < 2 ^ 64 }
+    ensures told { told.new ≡ with_headers link link_exts link_ext_count net ip
+        (option_map transport_layer_of transport.now) told.old }
+    ensures offset { result ≡ net.offset + net.len + transport_len (option_map transport_layer_of transport.now) }
+{
+    let transport_offset = net.offset + net.len;
+    let part = transport_part(transport, transport_offset);
+    told.link = link;
+    told.link_exts = link_exts;
+    told.link_ext_count = link_ext_count;
+    told.source_port = source_port(transport);
+    told.destination_port = destination_port(transport);
+    told.net = net;
+    told.ip = ip;
+    told.transport = part;
+    transport_offset + part.len
 }
 
 /// What is said where nothing is refused.
@@ -63,7 +84,7 @@ pub(crate) fn no_refusal() -> Refusal
 
 /// The link header, with which a frame begins.
 #[inline(always)]
-fn link_part(link: &Option<LinkSlice<'_>>) -> Part
+pub(crate) fn link_part(link: &Option<LinkSlice<'_>>) -> Part
     ensures { result ≡ link_part (option_map link_layer_of link.now) }
 {
     match link {
@@ -81,86 +102,6 @@ fn link_part(link: &Option<LinkSlice<'_>>) -> Part
             kind: 0,
             offset: 0,
             len: 0,
-        },
-    }
-}
-
-/// The places for tags, and how far behind the frame's start the tags end.
-#[derive(Drop)]
-struct Tags {
-    slots: [LinkExt; 3],
-    end: usize,
-}
-
-/// The tags of link extensions, of which the first begins `offset` bytes behind the frame's start.
-#[inline(always)]
-fn placed_tags(extensions: &[LinkExtSlice<'_>], offset: usize) -> Tags
-    requires most { length extensions.now ≤ 3 }
-    requires place { offset + tags_len (map link_extension_of extensions.now) < 2 ^ 64 }
-    ensures slots { result.slots ≡ tag_slots offset (map link_extension_of extensions.now) }
-    ensures end { result.end ≡ offset + tags_len (map link_extension_of extensions.now) }
-{
-    let Some((first, others)) = extensions.split_first() else {
-        return Tags {
-            slots: [no_tag(), no_tag(), no_tag()],
-            end: offset,
-        };
-    };
-    let outer = tag_part(first, offset);
-    let behind_outer = offset + outer.len;
-    let Some((second, others)) = others.split_first() else {
-        return Tags {
-            slots: [outer, no_tag(), no_tag()],
-            end: behind_outer,
-        };
-    };
-    let middle = tag_part(second, behind_outer);
-    let behind_middle = behind_outer + middle.len;
-    let Some((third, _)) = others.split_first() else {
-        return Tags {
-            slots: [outer, middle, no_tag()],
-            end: behind_middle,
-        };
-    };
-    let inner = tag_part(third, behind_middle);
-    let end = behind_middle + inner.len;
-    Tags {
-        slots: [outer, middle, inner],
-        end,
-    }
-}
-
-/// The place of a tag that is not there.
-#[inline(always)]
-pub(crate) fn no_tag() -> LinkExt
-    ensures { result ≡ no_tag }
-{
-    LinkExt {
-        kind: 0,
-        vlan_id: 0,
-        offset: 0,
-        len: 0,
-    }
-}
-
-/// The tag of a link extension that begins `offset` bytes behind the frame's start.
-#[inline(always)]
-fn tag_part(extension: &LinkExtSlice<'_>, offset: usize) -> LinkExt
-    ensures { result ≡ tag_part offset (link_extension_of extension.now) }
-{
-    let len = extension.header_len();
-    match extension {
-        LinkExtSlice::Vlan(tag) => LinkExt {
-            kind: numbers::EXT_VLAN,
-            vlan_id: tag.vlan_identifier().value(),
-            offset,
-            len,
-        },
-        LinkExtSlice::Macsec(_) => LinkExt {
-            kind: numbers::EXT_MACSEC,
-            vlan_id: 0,
-            offset,
-            len,
         },
     }
 }
@@ -229,23 +170,8 @@ fn destination_port(transport: &Option<TransportSlice<'_>>) -> u16
 fn payload_end(packet: &SlicedPacket<'_>) -> LenSource
     ensures { result ≡ payload_end (layers_of packet.now) }
 {
-    let outer = extensions_end(packet.link_exts.as_slice());
+    let outer = packet.extensions_len_source();
     transport_end(&packet.transport).cut_by(net_end(&packet.net).cut_by(outer))
-}
-
-/// What set the end of what lies behind link extensions.
-#[inline(always)]
-fn extensions_end(extensions: &[LinkExtSlice<'_>]) -> LenSource
-    ensures { result ≡ extensions_len_source (map link_extension_of extensions.now) }
-{
-    for extension in extensions {
-        if let LinkExtSlice::Macsec(packet) = extension {
-            if packet.header.short_len().value() > 0 {
-                return LenSource::MacsecShortLength;
-            }
-        }
-    }
-    LenSource::Slice
 }
 
 /// What the net layer's own fields set the end of its payload by.

@@ -3,9 +3,13 @@
 ghost use Rattle.std.specs.Prelude.{◌≡◌, ◌+◌, ◌<◌, ◌≤◌, ◌^◌, ℕ, nat_eq, List, length, Option, None, Some};
 ghost use Rattle.etherparse.specs.Frame.{IsFrame};
 ghost use Rattle.etherparse.specs.FrameBytes.{last_payload};
+ghost use Rattle.etherparse.specs.Lax.{IsLax};
+ghost use Rattle.etherparse.specs.LaxLayers.{LaxLayers};
 ghost use Rattle.etherparse.specs.Layers.{Layers};
 ghost use Rattle.etherparse.specs.Pools.{HoldsTable, limit_of};
+ghost use Rattle.etherparse.specs.StrictFrames.{layers_in};
 ghost use Rattle.etherparse_c.specs.Description.{description, payload_offset};
+ghost use Rattle.etherparse_c.specs.LaxAnswers.{DescribesLax, lax_description};
 ghost use Rattle.etherparse_c.specs.Places.{Describes};
 ghost use Rattle.etherparse_c.specs.PoolAnswers.{IsPushAnswer, Table, pool_of, waiting_in};
 ghost use Rattle.etherparse_c.specs.RefusalTexts.{AreTextsOfRefusals, text_told};
@@ -27,6 +31,27 @@ pub fn frame_places()
 {
     etherparse::laws::packet::frame_bytes();
     etherparse::laws::packet::header_lens();
+}
+
+/// The bytes of what is read laxly stand where its description says, and the last payload ends within the bytes. It
+/// follows from the laws of the library, which the body names.
+pub fn lax_places()
+    ensures places { (entry : Entry) (bytes : List ℕ) (read : LaxLayers) (packet : Packet)
+        → IsLax entry bytes read → packet ≡ lax_description read → DescribesLax entry bytes read packet }
+    ensures within { (entry : Entry) (bytes : List ℕ) (read : LaxLayers) → IsLax entry bytes read
+        → payload_offset (layers_in read) + length (last_payload (layers_in read)) ≤ length bytes }
+{
+    etherparse::laws::lax::lax_bytes();
+    etherparse::laws::packet::header_lens();
+}
+
+/// Of a frame that is read laxly the same is told. It follows from the library's law of these frames, which the body
+/// names.
+pub fn frames_read_laxly()
+    ensures { (entry : Entry) (bytes : List ℕ) (layers : Layers) → IsFrame entry bytes layers
+        → (read : LaxLayers) × IsLax entry bytes read × (lax_description read ≡ description layers) }
+{
+    etherparse::laws::lax::strict_frames();
 }
 
 /// What C is told of a refusal has the refusal's text.

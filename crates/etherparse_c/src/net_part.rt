@@ -1,94 +1,74 @@
 //! What C is told of the net layer.
 
-ghost use Rattle.std.specs.Prelude.{◌≡◌, ◌+◌, ◌<◌, ◌^◌};
+ghost use Rattle.std.specs.Prelude.{◌≡◌};
 ghost use Rattle.std.specs.Option.{option_map};
 ghost use Rattle.etherparse.specs.Bytes.{bit};
 ghost use Rattle.etherparse.specs.FragmentHeaderSlices.{fragment_slice_header};
-ghost use Rattle.etherparse.specs.Ipv6ExtensionSlices.{extension_slice_part, ipv6_slice_parts};
-ghost use Rattle.etherparse.specs.ExtensionParts.{part_len};
-ghost use Rattle.etherparse.specs.Ipv4.{ipv4_header_len};
-ghost use Rattle.etherparse.specs.Ipv4Slices.{ipv4_slice_extensions, ipv4_slice_header, ipv4_slice_payload};
-ghost use Rattle.etherparse.specs.Ipv6Slices.{ipv6_slice_extensions, ipv6_slice_payload};
+ghost use Rattle.etherparse.specs.IpPayload.{IpPayload};
+ghost use Rattle.etherparse.specs.Ipv6ExtensionSlices.{ipv6_slice_parts};
+ghost use Rattle.etherparse.specs.Ipv4Slices.{ipv4_header_slice_header, ipv4_slice_header, ipv4_slice_payload};
 ghost use Rattle.etherparse.specs.FrameFragments.{first_fragment};
+ghost use Rattle.etherparse.specs.LaxSlices.{lax_ipv4_slice_header, lax_ipv4_slice_payload};
+ghost use Rattle.etherparse.specs.LaxViews.{lax_net_layer_of};
 ghost use Rattle.etherparse.specs.Layers.{net_layer_of};
-ghost use Rattle.etherparse_c.specs.Description.{ip_in, ipv4_part, ipv6_part, net_kind, net_len, part, parts_len};
+ghost use Rattle.etherparse_c.specs.Description.{ip_in, ipv4_part, ipv6_part, net_kind, net_len, no_ip, part};
 
 use crate::numbers;
 use crate::packet::{Ip, Part};
 use etherparse::{
-    Ipv4Slice, Ipv6ExtensionSlice, Ipv6ExtensionsSlice, Ipv6FragmentHeaderSlice, Ipv6Header,
-    Ipv6Slice, NetSlice,
+    IpNumber, Ipv4HeaderSlice, Ipv4Slice, Ipv6ExtensionSlice, Ipv6ExtensionsSlice,
+    Ipv6FragmentHeaderSlice, Ipv6Header, LaxIpv4Slice, LaxNetSlice, NetSlice,
 };
 
 /// The IP header with its extension headers, or the ARP packet, which begins `offset` bytes behind the frame's start.
 #[inline(always)]
 pub(crate) fn net_part(net: &Option<NetSlice<'_>>, offset: usize) -> Part
-    requires { net_len (option_map net_layer_of net.now) < 2 ^ 64 }
     ensures { let layer = option_map net_layer_of net.now in
         result ≡ part (net_kind layer) offset (net_len layer) }
 {
-    match net {
-        Some(NetSlice::Ipv4(packet)) => Part {
-            kind: numbers::NET_IPV4,
-            offset,
-            len: ipv4_len(packet),
+    let Some(net) = net else {
+        return no_net_part(offset);
+    };
+    Part {
+        kind: match net {
+            NetSlice::Ipv4(_) => numbers::NET_IPV4,
+            NetSlice::Ipv6(_) => numbers::NET_IPV6,
+            NetSlice::Arp(_) => numbers::NET_ARP,
         },
-        Some(NetSlice::Ipv6(packet)) => Part {
-            kind: numbers::NET_IPV6,
-            offset,
-            len: Ipv6Header::LEN + extensions_len(packet.extensions()),
-        },
-        Some(NetSlice::Arp(packet)) => Part {
-            kind: numbers::NET_ARP,
-            offset,
-            len: packet.packet_len(),
-        },
-        None => Part {
-            kind: 0,
-            offset,
-            len: 0,
-        },
+        offset,
+        len: net.header_len(),
     }
 }
 
-/// The number of bytes of the headers of an IPv4 packet.
+/// The same of what is read laxly.
 #[inline(always)]
-fn ipv4_len(packet: &Ipv4Slice<'_>) -> usize
-    requires { ipv4_header_len (ipv4_slice_header packet.now) + parts_len (ipv4_slice_extensions packet.now) < 2 ^ 64 }
-    ensures { result
-        ≡ ipv4_header_len (ipv4_slice_header packet.now) + parts_len (ipv4_slice_extensions packet.now) }
+pub(crate) fn lax_net_part(net: &Option<LaxNetSlice<'_>>, offset: usize) -> Part
+    ensures { let layer = option_map lax_net_layer_of net.now in
+        result ≡ part (net_kind layer) offset (net_len layer) }
 {
-    let header_len = packet.header().header_len();
-    match &packet.extensions().auth {
-        Some(header) => header_len + header.header_len(),
-        None => header_len,
+    let Some(net) = net else {
+        return no_net_part(offset);
+    };
+    Part {
+        kind: match net {
+            LaxNetSlice::Ipv4(_) => numbers::NET_IPV4,
+            LaxNetSlice::Ipv6(_) => numbers::NET_IPV6,
+            LaxNetSlice::Arp(_) => numbers::NET_ARP,
+        },
+        offset,
+        len: net.header_len(),
     }
 }
 
-/// The number of bytes of the extension headers of an IPv6 packet.
+/// The place of a net layer that is not there.
 #[inline(always)]
-fn extensions_len(extensions: Ipv6ExtensionsSlice<'_>) -> usize
-    requires { parts_len (ipv6_slice_parts extensions) < 2 ^ 64 }
-    ensures { result ≡ parts_len (ipv6_slice_parts extensions.entry) }
+fn no_net_part(offset: usize) -> Part
+    ensures { result ≡ part 0 offset 0 }
 {
-    let mut len = 0;
-    for extension in extensions {
-        len += extension_len(&extension);
-    }
-    len
-}
-
-/// The number of bytes of an extension header.
-#[inline(always)]
-fn extension_len(extension: &Ipv6ExtensionSlice<'_>) -> usize
-    ensures { result ≡ part_len (extension_slice_part extension.now) }
-{
-    match extension {
-        Ipv6ExtensionSlice::HopByHop(header) => header.header_len(),
-        Ipv6ExtensionSlice::Routing(header) => header.header_len(),
-        Ipv6ExtensionSlice::Fragment(header) => header.header_len(),
-        Ipv6ExtensionSlice::DestinationOptions(header) => header.header_len(),
-        Ipv6ExtensionSlice::Authentication(header) => header.header_len(),
+    Part {
+        kind: 0,
+        offset,
+        len: 0,
     }
 }
 
@@ -99,16 +79,42 @@ pub(crate) fn ip_part(net: &Option<NetSlice<'_>>) -> Ip
 {
     match net {
         Some(NetSlice::Ipv4(packet)) => ipv4_part(packet),
-        Some(NetSlice::Ipv6(packet)) => ipv6_part(packet),
-        Some(NetSlice::Arp(_)) | None => Ip {
-            version: 0,
-            number: 0,
-            fragmented: 0,
-            more_fragments: 0,
-            fragment_offset: 0,
-            identification: 0,
-            header_len: 0,
-        },
+        Some(NetSlice::Ipv6(packet)) => {
+            let payload = packet.payload();
+            ipv6_part(packet.extensions(), payload.ip_number, payload.fragmented)
+        }
+        Some(NetSlice::Arp(_)) | None => no_ip(),
+    }
+}
+
+/// The same of what is read laxly.
+#[inline(always)]
+pub(crate) fn lax_ip_part(net: &Option<LaxNetSlice<'_>>) -> Ip
+    ensures { result ≡ ip_in (option_map lax_net_layer_of net.now) }
+{
+    match net {
+        Some(LaxNetSlice::Ipv4(packet)) => lax_ipv4_part(packet),
+        Some(LaxNetSlice::Ipv6(packet)) => {
+            let payload = packet.payload();
+            ipv6_part(packet.extensions(), payload.ip_number, payload.fragmented)
+        }
+        Some(LaxNetSlice::Arp(_)) | None => no_ip(),
+    }
+}
+
+/// What is said where there is no IP packet.
+#[inline(always)]
+fn no_ip() -> Ip
+    ensures { result ≡ no_ip }
+{
+    Ip {
+        version: 0,
+        number: 0,
+        fragmented: 0,
+        more_fragments: 0,
+        fragment_offset: 0,
+        identification: 0,
+        header_len: 0,
     }
 }
 
@@ -117,12 +123,29 @@ pub(crate) fn ip_part(net: &Option<NetSlice<'_>>) -> Ip
 fn ipv4_part(packet: &Ipv4Slice<'_>) -> Ip
     ensures { result ≡ ipv4_part (ipv4_slice_header packet.now) (ipv4_slice_payload packet.now) }
 {
-    let header = packet.header();
     let payload = packet.payload();
+    ipv4_header_part(&packet.header(), payload.ip_number, payload.fragmented)
+}
+
+/// The same of one that is read laxly.
+#[inline(always)]
+fn lax_ipv4_part(packet: &LaxIpv4Slice<'_>) -> Ip
+    ensures { result ≡ ipv4_part (lax_ipv4_slice_header packet.now) (lax_ipv4_slice_payload packet.now) }
+{
+    let payload = packet.payload();
+    ipv4_header_part(&packet.header(), payload.ip_number, payload.fragmented)
+}
+
+/// What an IPv4 packet says, by its header, the number of its payload, and whether that is a fragment.
+#[inline(always)]
+fn ipv4_header_part(header: &Ipv4HeaderSlice<'_>, number: IpNumber, fragmented: bool) -> Ip
+    ensures { (payload : IpPayload) → payload.number ≡ number.0 → payload.fragmented ≡ fragmented
+        → result ≡ ipv4_part (ipv4_header_slice_header header.now) payload }
+{
     Ip {
         version: 4,
-        number: payload.ip_number.0,
-        fragmented: flag(payload.fragmented),
+        number: number.0,
+        fragmented: flag(fragmented),
         more_fragments: flag(header.more_fragments()),
         fragment_offset: header.fragment_offset().byte_offset(),
         identification: u32::from(header.identification()),
@@ -130,15 +153,15 @@ fn ipv4_part(packet: &Ipv4Slice<'_>) -> Ip
     }
 }
 
-/// What an IPv6 packet says, with its first fragment header, where it has one.
+/// What an IPv6 packet says, by its extension headers: with the first fragment header, where there is one.
 #[inline(always)]
-fn ipv6_part(packet: &Ipv6Slice<'_>) -> Ip
-    ensures { result ≡ ipv6_part (first_fragment (ipv6_slice_extensions packet.now)) (ipv6_slice_payload packet.now) }
+fn ipv6_part(extensions: Ipv6ExtensionsSlice<'_>, number: IpNumber, fragmented: bool) -> Ip
+    ensures { (payload : IpPayload) → payload.number ≡ number.0 → payload.fragmented ≡ fragmented
+        → result ≡ ipv6_part (first_fragment (ipv6_slice_parts extensions.entry)) payload }
 {
-    let payload = packet.payload();
-    let number = payload.ip_number.0;
-    let fragmented = flag(payload.fragmented);
-    match first_fragment_header(packet.extensions()) {
+    let number = number.0;
+    let fragmented = flag(fragmented);
+    match first_fragment_header(extensions) {
         Some(header) => Ip {
             version: 6,
             number,
@@ -177,7 +200,7 @@ fn first_fragment_header<'a>(
 
 /// A flag as C reads it.
 #[inline(always)]
-fn flag(is_set: bool) -> u8
+pub(crate) fn flag(is_set: bool) -> u8
     ensures { result ≡ bit is_set }
 {
     if is_set { 1 } else { 0 }

@@ -52,13 +52,15 @@ pub struct Ip {
 pub struct Payload {
     /// What set its end.
     pub len_source: u32,
+    /// 1 if bytes of it are missing that a length field says are there, of what is sliced laxly; else 0.
+    pub incomplete: u32,
     /// How far behind the frame's first byte it begins.
     pub offset: usize,
     /// The number of its bytes.
     pub len: usize,
 }
 
-/// Why bytes are no frame. For a frame, all of it is 0.
+/// Why bytes are no frame, or why lax slicing stops. For a frame, all of it is 0.
 #[repr(C)]
 #[derive(Clone, Copy)]
 pub struct Refusal {

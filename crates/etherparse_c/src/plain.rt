@@ -17,9 +17,10 @@ ghost use Rattle.etherparse.specs.Types.TransportHeader.TheVariants as transport
 ghost use Rattle.etherparse_c.specs.Description.{description, header_end};
 ghost use Rattle.etherparse_c.specs.Plain.{HasPlainIp, plain_payload, plain_told};
 
-use crate::describing::{no_refusal, no_tag, source_number};
+use crate::describing::{no_refusal, source_number};
 use crate::numbers;
 use crate::packet::{Ip, Packet, Part, Payload};
+use crate::tags::no_tag;
 use crate::vlans::place_vlans;
 use etherparse::{
     EtherType, Ethernet2Header, Ethernet2Slice, IpNumber, Ipv4HeaderSlice, Ipv6Header,
@@ -226,6 +227,7 @@ fn describe_ip(told: &mut Packet, offset: usize, ip: &PlainIp<'_>) -> bool
         };
         told.payload = Payload {
             len_source: source_number(datagram_end(&datagram).cut_by(ip.end)),
+            incomplete: 0,
             offset: transport_offset + UdpHeader::LEN,
             len: datagram.payload().len(),
         };
@@ -245,6 +247,7 @@ fn describe_ip(told: &mut Packet, offset: usize, ip: &PlainIp<'_>) -> bool
         };
         told.payload = Payload {
             len_source: source_number(ip.end),
+            incomplete: 0,
             offset: transport_offset + len,
             len: segment.payload().len(),
         };

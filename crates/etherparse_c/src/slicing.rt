@@ -73,14 +73,14 @@ pub(crate) fn entry_of(entry: u32, ether_type: u16) -> Option<Entry>
 }
 
 /// No layer, and no refusal.
-fn say_nothing(told: &mut Packet)
+pub(crate) fn say_nothing(told: &mut Packet)
     ensures { told.new ≡ nothing_said }
 {
     describe(told, &SlicedPacket::new());
 }
 
 /// No layer, and this refusal.
-fn say_refused(told: &mut Packet, error: &SliceError)
+pub(crate) fn say_refused(told: &mut Packet, error: &SliceError)
     ensures { told.new ≡ refused_packet error.now }
 {
     say_nothing(told);

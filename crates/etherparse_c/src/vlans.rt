@@ -1,14 +1,12 @@
 //! The VLAN tags of plain frames.
 
 ghost use Rattle.std.specs.Prelude.{◌≡◌, IfSome, List, length, true};
-ghost use Rattle.etherparse.specs.LinkExtensions.{IsVlanType, LinkExtension, vlan};
-ghost use Rattle.etherparse.specs.VlanSlices.{vlan_slice_header, vlan_slice_payload};
-ghost use Rattle.etherparse_c.specs.Description.{tag_part, tag_slots};
+ghost use Rattle.etherparse.specs.LinkExtensions.{IsVlanType, LinkExtension};
+ghost use Rattle.etherparse_c.specs.Description.{tag_slots};
 ghost use Rattle.etherparse_c.specs.Plain.{HasVlans};
 
-use crate::describing::no_tag;
-use crate::numbers;
 use crate::packet::LinkExt;
+use crate::tags::{no_tag, vlan_part};
 use etherparse::{EtherType, Ethernet2Header, SingleVlanHeader, SingleVlanSlice, ether_type};
 
 /// The bytes behind the tags of a frame of Ethernet II.
@@ -80,17 +78,4 @@ fn is_vlan(ether_type: EtherType) -> bool
             | ether_type::PROVIDER_BRIDGING
             | ether_type::VLAN_DOUBLE_TAGGED_FRAME
     )
-}
-
-/// A VLAN tag that begins `offset` bytes behind the frame's start.
-#[inline(always)]
-fn vlan_part(tag: &SingleVlanSlice<'_>, offset: usize) -> LinkExt
-    ensures { result ≡ tag_part offset (vlan (vlan_slice_header tag.now) (vlan_slice_payload tag.now)) }
-{
-    LinkExt {
-        kind: numbers::EXT_VLAN,
-        vlan_id: tag.vlan_identifier().value(),
-        offset,
-        len: SingleVlanHeader::LEN,
-    }
 }

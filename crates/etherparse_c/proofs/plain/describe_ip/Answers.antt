@@ -30,6 +30,7 @@ returns-then-eq c =
         transport = part 17 offset 8;
         payload = record {
           len_source = end i;
+          incomplete = 0;
           offset = offset + 8;
           len = length (c.payload.ensures i);
         };
@@ -57,6 +58,7 @@ returns-then-eq-2 c =
         transport = part 6 offset (20 + length (c.options.ensures.value i));
         payload = record {
           len_source = c.source_number-then-eq-2.ensures i;
+          incomplete = 0;
           offset = offset + (20 + length (c.options.ensures.value i));
           len = length (c.payload-then-eq-2.ensures i);
         };

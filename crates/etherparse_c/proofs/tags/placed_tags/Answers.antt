@@ -1,39 +1,38 @@
-use Rattle.std.proofs.Common.{rules, ◌≡◌, ◌+◌, ◌≤◌, List, [], ◌∷◌, length, ap, ◌∙◌, arith}
-use Rattle.etherparse.specs.Types.LinkExtSlice.{LinkExtSlice}
+use Rattle.std.proofs.Common.{rules, ◌≡◌, ◌+◌, ◌≤◌, [], ◌∷◌, length, ap, ◌∙◌, arith}
 use Rattle.etherparse_c.specs.declared.packet.LinkExt.{LinkExt}
 use Rattle.etherparse_c.proofs.TagLemmas.{no_more, is_last, two_slots, three_slots, two_len, three_len}
-use Rattle.etherparse_c.proofs.describing.placed_tags.Goals as goal
+use Rattle.etherparse_c.proofs.tags.placed_tags.Goals as goal
 
 pub returns-in_default-split_first-2-clause-slots :
     goal.returns-in_default-split_first-2-clause-slots
-returns-in_default-split_first-2-clause-slots c =
+returns-in_default-split_first-2-clause-slots g c =
     let none : length c.in-Some-split_first.others.now ≡ 0 = search rules in
     let same : c.args.extensions.now ≡ c.in-Some.first.now ∷ c.in-Some-split_first.second.now ∷ [] =
     c.in-Some.ensures.cases.0
-    ∙ ap (λ (l : List LinkExtSlice). c.in-Some.first.now ∷ l)
+    ∙ ap (λ l. c.in-Some.first.now ∷ l)
     (c.in-Some-split_first.ensures.cases.0
-    ∙ ap (λ (l : List LinkExtSlice). c.in-Some-split_first.second.now ∷ l) (no_more _ none)) in
-    two_slots c.args.offset c.args.extensions.now c.in-Some.first.now c.in-Some-split_first.second.now
+    ∙ ap (λ l. c.in-Some-split_first.second.now ∷ l) (no_more _ none)) in
+    two_slots g.Slice.TagSlice.extension c.args.offset c.args.extensions.now c.in-Some.first.now c.in-Some-split_first.second.now
     c.tag_part-outer.result c.tag_part-middle.result c.no_tag-in_default-split_first-2-2.result same
     c.tag_part-outer.ensures c.tag_part-middle.ensures c.no_tag-in_default-split_first-2-2.ensures
 
 pub returns-in_default-split_first-2-clause-end : goal.returns-in_default-split_first-2-clause-end
-returns-in_default-split_first-2-clause-end c =
+returns-in_default-split_first-2-clause-end g c =
     let none : length c.in-Some-split_first.others.now ≡ 0 = search rules in
     let same : c.args.extensions.now ≡ c.in-Some.first.now ∷ c.in-Some-split_first.second.now ∷ [] =
     c.in-Some.ensures.cases.0
-    ∙ ap (λ (l : List LinkExtSlice). c.in-Some.first.now ∷ l)
+    ∙ ap (λ l. c.in-Some.first.now ∷ l)
     (c.in-Some-split_first.ensures.cases.0
-    ∙ ap (λ (l : List LinkExtSlice). c.in-Some-split_first.second.now ∷ l) (no_more _ none)) in
+    ∙ ap (λ l. c.in-Some-split_first.second.now ∷ l) (no_more _ none)) in
     omega (
       arith,
-      two_len c.args.extensions.now c.in-Some.first.now c.in-Some-split_first.second.now same,
+      two_len g.Slice.TagSlice.extension c.args.extensions.now c.in-Some.first.now c.in-Some-split_first.second.now same,
       ap (λ (t : LinkExt). t.len) c.tag_part-outer.ensures,
       ap (λ (t : LinkExt). t.len) c.tag_part-middle.ensures,
     )
 
 pub overflow_add-end : goal.overflow_add-end
-overflow_add-end c =
+overflow_add-end g c =
     let first = c.in-Some.ensures.cases.0 in
     let second = c.in-Some-split_first.ensures.cases.0 in
     let third = c.in-Some-split_first-2.ensures.cases.0 in
@@ -42,13 +41,13 @@ overflow_add-end c =
     let same : c.args.extensions.now
     ≡ c.in-Some.first.now ∷ c.in-Some-split_first.second.now ∷ c.in-Some-split_first-2.third.now ∷ [] =
     first
-    ∙ ap (λ (l : List LinkExtSlice). c.in-Some.first.now ∷ l)
+    ∙ ap (λ l. c.in-Some.first.now ∷ l)
     (second
-    ∙ ap (λ (l : List LinkExtSlice). c.in-Some-split_first.second.now ∷ l)
-    (third ∙ ap (λ (l : List LinkExtSlice). c.in-Some-split_first-2.third.now ∷ l) (is_last _ none))) in
+    ∙ ap (λ l. c.in-Some-split_first.second.now ∷ l)
+    (third ∙ ap (λ l. c.in-Some-split_first-2.third.now ∷ l) (is_last _ none))) in
     omega (
       arith,
-      three_len c.args.extensions.now c.in-Some.first.now c.in-Some-split_first.second.now
+      three_len g.Slice.TagSlice.extension c.args.extensions.now c.in-Some.first.now c.in-Some-split_first.second.now
           c.in-Some-split_first-2.third.now same,
       ap (λ (t : LinkExt). t.len) c.tag_part-outer.ensures,
       ap (λ (t : LinkExt). t.len) c.tag_part-middle.ensures,
@@ -57,7 +56,7 @@ overflow_add-end c =
     )
 
 pub returns-clause-slots : goal.returns-clause-slots
-returns-clause-slots c =
+returns-clause-slots g c =
     let first = c.in-Some.ensures.cases.0 in
     let second = c.in-Some-split_first.ensures.cases.0 in
     let third = c.in-Some-split_first-2.ensures.cases.0 in
@@ -66,16 +65,16 @@ returns-clause-slots c =
     let same : c.args.extensions.now
     ≡ c.in-Some.first.now ∷ c.in-Some-split_first.second.now ∷ c.in-Some-split_first-2.third.now ∷ [] =
     first
-    ∙ ap (λ (l : List LinkExtSlice). c.in-Some.first.now ∷ l)
+    ∙ ap (λ l. c.in-Some.first.now ∷ l)
     (second
-    ∙ ap (λ (l : List LinkExtSlice). c.in-Some-split_first.second.now ∷ l)
-    (third ∙ ap (λ (l : List LinkExtSlice). c.in-Some-split_first-2.third.now ∷ l) (is_last _ none))) in
-    three_slots c.args.offset c.args.extensions.now c.in-Some.first.now c.in-Some-split_first.second.now
+    ∙ ap (λ l. c.in-Some-split_first.second.now ∷ l)
+    (third ∙ ap (λ l. c.in-Some-split_first-2.third.now ∷ l) (is_last _ none))) in
+    three_slots g.Slice.TagSlice.extension c.args.offset c.args.extensions.now c.in-Some.first.now c.in-Some-split_first.second.now
     c.in-Some-split_first-2.third.now c.tag_part-outer.result c.tag_part-middle.result c.tag_part-inner.result same
     c.tag_part-outer.ensures c.tag_part-middle.ensures c.tag_part-inner.ensures
 
 pub returns-clause-end : goal.returns-clause-end
-returns-clause-end c =
+returns-clause-end g c =
     let first = c.in-Some.ensures.cases.0 in
     let second = c.in-Some-split_first.ensures.cases.0 in
     let third = c.in-Some-split_first-2.ensures.cases.0 in
@@ -84,13 +83,13 @@ returns-clause-end c =
     let same : c.args.extensions.now
     ≡ c.in-Some.first.now ∷ c.in-Some-split_first.second.now ∷ c.in-Some-split_first-2.third.now ∷ [] =
     first
-    ∙ ap (λ (l : List LinkExtSlice). c.in-Some.first.now ∷ l)
+    ∙ ap (λ l. c.in-Some.first.now ∷ l)
     (second
-    ∙ ap (λ (l : List LinkExtSlice). c.in-Some-split_first.second.now ∷ l)
-    (third ∙ ap (λ (l : List LinkExtSlice). c.in-Some-split_first-2.third.now ∷ l) (is_last _ none))) in
+    ∙ ap (λ l. c.in-Some-split_first.second.now ∷ l)
+    (third ∙ ap (λ l. c.in-Some-split_first-2.third.now ∷ l) (is_last _ none))) in
     omega (
       arith,
-      three_len c.args.extensions.now c.in-Some.first.now c.in-Some-split_first.second.now
+      three_len g.Slice.TagSlice.extension c.args.extensions.now c.in-Some.first.now c.in-Some-split_first.second.now
           c.in-Some-split_first-2.third.now same,
       ap (λ (t : LinkExt). t.len) c.tag_part-outer.ensures,
       ap (λ (t : LinkExt). t.len) c.tag_part-middle.ensures,

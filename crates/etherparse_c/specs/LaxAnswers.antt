@@ -1,0 +1,93 @@
+-- What C is told of bytes that are read laxly, and what a call of `etherparse_1_slice_lax` answers.
+use Rattle.std.specs.Prelude.{◌≡◌, ℕ, ◌+◌, ◌==◌, ◌&&◌, nat_lt, if◌then◌else◌, List, [], ◌∷◌, length, ◌⊎◌, Option, Some, None}
+use Rattle.etherparse.specs.Bytes.{bit}
+use Rattle.etherparse.specs.FrameBytes.{last_payload}
+use Rattle.etherparse.specs.Lax.{IsLax}
+use Rattle.etherparse.specs.LaxLayers.{LaxLayers}
+use Rattle.etherparse.specs.LaxRefusals.{RefusesLax}
+use Rattle.etherparse.specs.Layers.{Layers}
+use Rattle.etherparse.specs.LinkExtensions.{LinkExtension, vlan, macsec}
+use Rattle.etherparse.specs.Macsec.{macsec_payload_bytes, ptype_len}
+use Rattle.etherparse.specs.Readings.{cut_by}
+use Rattle.etherparse.specs.StrictFrames.{layers_in}
+use Rattle.etherparse.specs.TransportParts.{TransportLayer}
+use Rattle.etherparse.specs.Types.Entry.{Entry}
+use Rattle.etherparse.specs.Types.Layer.{Layer}
+use Rattle.etherparse.specs.Types.LenSource.{LenSource}
+use Rattle.etherparse.specs.Types.LenSource.TheVariants as source
+use Rattle.etherparse.specs.Types.SliceError.{SliceError}
+use Rattle.etherparse.specs.Types.TransportHeader.{TransportHeader}
+use Rattle.etherparse.specs.Types.TransportHeader.TheVariants as transport
+use Rattle.etherparse_c.specs.declared.packet.Packet.{Packet}
+use Rattle.etherparse_c.specs.declared.packet.Refusal.{Refusal}
+use Rattle.etherparse_c.specs.Description.{description, net_end, no_refusal, payload_offset, source_number}
+use Rattle.etherparse_c.specs.Places.{AreAt}
+use Rattle.etherparse_c.specs.RefusalNumbers.{refusal_part}
+use Rattle.etherparse_c.specs.SliceAnswers.{nothing_said, refused_packet}
+
+-- ---- what set the end of the payload
+
+-- What set the end of a tag's payload, where this set the end of the bytes in which the tag lies: a short length that
+-- cut, which counts as many bytes as stand behind the tag proper.
+abbrev pub tag_end : LenSource → LinkExtension → LenSource
+tag_end outer (vlan tag payload) = outer
+tag_end outer (macsec tag payload) =
+    if nat_lt 0 tag.short_len && tag.short_len == ptype_len tag.ptype + length (macsec_payload_bytes payload)
+    then source.MacsecShortLength else outer
+
+-- the same behind some tags, each in the payload of the one before it
+abbrev pub tags_end : LenSource → List LinkExtension → LenSource
+tags_end outer [] = outer
+tags_end outer (extension ∷ others) = tags_end (tag_end outer extension) others
+
+-- the same of the payload behind a transport header: the length of UDP that cut counts as many bytes as header and
+-- payload have
+abbrev pub cut_end : TransportHeader → List ℕ → LenSource
+cut_end (transport.Udp header) payload =
+    if header.length == 8 + length payload then source.UdpHeaderLen else source.Slice
+cut_end (transport.Tcp header) payload = source.Slice
+cut_end (transport.Icmpv4 header) payload = source.Slice
+cut_end (transport.Icmpv6 header) payload = source.Slice
+
+abbrev pub transport_cut_end : Option TransportLayer → LenSource
+transport_cut_end None = source.Slice
+transport_cut_end (Some layer) = cut_end layer.header layer.payload
+
+-- what set the end of the last layer's payload: the innermost field that cut, or else the end of the bytes
+abbrev pub lax_end : Layers → LenSource
+lax_end layers =
+    cut_by (cut_by (tags_end source.Slice layers.link_exts) (net_end layers.net)) (transport_cut_end layers.transport)
+
+-- ---- all of it
+
+-- why the layer behind the last one is refused, where one is
+abbrev pub stop_part : Option (SliceError × Layer) → Refusal
+stop_part None = no_refusal
+stop_part (Some stop) = refusal_part stop.0
+
+-- what is said of bytes that are read as these layers: that of a frame of them, but for what set the payload's end, whether
+-- bytes of it are missing, and where the reading stops
+abbrev pub lax_description : LaxLayers → Packet
+lax_description read = record (description (layers_in read)) {
+  payload = record {
+    len_source = source_number (lax_end (layers_in read));
+    incomplete = bit read.net.inside.incomplete;
+    offset = payload_offset (layers_in read);
+    len = length (last_payload (layers_in read));
+  };
+  refusal = stop_part read.net.inside.stop;
+}
+
+-- The bytes are read laxly as these layers, and the packet says what they are, and where (`AreAt`).
+pub record DescribesLax (entry : Entry) (bytes : List ℕ) (read : LaxLayers) (packet : Packet) : Type 0 where
+  pub is : IsLax entry bytes read
+  pub numbers : packet ≡ lax_description read
+  pub places : AreAt bytes (layers_in read) packet
+
+-- The status is 0, and the packet describes the layers that stand; or it is 1, and the packet says why the first header
+-- is refused. Where the number is none of an entry, it is 2, and nothing is said.
+abbrev pub IsLaxAnswer : Option Entry → List ℕ → ℕ → Packet → Type 0
+IsLaxAnswer None bytes status packet = (status ≡ 2) × (packet ≡ nothing_said)
+IsLaxAnswer (Some entry) bytes status packet =
+    ((status ≡ 0) × ((read : LaxLayers) × DescribesLax entry bytes read packet))
+    ⊎ ((status ≡ 1) × ((error : SliceError) × RefusesLax entry bytes error × (packet ≡ refused_packet error)))

@@ -1,0 +1,133 @@
+//! The tags of link extensions.
+
+ghost use Rattle.std.specs.Prelude.{◌≡◌, ◌+◌, ◌<◌, ◌≤◌, ◌^◌, length, map};
+ghost use Rattle.etherparse.specs.LinkExtensions.{LinkExtension, link_extension_of, macsec, vlan};
+ghost use Rattle.etherparse.specs.LaxViews.{lax_extension_of};
+ghost use Rattle.etherparse.specs.Macsec.{MacsecPayload};
+ghost use Rattle.etherparse.specs.MacsecSlices.{macsec_header_slice_header};
+ghost use Rattle.etherparse.specs.VlanSlices.{vlan_slice_header, vlan_slice_payload};
+ghost use Rattle.etherparse_c.specs.Description.{no_tag, tag_part, tag_slots, tags_len};
+
+use crate::numbers;
+use crate::packet::LinkExt;
+use etherparse::{
+    LaxLinkExtSlice, LinkExtSlice, MacsecHeaderSlice, SingleVlanHeader, SingleVlanSlice,
+};
+
+/// The slice of a link extension, of a frame or of what is read laxly.
+pub(crate) trait TagSlice {
+    /// The link extension that it shows.
+    ghost extension: { Self → LinkExtension };
+
+    /// The tag, which begins `offset` bytes behind the frame's start.
+    fn tag_part(&self, offset: usize) -> LinkExt
+        ensures { result ≡ tag_part offset (extension self.now) };
+}
+
+impl TagSlice for LinkExtSlice<'_> {
+    ghost extension = { link_extension_of };
+
+    #[inline(always)]
+    fn tag_part(&self, offset: usize) -> LinkExt {
+        match self {
+            LinkExtSlice::Vlan(tag) => vlan_part(tag, offset),
+            LinkExtSlice::Macsec(packet) => macsec_part(&packet.header, offset),
+        }
+    }
+}
+
+impl TagSlice for LaxLinkExtSlice<'_> {
+    ghost extension = { lax_extension_of };
+
+    #[inline(always)]
+    fn tag_part(&self, offset: usize) -> LinkExt {
+        match self {
+            LaxLinkExtSlice::Vlan(tag) => vlan_part(tag, offset),
+            LaxLinkExtSlice::Macsec(packet) => macsec_part(&packet.header, offset),
+        }
+    }
+}
+
+/// The places for tags, and how far behind the frame's start the tags end.
+#[derive(Drop)]
+pub(crate) struct Tags {
+    pub(crate) slots: [LinkExt; 3],
+    pub(crate) end: usize,
+}
+
+/// The tags of link extensions, of which the first begins `offset` bytes behind the frame's start.
+#[inline(always)]
+pub(crate) fn placed_tags<Slice: TagSlice>(extensions: &[Slice], offset: usize) -> Tags
+    requires most { length extensions.now ≤ 3 }
+    requires place { offset + tags_len (map Slice.extension extensions.now) < 2 ^ 64 }
+    ensures slots { result.slots ≡ tag_slots offset (map Slice.extension extensions.now) }
+    ensures end { result.end ≡ offset + tags_len (map Slice.extension extensions.now) }
+{
+    let Some((first, others)) = extensions.split_first() else {
+        return Tags {
+            slots: [no_tag(), no_tag(), no_tag()],
+            end: offset,
+        };
+    };
+    let outer = first.tag_part(offset);
+    let behind_outer = offset + outer.len;
+    let Some((second, others)) = others.split_first() else {
+        return Tags {
+            slots: [outer, no_tag(), no_tag()],
+            end: behind_outer,
+        };
+    };
+    let middle = second.tag_part(behind_outer);
+    let behind_middle = behind_outer + middle.len;
+    let Some((third, _)) = others.split_first() else {
+        return Tags {
+            slots: [outer, middle, no_tag()],
+            end: behind_middle,
+        };
+    };
+    let inner = third.tag_part(behind_middle);
+    let end = behind_middle + inner.len;
+    Tags {
+        slots: [outer, middle, inner],
+        end,
+    }
+}
+
+/// The place of a tag that is not there.
+#[inline(always)]
+pub(crate) fn no_tag() -> LinkExt
+    ensures { result ≡ no_tag }
+{
+    LinkExt {
+        kind: 0,
+        vlan_id: 0,
+        offset: 0,
+        len: 0,
+    }
+}
+
+/// A VLAN tag that begins `offset` bytes behind the frame's start.
+#[inline(always)]
+pub(crate) fn vlan_part(tag: &SingleVlanSlice<'_>, offset: usize) -> LinkExt
+    ensures { result ≡ tag_part offset (vlan (vlan_slice_header tag.now) (vlan_slice_payload tag.now)) }
+{
+    LinkExt {
+        kind: numbers::EXT_VLAN,
+        vlan_id: tag.vlan_identifier().value(),
+        offset,
+        len: SingleVlanHeader::LEN,
+    }
+}
+
+/// A MACsec tag that begins there, whatever its payload.
+#[inline(always)]
+fn macsec_part(header: &MacsecHeaderSlice<'_>, offset: usize) -> LinkExt
+    ensures { (payload : MacsecPayload) → result ≡ tag_part offset (macsec (macsec_header_slice_header header.now) payload) }
+{
+    LinkExt {
+        kind: numbers::EXT_MACSEC,
+        vlan_id: 0,
+        offset,
+        len: header.header_len(),
+    }
+}
