@@ -9,18 +9,17 @@ use Rattle.ep_base.specs.declared.err.ipv4.SliceError.TheVariants as ipv4_error
 use Rattle.ep_base.specs.declared.err.ipv6.SliceError.{SliceError as Ipv6Error}
 use Rattle.ep_base.specs.declared.err.ipv6.SliceError.TheVariants as ipv6_error
 use Rattle.ep_base.specs.declared.err.linux_sll.HeaderSliceError.{HeaderSliceError as LinuxSllError}
-use Rattle.ep_base.specs.declared.err.linux_sll.HeaderSliceError.TheVariants as linux_sll_error
 use Rattle.ep_base.specs.declared.err.macsec.HeaderSliceError.{HeaderSliceError as MacsecError}
 use Rattle.ep_base.specs.declared.err.macsec.HeaderSliceError.TheVariants as macsec_error
 use Rattle.ep_base.specs.declared.err.tcp.HeaderSliceError.{HeaderSliceError as TcpError}
 use Rattle.ep_base.specs.declared.err.tcp.HeaderSliceError.TheVariants as tcp_error
 use Rattle.ep_packet.specs.declared.err.slice_error.SliceError.{SliceError}
 use Rattle.ep_packet.specs.declared.err.slice_error.SliceError.TheVariants as packet
+use Rattle.ep_packet.specs.FrameRefusals.{linux_sll_refusal}
 
--- of the header of a cooked capture
+-- of the header of a cooked capture, with which a packet begins
 abbrev pub of_linux_sll : LinuxSllError → SliceError
-of_linux_sll (linux_sll_error.Len error) = packet.Len error
-of_linux_sll (linux_sll_error.Content error) = packet.LinuxSll error
+of_linux_sll = linux_sll_refusal
 
 -- of a MACsec tag
 abbrev pub of_macsec : MacsecError → SliceError

@@ -44,7 +44,7 @@ pub use ep_transport::{
     icmpv6,
 };
 pub use ip_headers::IpHeaders;
-pub use link_part::{LinkPart, of_linux_sll};
+pub use link_part::LinkPart;
 pub use net_headers::{IpHeader, NetHeaders};
 pub use net_slice::{InternetSlice, NetSlice};
 pub use packet_headers::PacketHeaders;

@@ -1,13 +1,11 @@
 //! The link layer with which a packet begins, as the walks over a packet find it.
 
-ghost use Rattle.std.specs.Prelude.{◌≡◌, ◌+◌, ◌<◌, ◌^◌, length, IfOk, IfErr};
+ghost use Rattle.std.specs.Prelude.{◌+◌, ◌<◌, ◌^◌, length, IfOk, IfErr};
 ghost use Rattle.ep_link.specs.Ethernet2.{RefusesEthernet2};
 ghost use Rattle.ep_link.specs.LinuxSll.{RefusesLinuxSll};
 ghost use Rattle.ep_packet.specs.declared.entry.Entry.TheVariants.{Ethernet as ethernet, LinuxSll as linux_sll, EtherType as of_type};
-ghost use Rattle.ep_packet.specs.FrameRefusals.{linux_sll_refusal};
 ghost use Rattle.ep_packet.specs.LinkParts.{BeginsPacket};
 
-use crate::err::SliceError;
 use ep_base::err::{LenError, linux_sll};
 use ep_base::{EtherPayloadSlice, EtherType, LenSource};
 use ep_link::{Ethernet2Header, Ethernet2Slice, LinkSlice, LinuxSllHeader, LinuxSllSlice};
@@ -84,16 +82,5 @@ impl<'a> LinkPart<'a> {
             ether_type: Some(ether_type),
             slice,
         }
-    }
-}
-
-/// The refusal of the header of a Linux cooked capture, as that of the packet which begins with it.
-#[inline(always)]
-pub fn of_linux_sll(error: linux_sll::HeaderSliceError) -> SliceError
-    ensures { result ≡ linux_sll_refusal error }
-{
-    match error {
-        linux_sll::HeaderSliceError::Len(error) => SliceError::Len(error),
-        linux_sll::HeaderSliceError::Content(error) => SliceError::LinuxSll(error),
     }
 }

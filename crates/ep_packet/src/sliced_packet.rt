@@ -8,7 +8,7 @@ ghost use Rattle.ep_packet.specs.Walk.{HoldsBehind};
 
 use crate::entry::Entry;
 use crate::err::SliceError;
-use crate::link_part::{LinkPart, of_linux_sll};
+use crate::link_part::LinkPart;
 use crate::net_slice::NetSlice;
 use crate::sliced_packet_walk::{fill_inside, fill_ip};
 use arrayvec::ArrayVec;
@@ -87,7 +87,7 @@ impl<'a> SlicedPacket<'a> {
     {
         match LinkPart::linux_sll(slice) {
             Ok(part) => slice_behind(part),
-            Err(error) => Err(of_linux_sll(error)),
+            Err(error) => Err(SliceError::from(error)),
         }
     }
 
@@ -212,7 +212,7 @@ impl<'a> SlicedPacket<'a> {
     {
         match LinkPart::linux_sll(slice) {
             Ok(part) => self.fill_behind(part),
-            Err(error) => Err(of_linux_sll(error)),
+            Err(error) => Err(SliceError::from(error)),
         }
     }
 

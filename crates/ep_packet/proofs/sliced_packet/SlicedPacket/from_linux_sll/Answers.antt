@@ -7,7 +7,7 @@ use Rattle.ep_packet.proofs.sliced_packet.SlicedPacket.from_linux_sll.Goals as g
 pub returns-in-Err-clause-only : goal.returns-in-Err-clause-only
 returns-in-Err-clause-only c = λ layers is.
     absurd ((frame_law linux_sll c.args.slice.now (λ i. omega (arith, c.type_inv.slice i))).not_both layers
-    c.of_linux_sll.result is (inl (c.in-Err.error, c.in-Err.ensures.err, c.of_linux_sll.ensures)))
+    c.from.result is (inl (c.in-Err.error, c.in-Err.ensures.err, c.from.ensures)))
 
 pub returns-in-Ok : goal.returns-in-Ok
 returns-in-Ok c =
