@@ -29,7 +29,7 @@ use Rattle.ep_packet.specs.FrameRefusals.{net_header_len}
 use Rattle.ep_packet.specs.Layers.{NetLayer, ipv4_layer, ipv6_layer}
 use Rattle.ep_lax.specs.Lax.{IsInsideIp, IsIpLayer, IsIpv4Net, IsIpv6Net, IsLaxTransport, chain_refusal}
 use Rattle.ep_lax.specs.LaxHeaders.{LayerHeader, of_ipv4, of_ipv6, of_extension, net_headers, transport_headers, ShowsFront}
-use Rattle.ep_lax.specs.LaxIp.{LaxIp, lax_ip_of, lax_ipv6_source, stop_behind}
+use Rattle.ep_lax.specs.LaxIp.{LaxIp, IsLaxIpv4Behind, IsLaxIpv6Behind, lax_ip_of, lax_ipv6_source, stop_behind}
 use Rattle.ep_lax.specs.LaxLayers.{LaxNet, net_with, no_transport, told}
 use Rattle.ep_lax.proofs.LaxIpLemmas.{behind_ipv4_fits, behind_ipv6_fits, cut_fits}
 use Rattle.ep_lax.proofs.LaxLawLemmas.{ip_layer_is_one, rest_fits}
@@ -374,6 +374,17 @@ ipv4_heads = record { head = of_ipv4; are = λ packet. refl }
 abbrev pub ipv6_heads : IpHeaders ipv6_layer
 ipv6_heads = record { head = of_ipv6; are = λ packet. refl }
 
+-- a packet of IPv4 of these parts
+ipv4_behind : (outer : Bool) (read : Ipv4Header × List ℕ) (cut : LaxCut) (chain : ExtensionChain)
+    (refused : Option HeaderSliceError)
+    → IsLaxCut (ipv4_header_len read.0) read.0.total_len source.Ipv4HeaderTotalLen outer (ipv4_header_len read.0) read.1
+    cut
+    → IsFrontChain ipv4 read.0.protocol.0 cut.payload chain refused
+    → IsLaxIpv4Behind outer read
+    (lax_ip_of read.0 (ipv4_header_len read.0) (is_ipv4_fragment read.0) cut.source cut chain refused)
+ipv4_behind outer read cut chain refused cuts front =
+    record { cut = cut; chain = chain; refused = refused; cuts = cuts; front = front; is = refl }
+
 pub ipv4_more : (offset place : ℕ) (outer inner : Bool) (bytes more : List ℕ) (net : LaxNet)
     → AreBytes (bytes ++ more) → IsIpv4Net offset outer bytes net → MoreNet (IsIpv4Net place inner (bytes ++ more)) net
 ipv4_more offset place outer inner bytes more net fits is =
@@ -399,22 +410,21 @@ ipv4_more offset place outer inner bytes more net fits is =
       read = found.more.read;
       is = (
         lax_ip_of header len (is_ipv4_fragment header) cut.value.source cut.value found.chain found.refused,
-        (
-          read,
-          stands,
-          record {
-            cut = cut.value;
-            chain = found.chain;
-            refused = found.refused;
-            cuts = cut.is;
-            front = found.front;
-            is = refl;
-          },
-        ),
+        (read, stands, ipv4_behind inner read cut.value found.chain found.refused cut.is found.front),
         found.more.is,
       );
       shows = found.more.shows;
     }
+
+-- a packet of IPv6 of these parts
+ipv6_behind : (outer : Bool) (read : Ipv6Header × List ℕ) (cut : LaxCut) (chain : ExtensionChain)
+    (refused : Option HeaderSliceError)
+    → IsLaxCut 41 (40 + read.0.payload_length) source.Ipv6HeaderPayloadLen outer 40 read.1 cut
+    → IsFrontChain ipv6 read.0.next_header.0 cut.payload chain refused
+    → IsLaxIpv6Behind outer read
+    (lax_ip_of read.0 40 (chain_fragments chain.parts) (lax_ipv6_source read.0 cut) cut chain refused)
+ipv6_behind outer read cut chain refused cuts front =
+    record { cut = cut; chain = chain; refused = refused; cuts = cuts; front = front; is = refl }
 
 pub ipv6_more : (offset place : ℕ) (outer inner : Bool) (bytes more : List ℕ) (net : LaxNet)
     → AreBytes (bytes ++ more) → IsIpv6Net offset outer bytes net → MoreNet (IsIpv6Net place inner (bytes ++ more)) net
@@ -441,18 +451,7 @@ ipv6_more offset place outer inner bytes more net fits is =
       is = (
         lax_ip_of header 40 (chain_fragments found.chain.parts) (lax_ipv6_source header cut.value) cut.value found.chain
             found.refused,
-        (
-          read,
-          stands,
-          record {
-            cut = cut.value;
-            chain = found.chain;
-            refused = found.refused;
-            cuts = cut.is;
-            front = found.front;
-            is = refl;
-          },
-        ),
+        (read, stands, ipv6_behind inner read cut.value found.chain found.refused cut.is found.front),
         found.more.is,
       );
       shows = found.more.shows;

@@ -6,12 +6,12 @@ use Rattle.ep_base.specs.declared.err.len_error.LenError.{LenError}
 use Rattle.ep_ext.specs.ExtensionParts.{ExtensionPart, EncodesPart, part_len}
 use Rattle.ep_ip.specs.declared.ipv4_header.Ipv4Header.{Ipv4Header}
 use Rattle.ep_ip.specs.declared.ipv6_header.Ipv6Header.{Ipv6Header}
+use Rattle.ep_ip.specs.Ipv4.{EncodesIpv4, ipv4_header_len}
+use Rattle.ep_ip.specs.Ipv6.{FitsIpv6, ipv6_bytes}
 use Rattle.ep_link.specs.declared.link.link_header.LinkHeader.{LinkHeader}
 use Rattle.ep_link.specs.declared.link.link_header.LinkHeader.TheVariants.{Ethernet2, LinuxSll}
 use Rattle.ep_link.specs.declared.link_ext.link_ext_header.LinkExtHeader.{LinkExtHeader}
 use Rattle.ep_link.specs.declared.link_ext.link_ext_header.LinkExtHeader.TheVariants.{Vlan, Macsec}
-use Rattle.ep_ip.specs.Ipv4.{EncodesIpv4, ipv4_header_len}
-use Rattle.ep_ip.specs.Ipv6.{FitsIpv6, ipv6_bytes}
 use Rattle.ep_link.specs.Arp.{Arp, FitsArp, arp_bytes, arp_len}
 use Rattle.ep_link.specs.Ethernet2.{FitsEthernet2, ethernet2_bytes}
 use Rattle.ep_link.specs.LinkExtensions.{LinkExtension, extension_header, link_ext_header_len}
@@ -101,8 +101,8 @@ header_len (of_extension part) = part_len part
 header_len (of_arp packet) = arp_len packet
 header_len (of_transport header) = transport_header_len header
 
--- The bytes begin with these headers, one after the other. The headers say how long each is: so bytes of which others
--- are a front begin with the same bytes, where both begin with the same headers.
+-- The bytes begin with these headers, one after the other, each as long as it says. So where bytes and a front of them
+-- begin with the same headers, these are the same bytes.
 abbrev pub BeginWith : List LayerHeader → List ℕ → Type 0
 BeginWith [] bytes = Unit {0}
 BeginWith (header ∷ others) bytes =
