@@ -3,6 +3,9 @@ pub mod LaxIpLemmas
 pub mod LaxLawLemmas
 pub mod LaxMacsecLemmas
 pub mod StrictLemmas
+pub mod LaxStopLemmas
+pub mod LaxToldLemmas
+pub mod LaxStopEntryLemmas
 pub mod LaxSliceLemmas
 pub mod LaxTransportLemmas
 pub mod LaxWalkLemmas

@@ -15,8 +15,8 @@ use Rattle.ep_ext.specs.Chains.{ipv4, ipv6, chain_of}
 use Rattle.ep_ip.specs.declared.ipv4_header.Ipv4Header.{Ipv4Header}
 use Rattle.ep_ip.specs.declared.ipv6_header.Ipv6Header.{Ipv6Header}
 use Rattle.ep_ip.specs.IpPackets.{IpPacket, IpPart, ipv4_part, ipv6_part, IsIp, IsIpv4, IsIpv6}
-use Rattle.ep_ip.specs.Ipv4.{ipv4_header_len}
-use Rattle.ep_ip.specs.Ipv6.{IsIpv6Header, ipv6_bytes, ipv6_payload_source}
+use Rattle.ep_ip.specs.Ipv4.{IsIpv4Header, IsIpv4Packet, ipv4_header_len}
+use Rattle.ep_ip.specs.Ipv6.{IsIpv6Header, IsIpv6Packet, ipv6_bytes, ipv6_payload_source}
 use Rattle.ep_ip.proofs.IpBytesLemmas.{encoded_len}
 use Rattle.ep_link.specs.declared.link_ext.macsec_header.MacsecHeader.{MacsecHeader}
 use Rattle.ep_link.specs.Arp.{Arp, IsArp}
@@ -108,30 +108,40 @@ transport_is_whole offset payload (Some layer) is =
 abbrev whole_ip : {Header : Type 0} → IpPacket Header → LaxIp Header
 whole_ip packet = record { packet = packet; incomplete = false; stop = None }
 
+-- a cut of which nothing is missing
+abbrev pub whole_cut : List ℕ → List ℕ → LenSource → LaxCut
+whole_cut payload left end = record { payload = payload; left = left; source = end; incomplete = false }
+
+-- the header of a packet stands, and its total length cuts
+pub ipv4_cuts : (bytes : List ℕ) (packet : Parts Ipv4Header) → IsIpv4Packet bytes packet
+    → IsIpv4Header bytes (packet.header, packet.payload ++ packet.left)
+    × IsLaxCut (ipv4_header_len packet.header) packet.header.total_len source.Ipv4HeaderTotalLen false
+    (ipv4_header_len packet.header) (packet.payload ++ packet.left)
+    (whole_cut packet.payload packet.left source.Ipv4HeaderTotalLen)
+ipv4_cuts bytes packet is =
+    let n = ipv4_header_len packet.header in
+    let len = encoded_len is.encoded packet.header is.encodes in
+    let says : n + length packet.payload ≡ packet.header.total_len = omega (arith, is.cut, len) in (
+      record {
+        encoded = is.encoded;
+        encodes = is.encodes;
+        parts = is.parts ∙ append_assoc is.encoded packet.payload packet.left;
+      },
+      cut_there n packet.header.total_len source.Ipv4HeaderTotalLen false n packet.payload packet.left
+          (omega (arith, says)) (omega (arith, says, length-append packet.payload packet.left)) says,
+    )
+
 ipv4_is_whole : (bytes : List ℕ) (packet : IpPacket Ipv4Header) → IsIpv4 slices bytes packet
     → IsLaxIpv4 false bytes (whole_ip packet)
 ipv4_is_whole bytes packet is =
-    let encoded = is.cut.encoded in
-    let n = ipv4_header_len packet.header in
-    let len = encoded_len encoded packet.header is.cut.encodes in
-    let says : n + length is.content ≡ packet.header.total_len = omega (arith, is.cut.cut, len) in (
+    let read = ipv4_cuts bytes (parts_of packet.header is.content packet.left) is.cut in (
       (packet.header, is.content ++ packet.left),
+      read.0,
       record {
-        encoded = encoded;
-        encodes = is.cut.encodes;
-        parts = is.cut.parts ∙ append_assoc encoded is.content packet.left;
-      },
-      record {
-        cut = record {
-          payload = is.content;
-          left = packet.left;
-          source = source.Ipv4HeaderTotalLen;
-          incomplete = false;
-        };
+        cut = whole_cut is.content packet.left source.Ipv4HeaderTotalLen;
         chain = chain_of packet.extensions packet.payload.number packet.payload.bytes;
         refused = None;
-        cuts = cut_there n packet.header.total_len source.Ipv4HeaderTotalLen false n is.content packet.left
-            (omega (arith, says)) (omega (arith, says, length-append is.content packet.left)) says;
+        cuts = read.1;
         front = is.chain;
         is = λ i. record {
           packet = record packet {
@@ -156,83 +166,92 @@ untold_source : (length_is_0 : Bool) (same other end : LenSource) → length_is_
 untold_source true same other end true_is is = is
 untold_source false same other end true_is is = cc true_is
 
-ipv6_is_whole : (bytes : List ℕ) (packet : IpPacket Ipv6Header) → IsIpv6 slices bytes packet
-    → IsLaxIpv6 false bytes (whole_ip packet)
-ipv6_is_whole bytes packet is =
+-- the header of a packet stands, and its payload length cuts, or is 0 and leaves nothing
+pub ipv6_cuts : (bytes : List ℕ) (packet : Parts Ipv6Header) → IsIpv6Packet bytes packet
+    → IsIpv6Header bytes (packet.header, packet.payload ++ packet.left)
+    × ((end : LenSource)
+    × IsLaxCut 41 (40 + packet.header.payload_length) source.Ipv6HeaderPayloadLen false 40
+    (packet.payload ++ packet.left) (whole_cut packet.payload packet.left end)
+    × (ipv6_payload_source packet.header packet.payload
+    ≡ lax_ipv6_source packet.header (whole_cut packet.payload packet.left end)))
+ipv6_cuts bytes packet is =
     let h = packet.header in
-    let behind = is.content ++ packet.left in
-    let stands : IsIpv6Header bytes (h, behind) = record {
-      fits = is.cut.fits;
-      parts = is.cut.parts ∙ append_assoc (ipv6_bytes h) is.content packet.left;
+    let says = 40 + h.payload_length in
+    let there = 40 + length (packet.payload ++ packet.left) in
+    let stands : IsIpv6Header bytes (h, packet.payload ++ packet.left) = record {
+      fits = is.fits;
+      parts = is.parts ∙ append_assoc (ipv6_bytes h) packet.payload packet.left;
     } in
-    let chain = chain_of packet.extensions packet.payload.number packet.payload.bytes in
-    let all = length-append is.content packet.left in
-    elim is.cut.cut [
+    let end = ipv6_payload_source h packet.payload in
+    elim is.cut [
       | inl some ↦
-          let cut : LaxCut = record {
-            payload = is.content;
-            left = packet.left;
-            source = source.Ipv6HeaderPayloadLen;
-            incomplete = false;
-          } in
-          let not_0 : (h.payload_length == 0) ≡ false = grind (arith, common_steps) in
-          let end : packet.payload.source ≡ lax_ipv6_source h cut =
-          told_source (h.payload_length == 0) (nat_lt 0 (length is.content)) source.Ipv6HeaderPayloadLen not_0
-          packet.payload.source is.source in (
-            (h, behind),
+          let not_0 : (h.payload_length == 0) ≡ false = grind (arith, common_steps) in (
             stands,
-            record {
-              cut = cut;
-              chain = chain;
-              refused = None;
-              cuts = cut_there 41 (40 + h.payload_length) source.Ipv6HeaderPayloadLen false 40 is.content packet.left
-                  (omega arith) (omega (arith, all)) (omega arith);
-              front = is.chain;
-              is = λ i. record {
-                packet = record packet {
-                  payload = record packet.payload { fragmented = is.fragmented i; source = end i };
-                };
-                incomplete = false;
-                stop = None;
-              };
-            },
+            (
+              source.Ipv6HeaderPayloadLen,
+              cut_there 41 says source.Ipv6HeaderPayloadLen false 40 packet.payload packet.left (omega arith)
+                  (omega (arith, length-append packet.payload packet.left)) (omega arith),
+              told_source (h.payload_length == 0) (nat_lt 0 (length packet.payload)) source.Ipv6HeaderPayloadLen
+                  not_0 end refl,
+            ),
           )
       | inr none ↦
-          let more = nat_lt (40 + length behind) (40 + h.payload_length) in
-          let no_more : more ≡ false =
-          ap (λ (n : ℕ). nat_lt (40 + length behind) (40 + n)) none.0 ∙ past_header (length behind) in
-          let cut : LaxCut = record {
-            payload = is.content;
-            left = packet.left;
-            source = source.Slice;
-            incomplete = more;
-          } in
-          let is_0 : (h.payload_length == 0) ≡ true = ap (λ (n : ℕ). n == 0) none.0 in
-          let end : packet.payload.source ≡ lax_ipv6_source h cut =
-          untold_source (h.payload_length == 0) (ipv6_payload_source h is.content) source.Slice packet.payload.source
-          is_0 is.source in (
-            (h, behind),
+          let no_more : nat_lt there says ≡ false =
+          ap (λ (n : ℕ). nat_lt there (40 + n)) none.0 ∙ past_header (length (packet.payload ++ packet.left)) in
+          let is_0 : (h.payload_length == 0) ≡ true = ap (λ (n : ℕ). n == 0) none.0 in (
             stands,
-            record {
-              cut = cut;
-              chain = chain;
-              refused = None;
-              cuts = cut_nowhere 41 (40 + h.payload_length) source.Ipv6HeaderPayloadLen false 40 is.content packet.left
-                  (inl (omega (arith, none.0))) (ap length none.1);
-              front = is.chain;
-              is = λ i. record {
-                packet = record packet {
-                  payload = record packet.payload { fragmented = is.fragmented i; source = end i };
-                };
-                incomplete = sym no_more i;
-                stop = None;
-              };
-            },
+            (
+              source.Slice,
+              subst (λ (more : Bool). IsLaxCut 41 says source.Ipv6HeaderPayloadLen false 40
+                  (packet.payload ++ packet.left) (record (whole_cut packet.payload packet.left source.Slice) {
+                    incomplete = more;
+                  })) no_more (cut_nowhere 41 says source.Ipv6HeaderPayloadLen false 40 packet.payload packet.left
+                  (inl (omega (arith, none.0))) (ap length none.1)),
+              untold_source (h.payload_length == 0) end source.Slice end is_0 refl,
+            ),
           )
     ]
   where
     past_header : (n : ℕ) → nat_lt (40 + n) (40 + 0) ≡ false
     past_header n = grind (arith, common_steps)
+
+ipv6_is_whole : (bytes : List ℕ) (packet : IpPacket Ipv6Header) → IsIpv6 slices bytes packet
+    → IsLaxIpv6 false bytes (whole_ip packet)
+ipv6_is_whole bytes packet is =
+    let read = ipv6_cuts bytes (parts_of packet.header is.content packet.left) is.cut in
+    let end = is.source ∙ read.1.2 in (
+      (packet.header, is.content ++ packet.left),
+      read.0,
+      record {
+        cut = whole_cut is.content packet.left read.1.0;
+        chain = chain_of packet.extensions packet.payload.number packet.payload.bytes;
+        refused = None;
+        cuts = read.1.1;
+        front = is.chain;
+        is = λ i. record {
+          packet = record packet {
+            payload = record packet.payload { fragmented = is.fragmented i; source = end i };
+          };
+          incomplete = false;
+          stop = None;
+        };
+      },
+    )
+
+-- the net layer of a packet of which nothing is missing, with what is read inside it
+pub ipv4_net_with : (offset : ℕ) (bytes : List ℕ) (packet : IpPacket Ipv4Header) (inside : LaxTransport)
+    → IsIpv4 slices bytes packet
+    → IsLaxTransport (offset + net_header_len (ipv4_layer packet)) false packet.payload inside
+    → IsIpv4Net offset false bytes (net_with (ipv4_layer packet) false inside)
+ipv4_net_with offset bytes packet inside is read =
+    (whole_ip packet, ipv4_is_whole bytes packet is, (inside, read, refl))
+
+pub ipv6_net_with : (offset : ℕ) (bytes : List ℕ) (packet : IpPacket Ipv6Header) (inside : LaxTransport)
+    → IsIpv6 slices bytes packet
+    → IsLaxTransport (offset + net_header_len (ipv6_layer packet)) false packet.payload inside
+    → IsIpv6Net offset false bytes (net_with (ipv6_layer packet) false inside)
+ipv6_net_with offset bytes packet inside is read =
+    (whole_ip packet, ipv6_is_whole bytes packet is, (inside, read, refl))
 
 -- a net layer of which nothing is missing, with a transport layer or none
 abbrev whole_net : NetLayer → Option TransportLayer → LaxNet
@@ -241,28 +260,16 @@ whole_net layer transport = net_with layer false (whole_transport transport)
 ipv4_net : (offset : ℕ) (bytes : List ℕ) (packet : IpPacket Ipv4Header) (transport : Option TransportLayer)
     → IsIpv4 slices bytes packet → IsTransportIn slices packet.payload transport
     → IsIpv4Net offset false bytes (whole_net (ipv4_layer packet) transport)
-ipv4_net offset bytes packet transport is inside = (
-  whole_ip packet,
-  ipv4_is_whole bytes packet is,
-  (
-    whole_transport transport,
-    transport_is_whole (offset + net_header_len (ipv4_layer packet)) packet.payload transport inside,
-    refl,
-  ),
-)
+ipv4_net offset bytes packet transport is inside =
+    ipv4_net_with offset bytes packet (whole_transport transport) is
+    (transport_is_whole (offset + net_header_len (ipv4_layer packet)) packet.payload transport inside)
 
 ipv6_net : (offset : ℕ) (bytes : List ℕ) (packet : IpPacket Ipv6Header) (transport : Option TransportLayer)
     → IsIpv6 slices bytes packet → IsTransportIn slices packet.payload transport
     → IsIpv6Net offset false bytes (whole_net (ipv6_layer packet) transport)
-ipv6_net offset bytes packet transport is inside = (
-  whole_ip packet,
-  ipv6_is_whole bytes packet is,
-  (
-    whole_transport transport,
-    transport_is_whole (offset + net_header_len (ipv6_layer packet)) packet.payload transport inside,
-    refl,
-  ),
-)
+ipv6_net offset bytes packet transport is inside =
+    ipv6_net_with offset bytes packet (whole_transport transport) is
+    (transport_is_whole (offset + net_header_len (ipv6_layer packet)) packet.payload transport inside)
 
 -- what is known of a net layer that is read laxly
 record IsWholeNet (offset : ℕ) (kind : Option NetKind) (bytes : List ℕ) (net : Option NetLayer)
@@ -338,7 +345,7 @@ net_is_whole offset (Some any_ip) bytes net transport part = open_version part.1
 -- ---- link extensions
 
 -- an extension of which nothing is missing
-abbrev whole_extension : LinkExtension → LinkExtension × Bool
+abbrev pub whole_extension : LinkExtension → LinkExtension × Bool
 whole_extension extension = (extension, false)
 
 -- what a short length other than 0 says
@@ -350,7 +357,7 @@ short_source : (short : ℕ) → 0 < short → macsec_len_source short ≡ sourc
 short_source zero some = absurd (omega arith)
 short_source (suc short) some = refl
 
-extension_is_whole : (type : EtherType) (bytes : List ℕ) (extension : LinkExtension) (left : List ℕ)
+pub extension_is_whole : (type : EtherType) (bytes : List ℕ) (extension : LinkExtension) (left : List ℕ)
     → IsLinkExtension type bytes (extension, left) → IsLaxExtension false type bytes (whole_extension extension)
 extension_is_whole type bytes (vlan tag payload) left is =
     (is.0, subst (λ (l : List ℕ). IsVlan bytes (parts_of tag payload l)) is.1.cut is.1, refl)

@@ -10,3 +10,5 @@ pub mod LaxPayloads
 pub mod LaxWalk
 pub mod StrictFrames
 pub mod LaxHeaders
+pub mod LaxStops
+pub mod LaxComparisons

@@ -1,18 +1,27 @@
 //! What holds of every list of bytes, each law the contract of a function that does nothing.
 
-ghost use Rattle.std.specs.Prelude.{◌≡◌, ◌++◌, ℕ, List};
+ghost use Rattle.std.specs.Prelude.{◌≡◌, ◌⊎◌, ◌++◌, ℕ, List, [], Some, false};
 ghost use Rattle.ep_base.specs.Bytes.{AreBytes};
 ghost use Rattle.ep_base.specs.Tables.{IsDecided};
-ghost use Rattle.ep_packet.specs.Frame.{IsFrame};
+ghost use Rattle.ep_base.specs.declared.err.layer.Layer.{Layer};
+ghost use Rattle.ep_link.specs.LinkExtensions.{vlan};
+ghost use Rattle.ep_packet.specs.Frame.{IsFrame, most_link_exts};
 ghost use Rattle.ep_packet.specs.FrameBytes.{AreInOrder};
+ghost use Rattle.ep_packet.specs.FrameRefusals.{RefusesFrame};
 ghost use Rattle.ep_packet.specs.Layers.{Layers};
 ghost use Rattle.ep_lax.specs.Lax.{IsLax};
 ghost use Rattle.ep_lax.specs.LaxHeaders.{AreFirst, BeginWith, ShowsFront, shown_headers, frame_headers};
 ghost use Rattle.ep_lax.specs.LaxLayers.{LaxLayers};
 ghost use Rattle.ep_lax.specs.LaxRefusals.{RefusesLax};
+ghost use Rattle.ep_lax.specs.LaxStops.{IsStrictStop, StopsFor, is_by_length};
+ghost use Rattle.ep_lax.specs.LaxViews.{lax_extension_of};
 ghost use Rattle.ep_lax.specs.StrictFrames.{IsWhole, layers_in};
 
+pub mod comparisons;
+
+use crate::{LaxLinkExtSlice, LaxSlicedPacket};
 use ep_packet::Entry;
+use ep_packet::err::SliceError;
 
 /// Bytes whose first header stands are read laxly as one list of layers, and others are refused with one error.
 pub fn lax()
@@ -58,3 +67,31 @@ pub fn header_bytes()
     ensures { (entry : Entry) (bytes : List ℕ) (read : LaxLayers) → IsLax entry bytes read
         → BeginWith (shown_headers read) bytes }
 {}
+
+/// What strict slicing refuses by no row of a length field, lax reading tells with the same error: the first header is
+/// refused for it, or the walk stops there. By such a row lax reading refuses nothing and stops nowhere. What it refuses
+/// strict slicing refuses with the same error, and so it does where lax reading stops, unless it refuses by a length
+/// field before.
+pub fn stops()
+    ensures strict { (entry : Entry) (bytes : List ℕ) → AreBytes bytes → (error : SliceError)
+        → RefusesFrame entry bytes error → is_by_length error ≡ false
+        → RefusesLax entry bytes error ⊎ StopsFor entry bytes error }
+    ensures first { (entry : Entry) (bytes : List ℕ) (error : SliceError) → RefusesLax entry bytes error
+        → RefusesFrame entry bytes error × (is_by_length error ≡ false) }
+    ensures behind { (entry : Entry) (bytes : List ℕ) → AreBytes bytes → (read : LaxLayers) → IsLax entry bytes read
+        → (stop : SliceError × Layer) → read.net.inside.stop ≡ Some stop → IsStrictStop entry bytes stop }
+{}
+
+/// The cap that is told is the number of link extensions that are taken at most.
+pub fn constants()
+    ensures value { LaxSlicedPacket.LINK_EXTS_CAP ≡ 3 }
+    ensures cap { LaxSlicedPacket.LINK_EXTS_CAP ≡ most_link_exts }
+{}
+
+/// The default link extension: a VLAN tag of four bytes 0, and no payload.
+pub fn default_link_ext() -> LaxLinkExtSlice<'static>
+    ensures { lax_extension_of result ≡ vlan
+        (record { pcp = 0; drop_eligible_indicator = false; vlan_id = 0; ether_type = record { 0 = 0 } }) [] }
+{
+    LaxLinkExtSlice::default()
+}

@@ -103,6 +103,8 @@ pub use Rattle.ep_lax.specs.LaxPackets
 pub use Rattle.ep_lax.specs.LaxPayloads
 pub use Rattle.ep_lax.specs.StrictFrames
 pub use Rattle.ep_lax.specs.LaxHeaders
+pub use Rattle.ep_lax.specs.LaxStops
+pub use Rattle.ep_lax.specs.LaxComparisons
 -- building
 pub use Rattle.ep_build.specs.AppendedFrames
 pub use Rattle.ep_build.specs.BuildErrors

@@ -1,0 +1,11 @@
+use Rattle.ep_lax.proofs.LaxStopEntryLemmas.{first_is_strict, frame_tells, stops_are_strict}
+use Rattle.ep_lax.proofs.LaxToldLemmas.{first_not_long}
+use Rattle.ep_lax.proofs.laws.stops.Goals as goal
+
+pub returns : goal.returns
+returns c = record {
+  strict = frame_tells;
+  first = λ entry bytes error refused.
+      (first_is_strict entry bytes error refused, first_not_long entry bytes error refused);
+  behind = stops_are_strict;
+}
