@@ -1,5 +1,5 @@
 -- That lax reading stops at what strict slicing refuses by no row of a length field, by each entry, and at nothing else.
-use Rattle.std.proofs.Common.{◌≡◌, ◌⊎◌, ◌==◌, ◌||◌, add-zero, not, if◌then◌else◌, ℕ, ◌+◌, Bool, true, false, List, [], ◌∷◌, ◌++◌, length, Option, Some, None, refl, sym, ap, subst, ◌∙◌, inl, inr}
+use Rattle.std.proofs.Common.{◌≡◌, ◌⊎◌, ◌==◌, ◌||◌, add-zero, not, if◌then◌else◌, ℕ, ◌+◌, Bool, true, false, List, [], ◌∷◌, length, Some, None, refl, sym, ap, subst, ◌∙◌, inl, inr}
 use Rattle.std.proofs.lemmas.Bool.{cases_Bool, cases_eq, ne_eqb}
 use Rattle.ep_base.specs.Bytes.{AreBytes}
 use Rattle.ep_base.specs.Readings.{len_error, slices}
@@ -49,7 +49,7 @@ use Rattle.ep_packet.specs.FrameRefusals.{RefusesFrame, RefusesNetPart, RefusesT
 use Rattle.ep_packet.specs.Layers.{NetLayer, ip_layer, net_payload}
 use Rattle.ep_packet.proofs.LayerLawLemmas.{frame_law}
 use Rattle.ep_lax.specs.LaxLayers.{LaxLayers, told}
-use Rattle.ep_lax.specs.LaxRefusals.{RefusesIpHeader, RefusesLax, ip_header_refusal, ip_header_rows, of_ipv4_header, of_ipv6_header}
+use Rattle.ep_lax.specs.LaxRefusals.{RefusesIpHeader, RefusesLax, ip_header_refusal, of_ipv4_header, of_ipv6_header}
 use Rattle.ep_lax.specs.Lax.{IsLax, IsLaxNet}
 use Rattle.ep_lax.specs.LaxStops.{IsStrictStop, RefusesSoOrByLength, StopsFor, is_by_length}
 use Rattle.ep_lax.proofs.LaxEntryLemmas.{lax_decided, rows_of_ipv4, rows_of_ipv6}

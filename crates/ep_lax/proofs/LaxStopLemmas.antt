@@ -1,5 +1,5 @@
 -- That what strict slicing refuses by no row of a length field is told by lax reading.
-use Rattle.std.proofs.Common.{◌≡◌, ◌⊎◌, ◌==◌, ◌||◌, not, if◌then◌else◌, nat_lt, ◌&&◌, ℕ, zero, suc, ◌+◌, ◌*◌, Bool, true, false, List, [], ◌∷◌, ◌++◌, length, Option, Some, None, refl, sym, ap, subst, ◌∙◌, inl, inr}
+use Rattle.std.proofs.Common.{◌≡◌, ◌⊎◌, ◌==◌, if◌then◌else◌, nat_lt, ◌&&◌, ℕ, zero, suc, ◌+◌, ◌*◌, Bool, true, false, List, [], ◌∷◌, ◌++◌, length, Option, Some, None, refl, sym, ap, subst, ◌∙◌, inl, inr}
 use Rattle.ep_base.specs.Bytes.{AreBytes, word_at}
 use Rattle.ep_base.specs.IpNumbers.{udp_number}
 use Rattle.ep_base.specs.IpPayload.{IpPayload}
@@ -11,10 +11,8 @@ use Rattle.ep_base.specs.declared.len_source.LenSource.TheVariants as source
 use Rattle.ep_base.specs.declared.err.layer.Layer.TheVariants as layer
 use Rattle.ep_base.specs.declared.err.ip_auth.HeaderSliceError.{HeaderSliceError as AuthSliceError}
 use Rattle.ep_base.specs.declared.err.ip_auth.HeaderSliceError.TheVariants as auth_error
-use Rattle.ep_base.specs.declared.err.ipv4.HeaderSliceError.{HeaderSliceError as Ipv4HeaderError}
 use Rattle.ep_base.specs.declared.err.ipv4.SliceError.{SliceError as Ipv4SliceError}
 use Rattle.ep_base.specs.declared.err.ipv4.SliceError.TheVariants as ipv4_error
-use Rattle.ep_base.specs.declared.err.ipv6.HeaderSliceError.{HeaderSliceError as Ipv6HeaderError}
 use Rattle.ep_base.specs.declared.err.ipv6.SliceError.{SliceError as Ipv6SliceError}
 use Rattle.ep_base.specs.declared.err.ipv6.SliceError.TheVariants as ipv6_error
 use Rattle.ep_base.specs.declared.err.ipv6_exts.HeaderError.TheVariants as content
@@ -36,20 +34,20 @@ use Rattle.ep_ext.proofs.HeaderLawLemmas.{header_laws}
 use Rattle.ep_ext.proofs.PartLemmas.{refused_under}
 use Rattle.ep_ip.specs.declared.ipv4_header.Ipv4Header.{Ipv4Header}
 use Rattle.ep_ip.specs.declared.ipv6_header.Ipv6Header.{Ipv6Header}
-use Rattle.ep_ip.specs.IpPackets.{IpPacket, IpPart, ipv4_part, ipv6_part, IsIp, IsIpv4, IsIpv6, RefusesIpv4, RefusesIpv4Chain, RefusesIpv6, RefusesIpv6Chain, ipv4_chain_refusal, ipv6_chain_refusal}
+use Rattle.ep_ip.specs.IpPackets.{IpPacket, IsIpv4, IsIpv6, RefusesIpv4, RefusesIpv4Chain, RefusesIpv6, RefusesIpv6Chain, ipv4_chain_refusal, ipv6_chain_refusal}
 use Rattle.ep_ip.specs.Ipv4.{IsIpv4Packet, RefusesIpv4Header, RefusesIpv4Packet, ipv4_header_len, ihl_of, ipv4_header_rows, is_ipv4_fragment, of_header_error}
 use Rattle.ep_ip.specs.Ipv6.{IsIpv6Packet, RefusesIpv6Header, RefusesIpv6Packet, ipv6_bytes, ipv6_header_rows, ipv6_payload_source, of_header_error as of_ipv6_header_error}
-use Rattle.ep_link.specs.LinkExtensions.{LinkExtension, extension_header, extension_payload, extension_type, link_ext_header_len}
+use Rattle.ep_link.specs.LinkExtensions.{extension_header, extension_payload, extension_type, link_ext_header_len}
 use Rattle.ep_link.specs.Macsec.{macsec_header_rows, macsec_len_of}
 use Rattle.ep_link.specs.Vlan.{vlan_rows}
 use Rattle.ep_transport.specs.TransportParts.{RefusesTransportPart}
 use Rattle.ep_transport.specs.Udp.{udp_header_rows, udp_rows}
 use Rattle.ep_packet.specs.declared.err.slice_error.SliceError.{SliceError}
-use Rattle.ep_packet.specs.Frame.{NetKind, only_ipv4, only_ipv6, only_arp, net_kind, IsNetLayer}
+use Rattle.ep_packet.specs.Frame.{NetKind, only_ipv4, only_ipv6, only_arp, net_kind}
 use Rattle.ep_packet.specs.FrameRefusals.{RefusesExtensionAt, RefusesInside, RefusesNetPart, RefusesTransportBehind, RefusesTransportIn, extension_refusal, ipv4_refusal, ipv6_refusal, len_refusal, net_header_len, transport_refusal}
 use Rattle.ep_packet.specs.Layers.{NetLayer, ipv4_layer, ipv6_layer, net_payload}
-use Rattle.ep_lax.specs.LaxIp.{LaxIp, lax_ip_of, lax_ipv6_source, stop_behind}
-use Rattle.ep_lax.specs.LaxLayers.{LaxNet, LaxTransport, net_with, no_net, no_transport, told}
+use Rattle.ep_lax.specs.LaxIp.{lax_ip_of, lax_ipv6_source, stop_behind}
+use Rattle.ep_lax.specs.LaxLayers.{LaxNet, net_with, no_net, no_transport, told}
 use Rattle.ep_lax.specs.Lax.{IsIpv4Net, IsIpv6Net, IsLaxInside, IsLaxNet, IsLaxTransport, RefusesLaxExtension, chain_refusal}
 use Rattle.ep_lax.specs.LaxStops.{is_by_length, is_length_row}
 use Rattle.ep_lax.proofs.LaxLawLemmas.{Tagged, kind_cases, lax_extension_fits}

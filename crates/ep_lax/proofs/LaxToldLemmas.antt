@@ -1,5 +1,5 @@
 -- That lax reading stops for refusals, each told with its layer, and for none by a row of a length field.
-use Rattle.std.proofs.Common.{◌≡◌, ◌⊎◌, ◌==◌, if◌then◌else◌, ℕ, zero, suc, ◌+◌, Bool, true, false, List, [], ◌∷◌, ◌++◌, length, slice_index, Option, Some, None, refl, sym, ap, subst, ◌∙◌, inl, inr}
+use Rattle.std.proofs.Common.{◌≡◌, ◌==◌, if◌then◌else◌, ℕ, zero, suc, ◌+◌, Bool, true, false, List, [], ◌∷◌, length, slice_index, Option, Some, None, refl, sym, ap, subst, ◌∙◌, inl, inr}
 use Rattle.std.specs.Prelude.{⊤}
 use Rattle.std.specs.Option.{option_map}
 use Rattle.ep_base.specs.IpNumbers.{authentication_number, fragment_number, icmpv4_number, icmpv6_number, tcp_number, udp_number}
@@ -11,19 +11,14 @@ use Rattle.ep_base.specs.declared.ether_type.EtherType.{EtherType}
 use Rattle.ep_base.specs.declared.len_source.LenSource.{LenSource}
 use Rattle.ep_base.specs.declared.len_source.LenSource.TheVariants as source
 use Rattle.ep_base.specs.declared.err.layer.Layer.{Layer}
-use Rattle.ep_base.specs.declared.err.len_error.LenError.{LenError}
-use Rattle.ep_base.specs.declared.err.ipv4.HeaderSliceError.{HeaderSliceError as Ipv4HeaderError}
-use Rattle.ep_base.specs.declared.err.ipv6.HeaderSliceError.{HeaderSliceError as Ipv6HeaderError}
 use Rattle.ep_base.specs.declared.err.ip.LaxHeaderSliceError.{LaxHeaderSliceError}
 use Rattle.ep_base.specs.declared.err.ipv6_exts.HeaderError.TheVariants as content
 use Rattle.ep_base.specs.declared.err.ipv6_exts.HeaderSliceError.{HeaderSliceError as ExtsSliceError}
 use Rattle.ep_base.specs.declared.err.ipv6_exts.HeaderSliceError.TheVariants as exts_error
-use Rattle.ep_base.specs.declared.err.linux_sll.HeaderSliceError.{HeaderSliceError as SllError}
-use Rattle.ep_base.specs.declared.err.macsec.HeaderSliceError.{HeaderSliceError as TagError}
 use Rattle.ep_base.specs.declared.err.tcp.HeaderSliceError.{HeaderSliceError as TransportError}
 use Rattle.ep_base.specs.declared.err.tcp.HeaderSliceError.TheVariants as transport_error
 use Rattle.ep_base.proofs.TableLemmas.{AllErrors, refusal_is}
-use Rattle.ep_ext.specs.Chains.{IpVersion, ipv4, ipv6, ExtensionChain, RefusesChainBehind, chain_fragments, further_in}
+use Rattle.ep_ext.specs.Chains.{IpVersion, ipv4, ipv6, ExtensionChain, RefusesChainBehind, further_in}
 use Rattle.ep_ext.specs.ExtensionParts.{ExtensionPart, RefusesExtensionPart, auth_refusal, extension_part_rows, part_len, part_next}
 use Rattle.ep_ext.specs.FragmentHeader.{fragment_header_rows}
 use Rattle.ep_ext.specs.FrontChains.{IsFrontChain}
@@ -33,14 +28,14 @@ use Rattle.ep_ip.specs.declared.ipv4_header.Ipv4Header.{Ipv4Header}
 use Rattle.ep_ip.specs.declared.ipv6_header.Ipv6Header.{Ipv6Header}
 use Rattle.ep_ip.specs.Ip.{version_of}
 use Rattle.ep_ip.specs.IpPackets.{IpPacket}
-use Rattle.ep_ip.specs.Ipv4.{RefusesIpv4Header, ipv4_header_len, ipv4_header_rows, is_ipv4_fragment, of_header_error}
-use Rattle.ep_ip.specs.Ipv6.{RefusesIpv6Header, ipv6_header_rows, ipv6_payload_source, of_header_error as of_ipv6_header_error}
-use Rattle.ep_link.specs.Arp.{RefusesArp, arp_rows}
+use Rattle.ep_ip.specs.Ipv4.{ipv4_header_len, ipv4_header_rows, of_header_error}
+use Rattle.ep_ip.specs.Ipv6.{ipv6_header_rows, ipv6_payload_source, of_header_error as of_ipv6_header_error}
+use Rattle.ep_link.specs.Arp.{arp_rows}
 use Rattle.ep_link.specs.Ethernet2.{ethernet2_header_len, ethernet2_rows}
 use Rattle.ep_link.specs.LinuxSll.{linux_sll_header_len, linux_sll_rows, protocol_ether_type}
 use Rattle.ep_link.specs.LinkExtensions.{extension_header, extension_payload, extension_type, link_ext_header_len}
-use Rattle.ep_link.specs.Macsec.{RefusesMacsecHeader, macsec_header_rows}
-use Rattle.ep_link.specs.Vlan.{RefusesVlan, vlan_rows}
+use Rattle.ep_link.specs.Macsec.{macsec_header_rows}
+use Rattle.ep_link.specs.Vlan.{vlan_rows}
 use Rattle.ep_transport.specs.declared.transport_header.TransportHeader.{TransportHeader}
 use Rattle.ep_transport.specs.declared.transport_header.TransportHeader.TheVariants as header
 use Rattle.ep_transport.specs.Icmp.{kind_in}
@@ -56,10 +51,10 @@ use Rattle.ep_packet.specs.declared.err.slice_error.SliceError.TheVariants.{Len}
 use Rattle.ep_packet.specs.Frame.{NetKind, only_ipv4, only_ipv6, only_arp, any_ip, most_link_exts, net_kind}
 use Rattle.ep_packet.specs.FrameRefusals.{RefusesTransportIn, extension_refusal, ipv4_refusal, ipv6_refusal, len_refusal, linux_sll_refusal, net_header_len, transport_refusal}
 use Rattle.ep_packet.specs.Layers.{NetLayer, ipv4_layer, ipv6_layer}
-use Rattle.ep_lax.specs.LaxIp.{LaxIp, IsLaxIpv4, IsLaxIpv6, lax_ip_of, lax_ipv6_source, stop_behind}
-use Rattle.ep_lax.specs.LaxLayers.{LaxLayers, LaxNet, LaxTransport, layer_cut, net_with, no_net, no_transport, told}
-use Rattle.ep_lax.specs.LaxRefusals.{RefusesLax, RefusesIpHeader, ip_header_refusal, ip_header_rows, of_ipv4_header, of_ipv6_header}
-use Rattle.ep_lax.specs.Lax.{IsCutLaxly, IsHeaderCutLaxly, IsInsideIp, IsIpLayer, IsIpv4Net, IsIpv6Net, IsLax, IsLaxInside, IsLaxNet, IsLaxTransport, IsNoNet, RefusesLaxExtension, arp_net, chain_refusal}
+use Rattle.ep_lax.specs.LaxIp.{LaxIp, IsLaxIpv4, IsLaxIpv6, lax_ipv6_source, stop_behind}
+use Rattle.ep_lax.specs.LaxLayers.{LaxLayers, LaxNet, LaxTransport, told}
+use Rattle.ep_lax.specs.LaxRefusals.{RefusesLax, ip_header_refusal, ip_header_rows, of_ipv4_header, of_ipv6_header}
+use Rattle.ep_lax.specs.Lax.{IsCutLaxly, IsHeaderCutLaxly, IsInsideIp, IsIpLayer, IsIpv4Net, IsIpv6Net, IsLax, IsLaxInside, IsLaxNet, IsLaxTransport, IsNoNet, RefusesLaxExtension, chain_refusal}
 use Rattle.ep_lax.specs.LaxStops.{is_by_length, is_length_row, is_udp_length}
 use Rattle.ep_lax.proofs.LaxLawLemmas.{Tagged}
 

@@ -1,6 +1,6 @@
 -- That a frame is read laxly as the layers that it is, that none of its payloads is incomplete, and that the walk stops
 -- nowhere.
-use Rattle.std.proofs.Common.{◌≡◌, ◌⊎◌, ◌==◌, ◌&&◌, ◌||◌, not, nat_lt, nat_le, if◌then◌else◌, ℕ, zero, suc, ◌+◌, ◌≤◌, ◌<◌, Bool, true, false, List, [], ◌∷◌, ◌++◌, map, length, Option, Some, None, refl, sym, ap, subst, ◌∙◌, inl, inr, append_assoc, length-append, arith}
+use Rattle.std.proofs.Common.{◌≡◌, ◌==◌, ◌&&◌, nat_lt, if◌then◌else◌, ℕ, zero, suc, ◌+◌, ◌<◌, Bool, true, false, List, [], ◌∷◌, ◌++◌, map, length, Option, Some, None, refl, sym, ap, subst, ◌∙◌, inl, inr, append_assoc, length-append, arith}
 use Rattle.std.proofs.lemmas.Bool.{ne_eqb}
 use Rattle.std.proofs.lemmas.Grind.{common_steps}
 use Rattle.ep_base.specs.IpPayload.{IpPayload}
@@ -11,20 +11,18 @@ use Rattle.ep_base.specs.declared.ether_type.EtherType.{EtherType}
 use Rattle.ep_base.specs.declared.len_source.LenSource.{LenSource}
 use Rattle.ep_base.specs.declared.len_source.LenSource.TheVariants as source
 use Rattle.ep_base.proofs.LaxCutLemmas.{cut_there, cut_nowhere}
-use Rattle.ep_ext.specs.Chains.{ipv4, ipv6, chain_of}
+use Rattle.ep_ext.specs.Chains.{chain_of}
 use Rattle.ep_ip.specs.declared.ipv4_header.Ipv4Header.{Ipv4Header}
 use Rattle.ep_ip.specs.declared.ipv6_header.Ipv6Header.{Ipv6Header}
 use Rattle.ep_ip.specs.IpPackets.{IpPacket, IpPart, ipv4_part, ipv6_part, IsIp, IsIpv4, IsIpv6}
 use Rattle.ep_ip.specs.Ipv4.{IsIpv4Header, IsIpv4Packet, ipv4_header_len}
 use Rattle.ep_ip.specs.Ipv6.{IsIpv6Header, IsIpv6Packet, ipv6_bytes, ipv6_payload_source}
 use Rattle.ep_ip.proofs.IpBytesLemmas.{encoded_len}
-use Rattle.ep_link.specs.declared.link_ext.macsec_header.MacsecHeader.{MacsecHeader}
-use Rattle.ep_link.specs.Arp.{Arp, IsArp}
 use Rattle.ep_link.specs.LinkExtensions.{LinkExtension, vlan, macsec, IsLinkExtension, extension_header, extension_payload, extension_type, link_ext_header_len}
 use Rattle.ep_link.specs.Ethernet2.{ethernet2_header_len}
 use Rattle.ep_link.specs.LinkSlices.{LinkLayer}
 use Rattle.ep_link.specs.LinuxSll.{linux_sll_header_len, protocol_ether_type}
-use Rattle.ep_link.specs.Macsec.{IsMacsecHeader, MacsecPayload, macsec_header_len, macsec_len_source, macsec_payload, macsec_payload_bytes, payload_by, ptype_len, sci_len}
+use Rattle.ep_link.specs.Macsec.{IsMacsecHeader, macsec_header_len, macsec_len_source, macsec_payload_bytes, payload_by, sci_len}
 use Rattle.ep_link.specs.Vlan.{IsVlan}
 use Rattle.ep_transport.specs.declared.transport_header.TransportHeader.{TransportHeader}
 use Rattle.ep_transport.specs.declared.transport_header.TransportHeader.TheVariants as header
@@ -35,9 +33,9 @@ use Rattle.ep_packet.specs.declared.entry.Entry.TheVariants.{Ethernet as etherne
 use Rattle.ep_packet.specs.Frame.{NetKind, only_ipv4, only_ipv6, only_arp, any_ip, net_kind, most_link_exts, IsFrame, IsInside, IsNetPart, IsTransportBehind, IsTransportIn}
 use Rattle.ep_packet.specs.FrameRefusals.{net_header_len}
 use Rattle.ep_packet.specs.Layers.{Layers, NetLayer, ip_layer, ipv4_layer, ipv6_layer, net_payload}
-use Rattle.ep_lax.specs.LaxIp.{LaxIp, IsLaxIpv4, IsLaxIpv6, lax_ip_of, lax_ipv6_source}
-use Rattle.ep_lax.specs.LaxLayers.{LaxLayers, LaxNet, LaxTransport, net_with, no_net, no_transport}
-use Rattle.ep_lax.specs.LaxMacsec.{IsLaxMacsec, lax_macsec_payload, macsec_says}
+use Rattle.ep_lax.specs.LaxIp.{LaxIp, IsLaxIpv4, IsLaxIpv6, lax_ipv6_source}
+use Rattle.ep_lax.specs.LaxLayers.{LaxLayers, LaxNet, LaxTransport, net_with, no_net}
+use Rattle.ep_lax.specs.LaxMacsec.{macsec_says}
 use Rattle.ep_lax.specs.Lax.{IsHeaderCutLaxly, IsLaxTransport, IsIpv4Net, IsIpv6Net, IsLaxNet, IsLaxExtension, IsLaxInside, IsLax, arp_net}
 use Rattle.ep_lax.specs.StrictFrames.{AreWhole, IsWhole, extension_in, layers_in}
 

@@ -1,5 +1,5 @@
 -- How slices that were read laxly are compared: by what they show, and whether bytes of it are missing.
-use Rattle.std.specs.Prelude.{◌≡◌, ◌&&◌, Bool}
+use Rattle.std.specs.Prelude.{◌≡◌, ◌&&◌}
 use Rattle.std.specs.Option.{option_eq, option_map}
 use Rattle.std.specs.Cmp.Lexicographic.{pointwise}
 use Rattle.ep_base.specs.declared.err.layer.Layer.{Layer}
@@ -26,14 +26,16 @@ use Rattle.ep_lax.specs.declared.lax_sliced_packet.LaxSlicedPacket.{LaxSlicedPac
 use Rattle.ep_lax.specs.LaxSlices.{lax_ipv4_slice_incomplete, lax_ipv4_slice_payload, lax_ipv6_slice_incomplete, lax_ipv6_slice_payload}
 use Rattle.ep_lax.specs.LaxSlices.{lax_macsec_incomplete, lax_macsec_payload_of}
 
--- the packets show the same bytes as header and as authentication header, and the same payload
+-- the packets show the same bytes as header and as authentication header, and the same payload, complete in both or in
+-- neither
 pub record ShowSameLaxIpv4 (a b : LaxIpv4Slice) : Type 0 where
   pub header : ipv4_header_slice_bytes a.header ≡ ipv4_header_slice_bytes b.header
   pub extensions : option_map ip_auth_slice_bytes a.extensions.auth ≡ option_map ip_auth_slice_bytes b.extensions.auth
   pub incomplete : lax_ipv4_slice_incomplete a ≡ lax_ipv4_slice_incomplete b
   pub payload : lax_ipv4_slice_payload a ≡ lax_ipv4_slice_payload b
 
--- the packets show the same bytes as header and as extension headers, the first of one kind, and the same payload
+-- the packets show the same bytes as header and as extension headers, the first of one kind, and the same payload,
+-- complete in both or in neither
 pub record ShowSameLaxIpv6 (a b : LaxIpv6Slice) : Type 0 where
   pub header : ipv6_header_slice_bytes a.header ≡ ipv6_header_slice_bytes b.header
   pub first : ipv6_slice_number a.extensions ≡ ipv6_slice_number b.extensions

@@ -10,7 +10,6 @@ use Rattle.ep_packet.specs.declared.err.slice_error.SliceError.TheVariants.{Len}
 use Rattle.ep_packet.specs.FrameRefusals.{RefusesFrame}
 use Rattle.ep_lax.specs.Lax.{IsLax}
 use Rattle.ep_lax.specs.LaxLayers.{LaxLayers, told}
-use Rattle.ep_lax.specs.LaxRefusals.{RefusesLax}
 
 -- whether the length field of UDP set this end
 abbrev pub is_udp_length : LenSource → Bool

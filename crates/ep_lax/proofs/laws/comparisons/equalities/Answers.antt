@@ -9,7 +9,7 @@ use Rattle.ep_lax.specs.declared.lax_ip_payload_slice.LaxIpPayloadSlice.{LaxIpPa
 use Rattle.ep_lax.specs.declared.lax_link_ext_slice.LaxLinkExtSlice.TheVariants as extension
 use Rattle.ep_lax.specs.declared.lax_macsec_payload_slice.LaxMacsecPayloadSlice.TheVariants as slice
 use Rattle.ep_lax.specs.declared.lax_net_slice.LaxNetSlice.TheVariants as net
-use Rattle.ep_lax.specs.LaxSlices.{lax_ip_payload_of, lax_macsec_payload_of}
+use Rattle.ep_lax.specs.LaxSlices.{lax_ip_payload_of}
 use Rattle.ep_lax.proofs.laws.comparisons.equalities.Goals as goal
 
 pub returns-clause-ether_payloads : goal.returns-clause-ether_payloads
