@@ -278,6 +278,24 @@ record IsWholeNet (offset : ℕ) (kind : Option NetKind) (bytes : List ℕ) (net
   inside : read.inside ≡ whole_transport transport
   whole : read.incomplete ≡ false
 
+-- of a packet of IP, in the layer of its net part
+whole_one : (offset : ℕ) (kind : Option NetKind) (bytes : List ℕ) (layer found : NetLayer) (net : Option NetLayer)
+    (transport : Option TransportLayer) → layer ≡ found → net ≡ Some layer
+    → IsLaxNet offset false kind bytes (whole_net found transport) → IsWholeNet offset kind bytes net transport
+whole_one offset kind bytes layer found net transport same filled is = record {
+  read = whole_net found transport;
+  is = is;
+  layer = ap Some (sym same) ∙ sym filled;
+  inside = refl;
+  whole = refl;
+}
+
+-- what lies in the payload of a layer lies in that of the layer which it is
+inside_found : (layer found : NetLayer) (transport : Option TransportLayer) → layer ≡ found
+    → IsTransportBehind slices (net_payload layer) transport → IsTransportBehind slices (net_payload found) transport
+inside_found layer found transport same inside =
+    subst (λ (l : NetLayer). IsTransportBehind slices (net_payload l) transport) same inside
+
 net_is_whole : (offset : ℕ) (kind : Option NetKind) (bytes : List ℕ) (net : Option NetLayer)
     (transport : Option TransportLayer) → IsNetPart slices kind bytes net transport
     → IsWholeNet offset kind bytes net transport
@@ -289,56 +307,32 @@ net_is_whole offset None bytes net transport part = record {
   whole = refl;
 }
 net_is_whole offset (Some only_ipv4) bytes net transport part =
-    let packet = part.1.0 in
-    let behind = subst (λ (l : NetLayer). IsTransportBehind slices (net_payload l) transport) part.1.2 part.3 in
-    record {
-      read = whole_net (ipv4_layer packet) transport;
-      is = inr (ipv4_net offset bytes packet transport part.1.1 behind);
-      layer = ap Some (sym part.1.2) ∙ sym part.2;
-      inside = refl;
-      whole = refl;
-    }
+    let layer = ipv4_layer part.1.0 in
+    whole_one offset (Some only_ipv4) bytes part.0 layer net transport part.1.2 part.2
+    (inr (ipv4_net offset bytes part.1.0 transport part.1.1 (inside_found part.0 layer transport part.1.2 part.3)))
 net_is_whole offset (Some only_ipv6) bytes net transport part =
-    let packet = part.1.0 in
-    let behind = subst (λ (l : NetLayer). IsTransportBehind slices (net_payload l) transport) part.1.2 part.3 in
-    record {
-      read = whole_net (ipv6_layer packet) transport;
-      is = inr (ipv6_net offset bytes packet transport part.1.1 behind);
-      layer = ap Some (sym part.1.2) ∙ sym part.2;
-      inside = refl;
-      whole = refl;
-    }
-net_is_whole offset (Some only_arp) bytes net transport part =
-    let behind = subst (λ (l : NetLayer). IsTransportBehind slices (net_payload l) transport) part.1.2 part.3 in
-    record {
-      read = arp_net part.1.0.0;
-      is = inr (part.1.0, part.1.1, refl);
-      layer = ap Some (sym part.1.2) ∙ sym part.2;
-      inside = λ i. whole_transport (sym behind i);
-      whole = refl;
-    }
+    let layer = ipv6_layer part.1.0 in
+    whole_one offset (Some only_ipv6) bytes part.0 layer net transport part.1.2 part.2
+    (inr (ipv6_net offset bytes part.1.0 transport part.1.1 (inside_found part.0 layer transport part.1.2 part.3)))
+net_is_whole offset (Some only_arp) bytes net transport part = record {
+  read = arp_net part.1.0.0;
+  is = inr (part.1.0, part.1.1, refl);
+  layer = ap Some (sym part.1.2) ∙ sym part.2;
+  inside = λ i. whole_transport (sym (inside_found part.0 (arp part.1.0.0) transport part.1.2 part.3) i);
+  whole = refl;
+}
 net_is_whole offset (Some any_ip) bytes net transport part = open_version part.1.0 part.1.1 part.1.2
   where
     open_version : (found : IpPart) → IsIp slices bytes found → part.0 ≡ ip_layer found
         → IsWholeNet offset (Some any_ip) bytes net transport
     open_version (ipv4_part packet) is same =
-        let behind = subst (λ (l : NetLayer). IsTransportBehind slices (net_payload l) transport) same part.3 in
-        record {
-          read = whole_net (ipv4_layer packet) transport;
-          is = inl (ipv4_net offset bytes packet transport is behind);
-          layer = ap Some (sym same) ∙ sym part.2;
-          inside = refl;
-          whole = refl;
-        }
+        whole_one offset (Some any_ip) bytes part.0 (ipv4_layer packet) net transport same part.2
+        (inl (ipv4_net offset bytes packet transport is
+        (inside_found part.0 (ipv4_layer packet) transport same part.3)))
     open_version (ipv6_part packet) is same =
-        let behind = subst (λ (l : NetLayer). IsTransportBehind slices (net_payload l) transport) same part.3 in
-        record {
-          read = whole_net (ipv6_layer packet) transport;
-          is = inr (ipv6_net offset bytes packet transport is behind);
-          layer = ap Some (sym same) ∙ sym part.2;
-          inside = refl;
-          whole = refl;
-        }
+        whole_one offset (Some any_ip) bytes part.0 (ipv6_layer packet) net transport same part.2
+        (inr (ipv6_net offset bytes packet transport is
+        (inside_found part.0 (ipv6_layer packet) transport same part.3)))
 
 -- ---- link extensions
 

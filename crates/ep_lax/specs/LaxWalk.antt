@@ -6,31 +6,34 @@ use Rattle.ep_base.specs.declared.err.macsec.HeaderSliceError.{HeaderSliceError 
 use Rattle.ep_base.specs.declared.err.macsec.HeaderSliceError.TheVariants as tag_error
 use Rattle.ep_base.specs.declared.err.layer.Layer.{Layer}
 use Rattle.ep_base.specs.declared.ether_type.EtherType.{EtherType}
-use Rattle.ep_link.specs.declared.link.link_slice.LinkSlice.{LinkSlice}
 use Rattle.ep_link.specs.LinkExtensions.{IsVlanType, IsMacsecType}
 use Rattle.ep_link.specs.Macsec.{RefusesMacsecHeader}
 use Rattle.ep_link.specs.Vlan.{RefusesVlan}
 use Rattle.ep_transport.specs.declared.transport_slice.TransportSlice.{TransportSlice}
 use Rattle.ep_packet.specs.declared.entry.Entry.{Entry}
 use Rattle.ep_packet.specs.declared.err.slice_error.SliceError.{SliceError}
+use Rattle.ep_packet.specs.declared.link_part.LinkPart.{LinkPart}
 use Rattle.ep_packet.specs.Frame.{NetKind, most_link_exts}
+use Rattle.ep_packet.specs.LinkParts.{BeginsPacket}
 use Rattle.ep_packet.specs.Walk.{net_kind_in}
 use Rattle.ep_lax.specs.declared.lax_link_ext_slice.LaxLinkExtSlice.{LaxLinkExtSlice}
 use Rattle.ep_lax.specs.declared.lax_net_slice.LaxNetSlice.{LaxNetSlice}
 use Rattle.ep_lax.specs.declared.lax_sliced_packet.LaxSlicedPacket.{LaxSlicedPacket}
-use Rattle.ep_lax.specs.declared.lax_sliced_packet_walk.LinkPart.{LinkPart}
 use Rattle.ep_lax.specs.Lax.{IsLax, IsLaxExtension, IsLaxInside, IsLaxNet, IsLaxTransport}
 use Rattle.ep_lax.specs.LaxLayers.{LaxTransport, no_transport, told}
-use Rattle.ep_lax.specs.LaxPackets.{ShowsLax, ShowsLaxInside, ShowsLaxNet, extensions_incomplete, inside_of, lax_extension_bytes, lax_layers_of, lax_net_of}
+use Rattle.ep_lax.specs.LaxPackets.{ShowsLax, ShowsLaxInside, ShowsLaxNet, extensions_incomplete}
+use Rattle.ep_lax.specs.LaxPackets.{lax_extension_bytes, lax_layers_of, lax_net_of}
 use Rattle.ep_lax.specs.LaxViews.{extension_incomplete, lax_extension_of, lax_extensions_of}
 
--- what is inside a packet of IP whose payload lies `offset` bytes behind the start: where an extension header is refused
+-- what is inside a packet of IP whose payload lies `offset` bytes behind the start: where an extension header is
+-- refused
 -- for this error, nothing
 abbrev pub IsBehindIp : ℕ → Bool → IpPayload → Option SliceError → LaxTransport → Type 0
 IsBehindIp offset incomplete payload None inside = IsLaxTransport offset incomplete payload inside
 IsBehindIp offset incomplete payload (Some error) inside = inside ≡ no_transport incomplete (Some (told error))
 
--- The slices are the net layer of a kind that bytes are, which lie `offset` bytes behind the start and are incomplete or
+-- The slices are the net layer of a kind that bytes are, which lie `offset` bytes behind the start and are incomplete
+-- or
 -- not, and what is inside it; and they show these bytes.
 pub record HoldsLaxNet (offset : ℕ) (outer : Bool) (kind : Option NetKind) (bytes : List ℕ)
     (net : Option LaxNetSlice) (transport : Option TransportSlice) (stop : Option (SliceError × Layer)) : Type 0 where
@@ -44,11 +47,10 @@ pub record HoldsLaxInside (offset : ℕ) (type : Option EtherType) (bytes : List
       (lax_net_of (extensions_incomplete false extensions) net transport stop)
   pub shows : ShowsLaxInside bytes extensions net transport
 
--- the packet has this link layer, and its other layers are what bytes of a type hold
-pub record HoldsLaxBehind (link : LinkSlice) (offset : ℕ) (type : Option EtherType) (bytes : List ℕ)
-    (packet : LaxSlicedPacket) : Type 0 where
-  pub has_link : packet.link ≡ Some link
-  pub inside : HoldsLaxInside offset type bytes packet.link_exts.items packet.net packet.transport packet.stop_err
+-- the packet is what bytes are that begin with this link layer, as an entry says
+abbrev pub IsLaxBehind : LinkPart → LaxSlicedPacket → Type 0
+IsLaxBehind part packet = (entry : Entry) (bytes : List ℕ) → BeginsPacket entry bytes part
+    → IsLax entry bytes (lax_layers_of packet) × ShowsLax bytes packet
 
 -- a slice is an extension that bytes of a type begin with, which are incomplete or not, and shows their front
 pub record IsShownExtension (outer : Bool) (type : EtherType) (bytes : List ℕ) (slice : LaxLinkExtSlice) : Type 0 where
@@ -81,9 +83,3 @@ pub record HasLaxExtensions (offset : ℕ) (type : Option EtherType) (bytes : Li
 abbrev pub StopsBehind : ℕ → Option EtherType → List ℕ → List LaxLinkExtSlice → SliceError → Type 0
 StopsBehind offset type bytes extensions error =
     HoldsLaxInside offset type bytes extensions None None (Some (told error))
-
--- the bytes begin with this link layer, as an entry says: the packet is the link layer and what its payload holds
-pub record BeginsLax (entry : Entry) (bytes : List ℕ) (part : LinkPart) : Type 0 where
-  pub holds : (packet : LaxSlicedPacket)
-      → HoldsLaxBehind part.link part.offset part.ether_type part.slice.now packet
-      → IsLax entry bytes (lax_layers_of packet) × ShowsLax bytes packet

@@ -27,6 +27,12 @@ pub struct LaxIpv6Slice<'a> {
     payload: LaxIpPayloadSlice<'a>,
 }
 
+/// A packet, and why the extension header with which its payload begins is refused, where one is, and which layer that is.
+type WithStop<'a> = (
+    LaxIpv6Slice<'a>,
+    Option<(ipv6_exts::HeaderSliceError, Layer)>,
+);
+
 impl<'a> LaxIpv6Slice<'a> {
     ghost use Rattle.std.specs.Prelude.{◌≡◌, ◌+◌, ◌++◌, length, IfOk, IfErr, IsOkAnd, List, ℕ, Option, false};
     ghost use Rattle.std.specs.Option.{option_map};
@@ -43,15 +49,7 @@ impl<'a> LaxIpv6Slice<'a> {
     /// The packet at the front of the slice, whatever its payload length says, and why the extension header with which
     /// its payload begins is refused, where one is, and which layer that is. The payload length cuts the packet where it
     /// can, and the payload is incomplete where it says more than is there. The number 0 cuts nothing.
-    pub fn from_slice(
-        slice: &'a [u8],
-    ) -> Result<
-        (
-            LaxIpv6Slice<'a>,
-            Option<(ipv6_exts::HeaderSliceError, Layer)>,
-        ),
-        ipv6::HeaderSliceError,
-    >
+    pub fn from_slice(slice: &'a [u8]) -> Result<WithStop<'a>, ipv6::HeaderSliceError>
         ensures ok { IfOk result (λ read. (left : List ℕ) × (stop : Option HeaderSliceError)
             × (slice.now ≡ lax_ipv6_slice_bytes read.0 ++ left)
             × IsLaxIpv6 false slice.now (lax_ipv6_of read.0 left stop) × (read.1 ≡ option_map chain_stop stop)) }
@@ -65,16 +63,7 @@ impl<'a> LaxIpv6Slice<'a> {
 
     /// The packet at the front of a slice of which bytes are missing or not.
     #[inline(always)]
-    pub(crate) fn read(
-        slice: &'a [u8],
-        outer: bool,
-    ) -> Result<
-        (
-            LaxIpv6Slice<'a>,
-            Option<(ipv6_exts::HeaderSliceError, Layer)>,
-        ),
-        ipv6::HeaderSliceError,
-    >
+    pub(crate) fn read(slice: &'a [u8], outer: bool) -> Result<WithStop<'a>, ipv6::HeaderSliceError>
         ensures ok { IfOk result (λ read. (left : List ℕ) × (stop : Option HeaderSliceError)
             × (slice.now ≡ lax_ipv6_slice_bytes read.0 ++ left)
             × IsLaxIpv6 outer slice.now (lax_ipv6_of read.0 left stop) × (read.1 ≡ option_map chain_stop stop)) }

@@ -2,13 +2,13 @@
 
 use crate::lax_link_ext_slice::LaxLinkExtSlice;
 use crate::lax_net_slice::LaxNetSlice;
-use crate::lax_sliced_packet_walk::{LinkPart, fill_inside, fill_ip};
+use crate::lax_sliced_packet_walk::{fill_inside, fill_ip};
 use arrayvec::ArrayVec;
 use ep_base::EtherType;
 use ep_base::err::{Layer, LenError, ip, linux_sll};
 use ep_link::LinkSlice;
-use ep_packet::Entry;
 use ep_packet::err::SliceError;
+use ep_packet::{Entry, LinkPart};
 use ep_transport::TransportSlice;
 
 /// A packet, sliced laxly: its layers from the outside in, up to the first whose header is not there or does not stand.
@@ -37,7 +37,7 @@ impl<'a> LaxSlicedPacket<'a> {
     ghost use Rattle.ep_lax.specs.LaxLayers.{LaxLayers, no_lax_layers};
     ghost use Rattle.ep_lax.specs.LaxRefusals.{RefusesIpHeader, RefusesLax};
     ghost use Rattle.ep_lax.specs.LaxPackets.{ShowsLax, lax_layers_of};
-    ghost use Rattle.ep_lax.specs.LaxWalk.{HoldsLaxBehind};
+    ghost use Rattle.ep_lax.specs.LaxWalk.{IsLaxBehind};
 
     /// The greatest number of link extensions that are taken. A further one is left as payload.
     pub const LINK_EXTS_CAP: usize = 3;
@@ -67,11 +67,7 @@ impl<'a> LaxSlicedPacket<'a> {
         ensures err { IfErr result (RefusesEthernet2 slice.now) }
     {
         match LinkPart::ethernet(slice) {
-            Ok(part) => {
-                let mut packet = LaxSlicedPacket::new();
-                packet.fill_behind(part);
-                Ok(packet)
-            }
+            Ok(part) => Ok(LaxSlicedPacket::behind(part)),
             Err(error) => Err(error),
         }
     }
@@ -89,11 +85,7 @@ impl<'a> LaxSlicedPacket<'a> {
         ensures err { IfErr result (RefusesLinuxSll slice.now) }
     {
         match LinkPart::linux_sll(slice) {
-            Ok(part) => {
-                let mut packet = LaxSlicedPacket::new();
-                packet.fill_behind(part);
-                Ok(packet)
-            }
+            Ok(part) => Ok(LaxSlicedPacket::behind(part)),
             Err(error) => Err(error),
         }
     }
@@ -107,9 +99,7 @@ impl<'a> LaxSlicedPacket<'a> {
             → lax_layers_of result ≡ layers }
         ensures bytes { ShowsLax slice.now result }
     {
-        let mut packet = LaxSlicedPacket::new();
-        packet.fill_behind(LinkPart::ether_type(ether_type, slice));
-        packet
+        LaxSlicedPacket::behind(LinkPart::ether_type(ether_type, slice))
     }
 
     /// The layers of the packet that is an IP packet of either version, which has no link layer. It is refused where its
@@ -146,11 +136,7 @@ impl<'a> LaxSlicedPacket<'a> {
         match self.fill(entry, bytes) {
             Ok(()) => Ok(()),
             Err(error) => {
-                self.link = None;
-                self.link_exts.clear();
-                self.net = None;
-                self.transport = None;
-                self.stop_err = None;
+                *self = LaxSlicedPacket::new();
                 Err(error)
             }
         }
@@ -198,8 +184,7 @@ impl<'a> LaxSlicedPacket<'a> {
                 self.fill_behind(part);
                 Ok(())
             }
-            Err(linux_sll::HeaderSliceError::Len(error)) => Err(SliceError::Len(error)),
-            Err(linux_sll::HeaderSliceError::Content(error)) => Err(SliceError::LinuxSll(error)),
+            Err(error) => Err(SliceError::from(error)),
         }
     }
 
@@ -228,12 +213,23 @@ impl<'a> LaxSlicedPacket<'a> {
         )
     }
 
+    /// A link layer and the layers in its payload.
+    #[inline(always)]
+    fn behind(part: LinkPart<'a>) -> LaxSlicedPacket<'a>
+        requires { part.offset + length part.slice.now < 2 ^ 64 }
+        ensures { IsLaxBehind part.entry result }
+    {
+        let mut packet = LaxSlicedPacket::new();
+        packet.fill_behind(part);
+        packet
+    }
+
     /// Fills in a link layer and the layers in its payload.
     #[inline(always)]
     fn fill_behind(&mut self, part: LinkPart<'a>)
         requires place { part.offset + length part.slice.now < 2 ^ 64 }
         requires empty { self.old.link_exts.items ≡ [] }
-        ensures { HoldsLaxBehind part.entry.link part.entry.offset part.entry.ether_type part.entry.slice.now self.new }
+        ensures { IsLaxBehind part.entry self.new }
     {
         self.link = Some(part.link);
         fill_inside(

@@ -27,93 +27,11 @@ use crate::lax_net_slice::LaxNetSlice;
 use crate::lax_stop::{auth_stop, chain_stop, extension_stop, told};
 use crate::lax_transport::fill_behind_ip;
 use arrayvec::ArrayVec;
-use ep_base::err::{Layer, LenError, ip, ip_auth, ipv4, ipv6, ipv6_exts, linux_sll};
-use ep_base::{EtherPayloadSlice, EtherType, LenSource, ether_type};
-use ep_link::{
-    ArpPacketSlice, Ethernet2Header, Ethernet2Slice, LinkSlice, LinuxSllHeader, LinuxSllSlice,
-};
+use ep_base::err::{Layer, LenError, ip, ip_auth, ipv4, ipv6, ipv6_exts};
+use ep_base::{EtherType, LenSource, ether_type};
+use ep_link::ArpPacketSlice;
 use ep_packet::err::SliceError;
 use ep_transport::TransportSlice;
-
-/// The link layer with which a packet begins, and the bytes in it.
-#[derive(Drop)]
-pub(crate) struct LinkPart<'a> {
-    /// The link layer.
-    pub(crate) link: LinkSlice<'a>,
-    /// How far behind the packet's start its payload lies.
-    pub(crate) offset: usize,
-    /// The payload's type, where it is known.
-    pub(crate) ether_type: Option<EtherType>,
-    /// The payload.
-    pub(crate) slice: &'a [u8],
-}
-
-impl<'a> LinkPart<'a> {
-    ghost use Rattle.ep_link.specs.Ethernet2.{RefusesEthernet2};
-    ghost use Rattle.ep_link.specs.LinuxSll.{RefusesLinuxSll};
-    ghost use Rattle.ep_packet.specs.declared.entry.Entry.TheVariants.{Ethernet as ethernet, LinuxSll as linux_sll, EtherType as of_type};
-    ghost use Rattle.ep_lax.specs.LaxWalk.{BeginsLax};
-
-    /// The Ethernet II header with which a packet begins.
-    #[inline(always)]
-    pub(crate) fn ethernet(slice: &'a [u8]) -> Result<LinkPart<'a>, LenError>
-        ensures ok { IfOk result (BeginsLax ethernet slice.now) }
-        ensures place { IfOk result (λ part. part.offset + length part.slice.now < 2 ^ 64) }
-        ensures err { IfErr result (RefusesEthernet2 slice.now) }
-    {
-        let frame = match Ethernet2Slice::from_slice_without_fcs(slice) {
-            Ok(frame) => frame,
-            Err(error) => return Err(error),
-        };
-        let ether_type = frame.ether_type();
-        let payload = frame.payload_slice();
-        Ok(LinkPart {
-            link: LinkSlice::Ethernet2(frame),
-            offset: Ethernet2Header::LEN,
-            ether_type: Some(ether_type),
-            slice: payload,
-        })
-    }
-
-    /// The header of a Linux cooked capture with which a packet begins.
-    #[inline(always)]
-    pub(crate) fn linux_sll(slice: &'a [u8]) -> Result<LinkPart<'a>, linux_sll::HeaderSliceError>
-        ensures ok { IfOk result (BeginsLax linux_sll slice.now) }
-        ensures place { IfOk result (λ part. part.offset + length part.slice.now < 2 ^ 64) }
-        ensures err { IfErr result (RefusesLinuxSll slice.now) }
-    {
-        let frame = match LinuxSllSlice::from_slice(slice) {
-            Ok(frame) => frame,
-            Err(error) => return Err(error),
-        };
-        let ether_type = frame.protocol_type().ether_type();
-        let payload = frame.payload_slice();
-        Ok(LinkPart {
-            link: LinkSlice::LinuxSll(frame),
-            offset: LinuxSllHeader::LEN,
-            ether_type,
-            slice: payload,
-        })
-    }
-
-    /// The payload of a link layer, of this type, of which the link layer is no part of the packet.
-    #[inline(always)]
-    pub(crate) fn ether_type(ether_type: EtherType, slice: &'a [u8]) -> LinkPart<'a>
-        ensures begins { BeginsLax (of_type ether_type) slice.now result }
-        ensures place { result.offset + length result.slice.now < 2 ^ 64 }
-    {
-        LinkPart {
-            link: LinkSlice::EtherPayload(EtherPayloadSlice {
-                ether_type,
-                len_source: LenSource::Slice,
-                payload: slice,
-            }),
-            offset: 0,
-            ether_type: Some(ether_type),
-            slice,
-        }
-    }
-}
 
 /// The bytes behind link extensions.
 #[derive(Drop)]
@@ -207,33 +125,10 @@ fn fill_net<'a>(
     ensures { HoldsLaxNet inside.entry.offset inside.entry.incomplete (net_kind_in inside.entry.ether_type)
         inside.entry.slice.now net.new transport.new stop_err.new }
 {
-    let offset = inside.offset;
-    let incomplete = inside.incomplete;
     match inside.ether_type {
-        Some(ether_type::IPV4) => fill_ipv4(
-            net,
-            transport,
-            stop_err,
-            offset,
-            inside.slice,
-            incomplete,
-        ),
-        Some(ether_type::IPV6) => fill_ipv6(
-            net,
-            transport,
-            stop_err,
-            offset,
-            inside.slice,
-            incomplete,
-        ),
-        Some(ether_type::ARP) => fill_arp(
-            net,
-            transport,
-            stop_err,
-            offset,
-            inside.slice,
-            incomplete,
-        ),
+        Some(ether_type::IPV4) => fill_ipv4(net, transport, stop_err, inside),
+        Some(ether_type::IPV6) => fill_ipv6(net, transport, stop_err, inside),
+        Some(ether_type::ARP) => fill_arp(net, transport, stop_err, inside),
         _ => {
             *net = None;
             *transport = None;
@@ -242,21 +137,20 @@ fn fill_net<'a>(
     }
 }
 
-/// Fills in the IPv4 packet that bytes are, and what is inside it. The bytes lie `offset` bytes behind the packet's start,
-/// and some of them are missing (`outer`) or not.
+/// Fills in the IPv4 packet that bytes are, and what is inside it.
 #[inline(always)]
 fn fill_ipv4<'a>(
     net: &mut Option<LaxNetSlice<'a>>,
     transport: &mut Option<TransportSlice<'a>>,
     stop_err: &mut Option<(SliceError, Layer)>,
-    offset: usize,
-    slice: &'a [u8],
-    outer: bool,
+    inside: Inside<'a>,
 )
-    requires { offset + length slice.now < 2 ^ 64 }
-    ensures { HoldsLaxNet offset outer (Some only_ipv4) slice.now net.new transport.new stop_err.new }
+    requires { inside.offset + length inside.slice.now < 2 ^ 64 }
+    ensures { HoldsLaxNet inside.entry.offset inside.entry.incomplete (Some only_ipv4) inside.entry.slice.now
+        net.new transport.new stop_err.new }
 {
-    let error = match LaxIpv4Slice::read(slice, outer) {
+    let offset = inside.offset;
+    let error = match LaxIpv4Slice::read(inside.slice, inside.incomplete) {
         Ok(read) => return fill_ipv4_packet(net, transport, stop_err, offset, read.0, read.1),
         Err(ipv4::HeaderSliceError::Len(error)) => SliceError::Len(error.add_offset(offset)),
         Err(ipv4::HeaderSliceError::Content(error)) => SliceError::Ipv4(error),
@@ -272,14 +166,14 @@ fn fill_ipv6<'a>(
     net: &mut Option<LaxNetSlice<'a>>,
     transport: &mut Option<TransportSlice<'a>>,
     stop_err: &mut Option<(SliceError, Layer)>,
-    offset: usize,
-    slice: &'a [u8],
-    outer: bool,
+    inside: Inside<'a>,
 )
-    requires { offset + length slice.now < 2 ^ 64 }
-    ensures { HoldsLaxNet offset outer (Some only_ipv6) slice.now net.new transport.new stop_err.new }
+    requires { inside.offset + length inside.slice.now < 2 ^ 64 }
+    ensures { HoldsLaxNet inside.entry.offset inside.entry.incomplete (Some only_ipv6) inside.entry.slice.now
+        net.new transport.new stop_err.new }
 {
-    let error = match LaxIpv6Slice::read(slice, outer) {
+    let offset = inside.offset;
+    let error = match LaxIpv6Slice::read(inside.slice, inside.incomplete) {
         Ok(read) => return fill_ipv6_packet(net, transport, stop_err, offset, read.0, read.1),
         Err(ipv6::HeaderSliceError::Len(error)) => SliceError::Len(error.add_offset(offset)),
         Err(ipv6::HeaderSliceError::Content(error)) => SliceError::Ipv6(error),
@@ -295,22 +189,21 @@ fn fill_arp<'a>(
     net: &mut Option<LaxNetSlice<'a>>,
     transport: &mut Option<TransportSlice<'a>>,
     stop_err: &mut Option<(SliceError, Layer)>,
-    offset: usize,
-    slice: &'a [u8],
-    outer: bool,
+    inside: Inside<'a>,
 )
-    requires { offset + length slice.now < 2 ^ 64 }
-    ensures { HoldsLaxNet offset outer (Some only_arp) slice.now net.new transport.new stop_err.new }
+    requires { inside.offset + length inside.slice.now < 2 ^ 64 }
+    ensures { HoldsLaxNet inside.entry.offset inside.entry.incomplete (Some only_arp) inside.entry.slice.now
+        net.new transport.new stop_err.new }
 {
     *transport = None;
-    match ArpPacketSlice::from_slice(slice) {
+    match ArpPacketSlice::from_slice(inside.slice) {
         Ok(packet) => {
             *net = Some(LaxNetSlice::Arp(packet));
             *stop_err = None;
         }
         Err(error) => {
             *net = None;
-            *stop_err = Some(told(SliceError::Len(error.add_offset(offset))));
+            *stop_err = Some(told(SliceError::Len(error.add_offset(inside.offset))));
         }
     }
 }

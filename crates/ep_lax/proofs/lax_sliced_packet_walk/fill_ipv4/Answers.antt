@@ -11,7 +11,7 @@ fill_ipv4_packet-requires-clause-stop c = λ error same.
     let ok = c.in-Ok.ensures.ok in
     omega (
       arith,
-      ipv4_stop_within c.args.outer c.args.slice.now (lax_ipv4_of read.0 ok.0 read.1) ok.2 (auth_refusal error)
+      ipv4_stop_within c.args.inside.incomplete c.args.inside.slice.now (lax_ipv4_of read.0 ok.0 read.1) ok.2 (auth_refusal error)
           (ap (option_map auth_refusal) same),
       c.requires,
     )
@@ -19,5 +19,5 @@ fill_ipv4_packet-requires-clause-stop c = λ error same.
 pub returns-in-Ok : goal.returns-in-Ok
 returns-in-Ok c =
     let ok = c.in-Ok.ensures.ok in
-    let filled = c.fill_ipv4_packet.ensures c.args.outer c.args.slice.now ok.0 ok.1 ok.2 in
+    let filled = c.fill_ipv4_packet.ensures c.args.inside.incomplete c.args.inside.slice.now ok.0 ok.1 ok.2 in
     record { part = inr filled.0; shows = filled.1 }

@@ -10,7 +10,7 @@ fill_ipv6_packet-requires-clause-stop c = λ told same.
     let ok = c.in-Ok.ensures.ok in
     omega (
       arith,
-      ipv6_stop_within c.args.outer c.args.slice.now (lax_ipv6_of read.0 ok.0 ok.1) ok.3 told.0
+      ipv6_stop_within c.args.inside.incomplete c.args.inside.slice.now (lax_ipv6_of read.0 ok.0 ok.1) ok.3 told.0
           (told_stop ok.1 told (sym ok.4 ∙ same)),
       c.requires,
     )
@@ -18,5 +18,5 @@ fill_ipv6_packet-requires-clause-stop c = λ told same.
 pub returns-in-Ok : goal.returns-in-Ok
 returns-in-Ok c =
     let ok = c.in-Ok.ensures.ok in
-    let filled = c.fill_ipv6_packet.ensures c.args.outer c.args.slice.now ok.0 ok.1 ok.2 ok.4 ok.3 in
+    let filled = c.fill_ipv6_packet.ensures c.args.inside.incomplete c.args.inside.slice.now ok.0 ok.1 ok.2 ok.4 ok.3 in
     record { part = inr filled.0; shows = filled.1 }
