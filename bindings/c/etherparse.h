@@ -15,7 +15,7 @@
  * - A call that takes memory, or has a pool, is not for a signal handler, nor for the forked child of a process with
  *   threads.
  * - size_t has 64 bits.
- * - A call needs at most ETHERPARSE_STACK bytes of stack (slicing and pushing some 1,400, building 1,000, a text 400,
+ * - A call needs at most ETHERPARSE_STACK bytes of stack (slicing and pushing some 1,600, building 1,000, a text 400,
  *   the others 400; measured on x86-64), but for etherparse_build_fragment, whose headers are large values, and which
  *   needs at most ETHERPARSE_STACK_OF_FRAGMENTS. Where functions of the C library are bound at their first call, that
  *   takes some 3,000 more.
@@ -102,6 +102,8 @@ struct etherparse_pool_answer;
 uint32_t etherparse_1_version(void);
 uint32_t etherparse_1_slice(uint32_t entry, uint16_t ether_type, const uint8_t *bytes, size_t len,
                             struct etherparse_packet *packet);
+uint32_t etherparse_1_slice_lax(uint32_t entry, uint16_t ether_type, const uint8_t *bytes, size_t len,
+                                struct etherparse_packet *packet);
 uint32_t etherparse_1_slice_many(uint32_t entry, uint16_t ether_type, const uint8_t *bytes, size_t len,
                                  const size_t *ends, size_t ends_len, struct etherparse_packet *packets,
                                  size_t packets_len, size_t *sliced);
@@ -202,9 +204,11 @@ struct etherparse_ip {
 /* The payload of the last layer that was read. What set its end is the innermost length field that counts it, whether
  * it cut something off or not: that of UDP where it is not 0, else that of IP (a payload length of 0 counts nothing in
  * IPv6, where bytes follow), else the short length of a MACsec tag where it is not 0, else the length that was passed.
- * Behind an ARP packet there is no payload: len is 0, and len_source ETHERPARSE_END_ARP. */
+ * Behind an ARP packet there is no payload: len is 0, and len_source ETHERPARSE_END_ARP. Of what etherparse_slice_lax
+ * reads, a field that cut nothing did not set the end. */
 struct etherparse_payload {
     uint32_t len_source; /* enum etherparse_len_source */
+    uint32_t incomplete; /* 1 if bytes are missing that a length field says are there: etherparse_slice_lax; else 0 */
     size_t offset;
     size_t len;
 };
@@ -253,7 +257,7 @@ enum etherparse_layer {
     ETHERPARSE_LAYER_ICMPV6 = 21
 };
 
-/* Why bytes are no frame; all 0 of a frame. Of the kind LEN required_len is above len, but for timestamps of ICMPv4,
+/* Why bytes are no frame, or why etherparse_slice_lax stopped; all 0 of a frame. Of the kind LEN required_len is above len, but for timestamps of ICMPv4,
  * which have exactly 20 bytes: there len may be the greater one, so compare before you subtract. len_source is what set
  * the end of the len bytes, but that a MACsec short length did is told as ETHERPARSE_END_SLICE; ETHERPARSE_END_ARP says
  * what set required_len. */
@@ -295,6 +299,22 @@ etherparse_slice(uint32_t entry, uint16_t ether_type, const uint8_t *bytes, size
                  struct etherparse_packet *packet) {
     const uint8_t none = 0;
     return ETHERPARSE_AS_STATUS(etherparse_1_slice(entry, ether_type, bytes ? bytes : &none, len, packet));
+}
+
+/* Slices the layers that stand of bytes that a capture has cut, or whose length fields say less or more than is there;
+ * its parameters are those of etherparse_slice, and of a frame it says the same. A length field cuts where it says at
+ * least its header's bytes and at most those that are there: the payload is then complete. Any other cuts nothing: the
+ * payload is all that is there, and incomplete where the field says more or the bytes around it are incomplete. Answers
+ * - ETHERPARSE_OK: the first header stands, and `packet` says what the layers are up to the first that does not; where
+ *   one must follow and does not stand, `packet->refusal` says why (its kind is not 0), and what of it is there is
+ *   payload, with which the payload begins;
+ * - ETHERPARSE_REFUSED: the first header does not stand; the rest is as etherparse_slice leaves it;
+ * - ETHERPARSE_UNKNOWN_CHOICE: the same. */
+ETHERPARSE_MUST_USE ETHERPARSE_NONNULL((5)) ETHERPARSE_READS(3, 4) static inline enum etherparse_status
+etherparse_slice_lax(uint32_t entry, uint16_t ether_type, const uint8_t *bytes, size_t len,
+                     struct etherparse_packet *packet) {
+    const uint8_t none = 0;
+    return ETHERPARSE_AS_STATUS(etherparse_1_slice_lax(entry, ether_type, bytes ? bytes : &none, len, packet));
 }
 
 /* Slices `count` frames, which stand one behind the other in `bytes`: the first up to ends[0], each other from the end

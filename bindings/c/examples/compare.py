@@ -94,7 +94,7 @@ def main():
                 for name, ns in times(program, corpora / corpus, max(rounds, 1)).items():
                     count = instructions(program, corpora / corpus, name) if counts else float("nan")
                     first = first or (count, ns)
-                    told = f"{corpus:8} {name:18} {count:9.0f} instructions {count / first[0]:6.2f}"
+                    told = f"{corpus:8} {name:20} {count:9.0f} instructions {count / first[0]:6.2f}"
                     print(told + (f" {ns:8.1f} ns {ns / first[1]:6.2f}" if rounds else ""), flush=True)
 
 

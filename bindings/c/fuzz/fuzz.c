@@ -1,7 +1,7 @@
 /* Asks the calls of etherparse.h about bytes that libFuzzer makes, and stops where an answer is none that the header allows.
  *
  * An input is the number of an entry, an ether type in two bytes, and frames, each behind its length in two bytes. Each
- * frame is sliced, alone and with its neighbour; what is refused is put into words; each payload is built into a frame,
+ * frame is sliced, alone, laxly and with its neighbour; what is refused is put into words; each payload is built into a frame,
  * which is sliced again; and all frames are given to one pool. Each frame ends where a page begins that may not be read,
  * and each buffer is looked at behind its end. The archive has no counters for libFuzzer, so what is answered counts. */
 #include <etherparse.h>
@@ -53,7 +53,7 @@ static void look_at_refusal(const struct etherparse_refusal *refusal) {
 
 static void look_at_packet(const struct etherparse_packet *packet, uint32_t entry, size_t len) {
     size_t end = 0;
-    WANT(packet->refusal.kind == ETHERPARSE_REFUSAL_NONE && packet->link_ext_count <= 3);
+    WANT(packet->link_ext_count <= 3 && packet->payload.incomplete <= 1);
     WANT(packet->link.offset == end);
     WANT(packet->link.kind == (entry == ETHERPARSE_ENTRY_ETHERNET    ? ETHERPARSE_LINK_ETHERNET2
                                : entry == ETHERPARSE_ENTRY_LINUX_SLL ? ETHERPARSE_LINK_LINUX_SLL
@@ -82,6 +82,31 @@ static void look_at_packet(const struct etherparse_packet *packet, uint32_t entr
     WANT(packet->payload.len_source <= ETHERPARSE_END_ARP);
     see(20 + packet->net.kind, 64 * packet->transport.kind + 8 * packet->link_ext_count + packet->payload.len_source);
     see(30 + packet->link.kind, packet->ip.fragmented + 2 * packet->ip.more_fragments);
+}
+
+/* The same bytes, sliced laxly: a frame as it was, and other bytes up to where they stop. */
+static void look_at_lax(const struct etherparse_packet *strict, enum etherparse_status status, uint32_t entry,
+                        uint16_t ether_type, const uint8_t *frame, size_t len) {
+    struct etherparse_packet packet;
+    memset(&packet, 0x33, sizeof packet);
+    enum etherparse_status lax = etherparse_slice_lax(entry, ether_type, frame, len, &packet);
+    see(60, lax * 32 + packet.refusal.kind);
+    WANT((lax == ETHERPARSE_UNKNOWN_CHOICE) == (entry == 4));
+    if (lax != ETHERPARSE_OK) {
+        WANT(status == lax && packet.refusal.kind == strict->refusal.kind && packet.refusal.len == strict->refusal.len);
+        WANT(packet.net.kind == 0 && packet.payload.len == 0 && packet.payload.incomplete == 0);
+        return;
+    }
+    look_at_packet(&packet, entry, len);
+    if (packet.refusal.kind != ETHERPARSE_REFUSAL_NONE) {
+        WANT(status == ETHERPARSE_REFUSED);
+        look_at_refusal(&packet.refusal);
+    }
+    if (status != ETHERPARSE_OK) return;
+    WANT(packet.refusal.kind == ETHERPARSE_REFUSAL_NONE && packet.payload.incomplete == 0);
+    WANT(packet.payload.offset == strict->payload.offset && packet.payload.len == strict->payload.len);
+    WANT(packet.payload.len_source == strict->payload.len_source && packet.transport.kind == strict->transport.kind);
+    WANT(packet.net.len == strict->net.len && packet.link_ext_count == strict->link_ext_count);
 }
 
 /* A frame with this payload, which has it when it is sliced. */
@@ -217,7 +242,9 @@ int LLVMFuzzerTestOneInput(const uint8_t *input, size_t left) {
         WANT(other.payload.offset == packet.payload.offset && other.payload.len == packet.payload.len);
         WANT(other.refusal.kind == packet.refusal.kind && other.refusal.len == packet.refusal.len);
         WANT((entry == 4) == (status == ETHERPARSE_UNKNOWN_CHOICE));
+        look_at_lax(&packet, status, entry, ether_type, frame, len);
         if (status == ETHERPARSE_OK) {
+            WANT(packet.refusal.kind == ETHERPARSE_REFUSAL_NONE && packet.payload.incomplete == 0);
             look_at_packet(&packet, entry, len);
             const uint8_t *payload = frame + packet.payload.offset;
             look_at_building(payload, packet.payload.len, (uint32_t)len);

@@ -31,6 +31,8 @@ static void nothing(void) {}
 static void version(void) { status = etherparse_version(); }
 static void slice(void) { status = etherparse_slice(ETHERPARSE_ENTRY_ETHERNET, 0, frame, frame_len, &packet); }
 static void slice_cut(void) { status = etherparse_slice(ETHERPARSE_ENTRY_ETHERNET, 0, frame, 40, &packet); }
+static void slice_lax(void) { status = etherparse_slice_lax(ETHERPARSE_ENTRY_ETHERNET, 0, frame, frame_len, &packet); }
+static void slice_lax_cut(void) { status = etherparse_slice_lax(ETHERPARSE_ENTRY_ETHERNET, 0, frame, 40, &packet); }
 static void slice_many(void) {
     const size_t ends[4] = {frame_len, frame_len, 2 * frame_len, 3 * frame_len};
     status = etherparse_slice_many(ETHERPARSE_ENTRY_ETHERNET, 0, frame, 3 * frame_len, ends, 4, packets, &sliced);
@@ -123,6 +125,8 @@ int main(void) {
         memcpy(frame + frame_len, frame, frame_len), memcpy(frame + 2 * frame_len, frame, frame_len);
         NEEDS(version, ETHERPARSE_VERSION);
         NEEDS(slice, ETHERPARSE_OK);
+        NEEDS(slice_lax, ETHERPARSE_OK);
+        NEEDS(slice_lax_cut, ETHERPARSE_OK);
         NEEDS(slice_many, ETHERPARSE_OK);
         NEEDS(slice_cut, ETHERPARSE_REFUSED);
         NEEDS(text, ETHERPARSE_OK);

@@ -260,6 +260,47 @@ static void slices(void) {
     printf("etherparse_slice, etherparse_checksum: no memory is asked for\n");
 }
 
+/* A datagram of 8 bytes behind IPv4 and Ethernet II, cut behind so many bytes: what is told of its payload. */
+static void cut(size_t len, uint32_t transport, size_t offset, uint32_t incomplete, uint32_t end) {
+    struct etherparse_packet packet;
+    memset(&packet, 0xff, sizeof packet);
+    WANT(etherparse_slice_lax(ETHERPARSE_ENTRY_ETHERNET, 0, buffer, len, &packet) == ETHERPARSE_OK);
+    WANT(packet.link.kind == ETHERPARSE_LINK_ETHERNET2 && packet.link_ext_count == 0);
+    WANT(packet.net.kind == (len < 34 ? 0 : ETHERPARSE_NET_IPV4) && packet.transport.kind == transport);
+    WANT(packet.payload.offset == offset && packet.payload.len == len - offset);
+    WANT(packet.payload.incomplete == incomplete && packet.payload.len_source == end);
+    int stops = len < 42;
+    WANT(packet.refusal.kind == (stops ? ETHERPARSE_REFUSAL_LEN : ETHERPARSE_REFUSAL_NONE));
+    WANT(!stops || (packet.refusal.layer_start_offset == offset && packet.refusal.len == len - offset));
+}
+
+static void slices_laxly(void) {
+    struct etherparse_packet packet;
+    WANT(etherparse_build_udp(&route, 21, 1234, payload, 8, buffer, ROOM, &written) == ETHERPARSE_OK && written == 50);
+    requests = 0;
+    WANT(etherparse_slice_lax(4, 0, buffer, 50, &packet) == ETHERPARSE_UNKNOWN_CHOICE && packet.link.kind == 0);
+    WANT(etherparse_slice_lax(ETHERPARSE_ENTRY_ETHERNET, 0, buffer, 13, &packet) == ETHERPARSE_REFUSED);
+    WANT(packet.refusal.layer == ETHERPARSE_LAYER_ETHERNET2_HEADER && packet.refusal.len == 13);
+    WANT(packet.payload.incomplete == 0 && packet.payload.len == 0);
+    for (size_t len = 14; len < 34; len++) cut(len, 0, 14, 0, ETHERPARSE_END_SLICE);
+    for (size_t len = 34; len < 42; len++) cut(len, 0, 34, 1, ETHERPARSE_END_SLICE);
+    for (size_t len = 42; len < 50; len++) cut(len, ETHERPARSE_TRANSPORT_UDP, 42, 1, ETHERPARSE_END_SLICE);
+    cut(50, ETHERPARSE_TRANSPORT_UDP, 42, 0, ETHERPARSE_END_UDP);
+    buffer[16] = buffer[17] = 0; /* the total length: as from segmentation offload */
+    cut(50, ETHERPARSE_TRANSPORT_UDP, 42, 0, ETHERPARSE_END_UDP);
+    buffer[38] = buffer[39] = 0; /* the length of UDP */
+    cut(50, ETHERPARSE_TRANSPORT_UDP, 42, 0, ETHERPARSE_END_SLICE);
+    buffer[16] = buffer[17] = 0xff;
+    cut(50, ETHERPARSE_TRANSPORT_UDP, 42, 1, ETHERPARSE_END_SLICE);
+    buffer[39] = 16;
+    cut(50, ETHERPARSE_TRANSPORT_UDP, 42, 0, ETHERPARSE_END_UDP);
+    WANT(etherparse_slice_lax(ETHERPARSE_ENTRY_IP, 0, NULL, 0, &packet) == ETHERPARSE_REFUSED);
+    WANT(etherparse_slice_lax(ETHERPARSE_ENTRY_ETHER_TYPE, 0x0800, NULL, 0, &packet) == ETHERPARSE_OK);
+    WANT(packet.refusal.layer == ETHERPARSE_LAYER_IPV4_HEADER && packet.refusal.required_len == 20);
+    WANT(requests == 0);
+    printf("etherparse_slice_lax: each cut of a frame shows its front, and says where it stops and what is missing\n");
+}
+
 static void refusals(void) {
     struct etherparse_refusal it = {.kind = ETHERPARSE_REFUSAL_LEN, .layer = 1, .len_source = 0};
     const struct { uint32_t kind, layer, len_source; } none[] = {
@@ -398,6 +439,7 @@ int main(void) {
     tags();
     refusals();
     slices();
+    slices_laxly();
     many();
     nulls();
     pools();

@@ -28,8 +28,8 @@ __all__ = [
     "VERSION", "MAX_PAYLOAD", "Status", "Entry", "LinkKind", "ExtKind", "NetKind", "TransportKind", "LenSource",
     "RefusalKind", "Layer", "TcpFlag", "FragmentRefusal", "Packet", "Packets", "Part", "LinkExt", "Ip", "Payload",
     "Refusal", "Route", "TcpFields", "FragmentFields", "EtherparseError", "Refused", "FragmentRefused", "TooLong",
-    "UnknownChoice", "Pool", "PoolPayload", "slice", "slice_many", "build_udp", "build_tcp", "build_icmp_echo",
-    "build_fragment", "checksum", "version",
+    "UnknownChoice", "Pool", "PoolPayload", "slice", "slice_lax", "slice_many", "build_udp", "build_tcp",
+    "build_icmp_echo", "build_fragment", "checksum", "version",
 ]
 
 VERSION = 100
@@ -221,16 +221,21 @@ class Ip(_Struct):
 
 
 class Payload(_Struct):
-    """The payload of the last layer that was read."""
+    """The payload of the last layer that was read; `incomplete` is 1 if bytes are missing that a length field says are
+    there, which slice_lax alone tells."""
 
     len_source: int
+    incomplete: int
     offset: int
     len: int
-    _fields_ = [("len_source", ctypes.c_uint32), ("offset", ctypes.c_size_t), ("len", ctypes.c_size_t)]
+    _fields_ = [
+        ("len_source", ctypes.c_uint32), ("incomplete", ctypes.c_uint32), ("offset", ctypes.c_size_t),
+        ("len", ctypes.c_size_t),
+    ]
 
 
 class Refusal(_Struct):
-    """Why bytes are no frame; all 0 of a frame."""
+    """Why bytes are no frame, or why slice_lax stopped; all 0 of a frame."""
 
     kind: int
     layer: int
@@ -297,6 +302,16 @@ class Packet(_Struct):
     def payload_bytes(self) -> bytes:
         """The payload of the last layer."""
         return self._bytes(self.payload)
+
+    @property
+    def is_incomplete(self) -> bool:
+        """Whether bytes of the payload are missing that a length field says are there, of what slice_lax answers."""
+        return self.payload.incomplete != 0
+
+    @property
+    def stop(self) -> Optional[Refusal]:
+        """Why the layer behind the last one is none, where one must follow, of what slice_lax answers."""
+        return self.refusal if self.refusal.kind else None
 
     @property
     def vlan_ids(self) -> Tuple[int, ...]:
@@ -467,6 +482,7 @@ _pool = ctypes.c_void_p
 _CALLS: dict[str, tuple[Any, tuple[Any, ...]]] = {
     "version": (_u32, ()),
     "slice": (_u32, (_u32, _u16, *_bytes_in, ctypes.POINTER(Packet))),
+    "slice_lax": (_u32, (_u32, _u16, *_bytes_in, ctypes.POINTER(Packet))),
     "slice_many": (
         _u32, (_u32, _u16, *_bytes_in, ctypes.POINTER(_size), _size, ctypes.POINTER(Packet), _size, _written)),
     "refusal_text": (_u32, (ctypes.POINTER(Refusal), *_bytes_out, _written)),
@@ -529,12 +545,28 @@ def slice(frame: Bytes, entry: int = 0, ether_type: int = 0) -> Packet:
 
     Raises Refused where the bytes are no frame, and UnknownChoice where the entry is none.
     """
+    return _sliced(_library.etherparse_1_slice, frame, entry, ether_type)
+
+
+def slice_lax(data: Bytes, entry: int = 0, ether_type: int = 0) -> Packet:
+    """Slices the layers that stand of bytes that a capture has cut, or whose length fields say less or more than is
+    there, with the entries of slice; a frame is answered as there. Where a layer must follow that does not stand, `stop`
+    of the packet says why, and what of it is there begins the payload; `is_incomplete` tells whether bytes of that are
+    missing.
+
+    Raises Refused where the first header does not stand, and UnknownChoice where the entry is none.
+    """
+    return _sliced(_library.etherparse_1_slice_lax, data, entry, ether_type)
+
+
+def _sliced(call: Any, frame: Bytes, entry: int, ether_type: int) -> Packet:
+    """What a call tells of a frame."""
     if type(frame) is not bytes:
         frame = _as_bytes(frame)
     if entry >> 32 or ether_type >> 16:
         _number("entry", entry, 32), _number("ether_type", ether_type, 16)
     packet = Packet()
-    status = _library.etherparse_1_slice(entry, ether_type, frame, len(frame), packet)
+    status = call(entry, ether_type, frame, len(frame), packet)
     if status == 0:
         packet.frame = frame
         return packet

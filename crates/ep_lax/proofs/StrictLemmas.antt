@@ -32,7 +32,7 @@ use Rattle.ep_packet.specs.declared.entry.Entry.{Entry}
 use Rattle.ep_packet.specs.declared.entry.Entry.TheVariants.{Ethernet as ethernet, LinuxSll as linux_sll, EtherType as ether_type, Ip as ip}
 use Rattle.ep_packet.specs.Frame.{NetKind, only_ipv4, only_ipv6, only_arp, any_ip, net_kind, most_link_exts, IsFrame, IsInside, IsNetPart, IsTransportBehind, IsTransportIn}
 use Rattle.ep_packet.specs.FrameRefusals.{net_header_len}
-use Rattle.ep_packet.specs.Layers.{Layers, NetLayer, ip_layer, ipv4_layer, ipv6_layer, net_payload}
+use Rattle.ep_packet.specs.Layers.{Layers, NetLayer, arp, ip_layer, ipv4_layer, ipv6_layer, net_payload}
 use Rattle.ep_lax.specs.LaxIp.{LaxIp, IsLaxIpv4, IsLaxIpv6, lax_ipv6_source}
 use Rattle.ep_lax.specs.LaxLayers.{LaxLayers, LaxNet, LaxTransport, net_with, no_net}
 use Rattle.ep_lax.specs.LaxMacsec.{macsec_says}

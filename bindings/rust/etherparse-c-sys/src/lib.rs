@@ -244,6 +244,8 @@ pub struct Ip {
 pub struct Payload {
     /// What set its end, of the constants `END_`.
     pub len_source: u32,
+    /// 1 if bytes are missing that a length field says are there, of what is sliced laxly; else 0.
+    pub incomplete: u32,
     /// Where in the frame it begins.
     pub offset: usize,
     /// The number of its bytes.
@@ -396,6 +398,9 @@ extern "C" {
     /// Slices the frame in `bytes`, and fills in each field of `packet`.
     #[link_name = "etherparse_1_slice"]
     pub fn etherparse_slice(entry: u32, ether_type: u16, bytes: *const u8, len: usize, packet: *mut Packet) -> u32;
+    /// The same of bytes that a capture has cut, or whose length fields do not fit: up to the first layer that does not stand.
+    #[link_name = "etherparse_1_slice_lax"]
+    pub fn etherparse_slice_lax(entry: u32, ether_type: u16, bytes: *const u8, len: usize, packet: *mut Packet) -> u32;
     /// Slices frames that stand one behind the other in `bytes`, each up to its own of `ends`.
     #[link_name = "etherparse_1_slice_many"]
     pub fn etherparse_slice_many(

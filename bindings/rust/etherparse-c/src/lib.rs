@@ -33,6 +33,7 @@ mod building;
 mod bytes;
 pub mod err;
 mod headers;
+mod lax_sliced_packet;
 mod link;
 mod net;
 mod numbered;
@@ -48,6 +49,7 @@ pub use building::{
     TcpFields,
 };
 pub use headers::PacketHeaders;
+pub use lax_sliced_packet::LaxSlicedPacket;
 pub use link::{
     Ethernet2Header, Ethernet2Slice, LinkExtHeader, LinkExtSlice, LinkHeader, LinkSlice, LinuxSllHeader, LinuxSllSlice,
     MacsecHeader, MacsecPType, MacsecSlice, SingleVlanHeader, SingleVlanSlice,

@@ -176,14 +176,30 @@ impl<'a> SlicedPacket<'a> {
     pub const EMPTY: SlicedPacket<'static> =
         SlicedPacket { told: MaybeUninit::zeroed(), frame: &[], entry: Entry::Ethernet };
 
+    /// The layers that stand of bytes that begin with what `entry` says.
+    #[inline]
+    pub(crate) fn lax(entry: Entry, frame: &'a [u8]) -> Result<SlicedPacket<'a>, Refusal> {
+        let mut packet = SlicedPacket { told: MaybeUninit::uninit(), frame, entry };
+        packet.fill_in_by(sys::etherparse_slice_lax)?;
+        Ok(packet)
+    }
+
     /// Asks what the frame's layers are.
     #[inline]
     fn fill_in(&mut self) -> Result<(), Refusal> {
+        self.fill_in_by(sys::etherparse_slice)
+    }
+
+    /// The same by one of the calls that slice.
+    #[inline]
+    fn fill_in_by(
+        &mut self,
+        slice: unsafe extern "C" fn(u32, u16, *const u8, usize, *mut sys::Packet) -> u32,
+    ) -> Result<(), Refusal> {
         let (entry, ether_type) = self.entry.numbers();
         let frame = self.frame;
         // SAFETY: both pointers are of what lives as long as the call, and they do not overlap.
-        let status =
-            unsafe { sys::etherparse_slice(entry, ether_type, frame.as_ptr(), frame.len(), self.told.as_mut_ptr()) };
+        let status = unsafe { slice(entry, ether_type, frame.as_ptr(), frame.len(), self.told.as_mut_ptr()) };
         // Whatever the call answers, it wrote each field, by its contract; what stood there is of no use to it.
         if status == sys::OK {
             Ok(())
@@ -218,6 +234,22 @@ impl<'a> SlicedPacket<'a> {
     #[inline]
     fn bytes(&self, offset: usize, len: usize) -> &'a [u8] {
         &self.frame[offset..offset + len]
+    }
+
+    /// Where the bytes end that lie behind the tags: where the short length of a MACsec tag cuts, or else with the frame.
+    #[inline]
+    fn end_behind_tags(&self) -> usize {
+        let mut end = self.frame.len();
+        for tag in self.told().link_exts.iter().filter(|tag| tag.kind == sys::EXT_MACSEC) {
+            let bytes = self.bytes(tag.offset, tag.len);
+            let short_len = usize::from(bytes[1] & 0x3f);
+            // it counts what follows the tag proper, which has 6 bytes, or 14 with an identifier
+            let says = tag.offset + if bytes[0] & 0x20 == 0 { 6 } else { 14 } + short_len;
+            if short_len != 0 && (tag.offset + tag.len..=end).contains(&says) {
+                end = says;
+            }
+        }
+        end
     }
 
     /// The link header.
@@ -267,12 +299,14 @@ impl<'a> SlicedPacket<'a> {
         let (part, ip) = (&self.told().net, &self.told().ip);
         let headers = self.bytes(part.offset, part.len);
         let (header_len, number, fragmented) = (ip.header_len, IpNumber(ip.number), ip.fragmented != 0);
-        // the numbers of bytes from the header on, up to the end that it says
-        let len = match part.kind {
+        // the numbers of bytes from the header on: those that are there, and those up to the end that it says
+        let there = self.end_behind_tags() - part.offset;
+        let says = match part.kind {
             sys::NET_IPV4 => usize::from(u16_at(headers, 2)),
             sys::NET_IPV6 if u16_at(headers, 4) != 0 => 40 + usize::from(u16_at(headers, 4)),
-            _ => self.told().payload.offset + self.told().payload.len - part.offset,
+            _ => there,
         };
+        let len = if (header_len..=there).contains(&says) { says } else { there };
         let payload = &self.frame[part.offset..part.offset + len][part.len..];
         match part.kind {
             sys::NET_ARP => Some(NetSlice::Arp(ArpPacketSlice(headers))),

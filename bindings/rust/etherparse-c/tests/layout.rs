@@ -109,7 +109,7 @@ fn layouts_are_the_same() {
         Part { kind, offset, len }
         LinkExt { kind, vlan_id, offset, len }
         Ip { version, number, fragmented, more_fragments, fragment_offset, identification, header_len }
-        Payload { len_source, offset, len }
+        Payload { len_source, incomplete, offset, len }
         Refusal { kind, layer, len_source, number, required_len, len, layer_start_offset }
         Route {
             version, with_ethernet, hop_limit, ethernet_source, ethernet_destination, ipv4_source, ipv4_destination,

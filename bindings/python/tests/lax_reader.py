@@ -1,0 +1,271 @@
+"""A second reader of packets of which bytes are missing, or whose length fields do not fit: written by the standards'
+pictures of headers and the rules of lax reading, apart from the library. `read` says of bytes what `slice_lax` tells."""
+from etherparse_c import Layer, LenSource, RefusalKind
+
+VLAN_TYPES, MACSEC_TYPE = (0x8100, 0x88a8, 0x9100), 0x88e5
+SLL_HARDWARE = (1, 770, 772, 778, 803, 824)
+HOP_BY_HOP, ROUTING, FRAGMENT, AUTHENTICATION, DESTINATION = 0, 43, 44, 51, 60
+
+
+class Stop(Exception):
+    """A layer does not stand: its kind, layer, source, number, bytes needed and there, and its place, as C tells them."""
+
+
+def word(data, at):
+    return int.from_bytes(data[at : at + 2], "big")
+
+
+def short(layer, needed, data, at, source=LenSource.SLICE):
+    raise Stop(RefusalKind.LEN, layer, source, 0, needed, len(data), at)
+
+
+def wrong(kind, number=0):
+    raise Stop(kind, 0, 0, number, 0, 0, 0)
+
+
+def needs(layer, needed, data, at, source=LenSource.SLICE):
+    if len(data) < needed:
+        short(layer, needed, data, at, source)
+
+
+def cut(data, header_len, least, says, field, outer):
+    """What a length field leaves of a layer behind its header: the bytes, what set their end, and whether some are missing."""
+    if least <= says <= len(data):
+        return data[header_len:says], field, False
+    return data[header_len:], LenSource.SLICE, outer or says > len(data)
+
+
+class Told:
+    """What is told; the place of what comes next, its bytes, what set their end, and whether some are missing."""
+
+    def __init__(self, data):
+        self.link, self.tags, self.net, self.transport = (0, 0), [], (0, 0), (0, 0)
+        self.ip, self.ports, self.refusal = (0,) * 7, (0, 0), (0,) * 7
+        self.at, self.data, self.end, self.incomplete = 0, data, LenSource.SLICE, False
+
+    def behind(self, header_len, data):
+        self.at, self.data = self.at + header_len, data
+
+    def numbers(self):
+        at, placed = 0, []
+        for kind, header_len in (self.link, *[(kind, header_len) for kind, _, header_len in self.tags], self.net,
+                                 self.transport):
+            placed.append((kind, at, header_len))
+            at += header_len
+        assert at == self.at
+        ids = [vlan_id for _, vlan_id, _ in self.tags]
+        return (placed, ids, self.ip, self.ports, (self.end, self.incomplete, at, len(self.data)), self.refusal)
+
+
+# ---- link layers
+
+
+def ethernet(told):
+    needs(Layer.ETHERNET2_HEADER, 14, told.data, 0)
+    ether_type = word(told.data, 12)
+    told.link = (1, 14)
+    told.behind(14, told.data[14:])
+    return ether_type
+
+
+def linux_sll(told):
+    data = told.data
+    needs(Layer.LINUX_SLL_HEADER, 16, data, 0)
+    if word(data, 0) > 7:
+        wrong(RefusalKind.SLL_PACKET_TYPE, word(data, 0))
+    if word(data, 2) not in SLL_HARDWARE:
+        wrong(RefusalKind.SLL_ARP_HARDWARE, word(data, 2))
+    told.link = (2, 16)
+    told.behind(16, data[16:])
+    return word(data, 14) if word(data, 2) in (1, 772) else None
+
+
+def tag(told, ether_type):
+    """One link extension, and the type behind it."""
+    data = told.data
+    if ether_type in VLAN_TYPES:
+        needs(Layer.VLAN_HEADER, 4, data, told.at)
+        told.tags.append((1, word(data, 0) & 0xfff, 4))
+        told.behind(4, data[4:])
+        return word(data, 2)
+    needs(Layer.MACSEC_HEADER, 6, data, told.at)
+    if data[0] & 0x80:
+        wrong(RefusalKind.MACSEC_VERSION)
+    is_open, short_len = data[0] & 0x0c == 0, data[1] & 0x3f
+    if is_open and short_len == 1:
+        wrong(RefusalKind.MACSEC_SHORT_LEN)
+    proper = 14 if data[0] & 0x20 else 6
+    header_len = proper + (2 if is_open else 0)
+    needs(Layer.MACSEC_HEADER, header_len, data, told.at)
+    says = proper + short_len if short_len else 0
+    payload, end, told.incomplete = cut(data, header_len, header_len, says, LenSource.MACSEC, told.incomplete)
+    told.end = end or told.end
+    told.tags.append((2, 0, header_len))
+    told.behind(header_len, payload)
+    return word(data, proper) if is_open else None
+
+
+# ---- net layers
+
+
+def arp(told):
+    data = told.data
+    needs(Layer.ARP, 8, data, told.at)
+    whole = 8 + 2 * (data[4] + data[5])
+    needs(Layer.ARP, whole, data, told.at, LenSource.ARP)
+    told.net, told.end, told.incomplete = (1, whole), LenSource.ARP, False
+    told.behind(whole, b"")
+
+
+def authentication(data, at, end, zero):
+    needs(Layer.IP_AUTH_HEADER, 12, data, at, end)
+    if data[1] == 0:
+        wrong(zero)
+    needs(Layer.IP_AUTH_HEADER, 4 * data[1] + 8, data, at, end)
+    return 4 * data[1] + 8
+
+
+def extension(number, data, at, end, is_first):
+    """The length of one extension header of IPv6."""
+    if number == HOP_BY_HOP and not is_first:
+        wrong(RefusalKind.IPV6_HOP_BY_HOP)
+    if number == AUTHENTICATION:
+        return authentication(data, at, end, RefusalKind.IPV6_AUTH)
+    if number == FRAGMENT:
+        needs(Layer.IPV6_FRAG_HEADER, 8, data, at, end)
+        return 8
+    needs(Layer.IPV6_EXT_HEADER, 8, data, at, end)
+    needs(Layer.IPV6_EXT_HEADER, 8 * data[1] + 8, data, at, end)
+    return 8 * data[1] + 8
+
+
+def ipv4(told, is_entry=False):
+    data = told.data
+    needs(Layer.IPV4_HEADER, 20, data, told.at)
+    if data[0] >> 4 != 4:
+        wrong(RefusalKind.IPV4_VERSION, data[0] >> 4)
+    header_len = data[0] % 16 * 4
+    if header_len < 20:
+        wrong(RefusalKind.IP_IHL if is_entry else RefusalKind.IPV4_IHL, data[0] % 16)
+    needs(Layer.IPV4_HEADER, header_len, data, told.at)
+    payload, end, told.incomplete = cut(data, header_len, header_len, word(data, 2), LenSource.IPV4, told.incomplete)
+    told.end = end or told.end
+    more, offset, number = word(data, 6) >> 13 & 1, word(data, 6) % 8192 * 8, data[9]
+    begin, stop = told.at + header_len, None
+    if number == AUTHENTICATION:
+        try:
+            length = authentication(payload, begin, end, RefusalKind.IPV4_AUTH)
+            number, payload, begin = payload[0], payload[length:], begin + length
+        except Stop as refused:
+            stop = refused
+    fragmented = bool(more or offset)
+    told.net, told.ip = (4, begin - told.at), (4, number, fragmented, more, offset, word(data, 4), header_len)
+    told.behind(begin - told.at, payload)
+    if stop:
+        raise stop
+    if not fragmented:
+        transport(told, number, end)
+
+
+def ipv6(told):
+    data = told.data
+    needs(Layer.IPV6_HEADER, 40, data, told.at)
+    if data[0] >> 4 != 6:
+        wrong(RefusalKind.IPV6_VERSION, data[0] >> 4)
+    length, number = word(data, 4), data[6]
+    payload, end, told.incomplete = cut(data, 40, 41, 40 + length, LenSource.IPV6, told.incomplete)
+    if length == 0 and not payload:
+        end = LenSource.IPV6
+    told.end = end or told.end
+    begin, stop, fragmented, first_fragment, is_first = told.at + 40, None, False, None, True
+    while number in (HOP_BY_HOP, ROUTING, FRAGMENT, AUTHENTICATION, DESTINATION):
+        try:
+            length = extension(number, payload, begin, end, is_first)
+        except Stop as refused:
+            stop = refused
+            break
+        if number == FRAGMENT:
+            fields = (payload[3] & 1, word(payload, 2) & 0xfff8, int.from_bytes(payload[4:8], "big"))
+            first_fragment = first_fragment or fields
+            fragmented = fragmented or fields[:2] != (0, 0)
+        number, payload, begin, is_first = payload[0], payload[length:], begin + length, False
+    told.net, told.ip = (6, begin - told.at), (6, number, fragmented, *(first_fragment or (0, 0, 0)), 40)
+    told.behind(begin - told.at, payload)
+    if stop:
+        raise stop
+    if not fragmented:
+        transport(told, number, end)
+
+
+# ---- transport layers
+
+
+def transport(told, number, end):
+    data, at = told.data, told.at
+    if number == 17:
+        needs(Layer.UDP_HEADER, 8, data, at, end)
+        payload, field, told.incomplete = cut(data, 8, 8, word(data, 4), LenSource.UDP, told.incomplete)
+        told.end = field or told.end
+        told.transport, told.ports = (17, 8), (word(data, 0), word(data, 2))
+        told.behind(8, payload)
+    elif number == 6:
+        needs(Layer.TCP_HEADER, 20, data, at, end)
+        words = data[12] >> 4
+        if words < 5:
+            wrong(RefusalKind.TCP_DATA_OFFSET, words)
+        needs(Layer.TCP_HEADER, 4 * words, data, at, end)
+        told.transport, told.ports = (6, 4 * words), (word(data, 0), word(data, 2))
+        told.behind(4 * words, data[4 * words :])
+    elif number == 1:
+        needs(Layer.ICMPV4, 8, data, at, end)
+        times = {13: Layer.ICMPV4_TIMESTAMP, 14: Layer.ICMPV4_TIMESTAMP_REPLY}.get(data[0]) if data[1] == 0 else None
+        if times and len(data) != 20:
+            short(times, 20, data, at, end)
+        told.transport = (1, 20 if times else 8)
+        told.behind(told.transport[1], data[told.transport[1] :])
+    elif number == 58:
+        needs(Layer.ICMPV6, 8, data, at, end)
+        told.transport = (58, 8)
+        told.behind(8, data[8:])
+
+
+# ---- the walk
+
+
+def behind_link(told, ether_type):
+    while len(told.tags) < 3 and (ether_type in VLAN_TYPES or ether_type == MACSEC_TYPE):
+        ether_type = tag(told, ether_type)
+    layer = {0x0800: ipv4, 0x86dd: ipv6, 0x0806: arp}.get(ether_type)
+    if layer:
+        layer(told)
+
+
+def ip_header(data):
+    """Refuses what begins with no IP header."""
+    needs(Layer.IP_HEADER, 1, data, 0)
+    if data[0] >> 4 not in (4, 6):
+        wrong(RefusalKind.IP_VERSION, data[0] >> 4)
+
+
+def read(data, entry, ether_type=0):
+    """The numbers of what stands, with the refusal of the layer where it stops; or the refusal of the first header."""
+    told = Told(data)
+    try:
+        if entry == 3:
+            ip_header(data)
+        elif entry != 2:
+            ether_type = (ethernet, linux_sll)[entry](told)
+    except Stop as refused:
+        return None, tuple(refused.args)
+    try:
+        if entry != 3:
+            behind_link(told, ether_type)
+        elif data[0] >> 4 == 4:
+            ipv4(told, is_entry=True)
+        else:
+            ipv6(told)
+    except Stop as refused:
+        told.refusal = tuple(refused.args)
+    if entry == 3 and told.net == (0, 0):
+        return None, told.refusal
+    return told.numbers(), told.refusal
