@@ -1,16 +1,16 @@
 -- That bytes whose first header stands are read laxly in one way, and others are refused with one error.
-use Rattle.std.proofs.Common.{◌≡◌, ◌⊎◌, ◌==◌, if◌then◌else◌, ℕ, zero, suc, ◌+◌, ◌≤◌, Bool, true, false, List, [], ◌∷◌, ◌++◌, Option, Some, None, refl, sym, ap, subst, ◌∙◌, inl, inr, arith}
+use Rattle.std.proofs.Common.{◌≡◌, ◌⊎◌, ◌==◌, if◌then◌else◌, ℕ, zero, suc, ◌+◌, Bool, true, false, List, [], ◌∷◌, Option, Some, None, refl, sym, ap, subst, ◌∙◌, inl, inr, arith}
 use Rattle.ep_base.specs.Bytes.{AreBytes}
 use Rattle.ep_base.specs.EtherTypes.{ipv4_type, ipv6_type, arp_type}
 use Rattle.ep_base.specs.IpPayload.{IpPayload}
-use Rattle.ep_base.specs.LaxCut.{LaxCut, IsLaxCut}
+use Rattle.ep_base.specs.LaxCut.{LaxCut}
 use Rattle.ep_base.specs.Readings.{headers, slices}
 use Rattle.ep_base.specs.Tables.{IsDecided, IsOne, Parts, RefusesAs, parts_of}
 use Rattle.ep_base.specs.declared.ether_type.EtherType.{EtherType}
 use Rattle.ep_base.specs.declared.len_source.LenSource.TheVariants as source
 use Rattle.ep_base.specs.declared.err.ipv6_exts.HeaderSliceError.{HeaderSliceError}
 use Rattle.ep_base.proofs.BytesLemmas.{AreBytes-back, AreBytes-payload}
-use Rattle.ep_base.proofs.DecidedLemmas.{IsBoth, decided_as, one_as, one_either, refused_as, same_image}
+use Rattle.ep_base.proofs.DecidedLemmas.{decided_as, one_as, one_either, refused_as, same_image}
 use Rattle.ep_base.proofs.LaxCutLemmas.{lax_cut_is_one}
 use Rattle.ep_base.proofs.TableLemmas.{decided}
 use Rattle.ep_ext.specs.Chains.{IpVersion, ipv4, ipv6, ExtensionChain, IsChainBehind}
@@ -30,22 +30,21 @@ use Rattle.ep_link.specs.Arp.{Arp, IsArp, RefusesArp}
 use Rattle.ep_link.specs.LinkExtensions.{LinkExtension, vlan, macsec, BeginsLinkExtension, IsVlanType, IsMacsecType, extension_header, extension_payload, extension_type, link_ext_header_len}
 use Rattle.ep_link.specs.Macsec.{RefusesMacsecHeader, macsec_header_len, macsec_payload_bytes}
 use Rattle.ep_link.specs.Vlan.{IsVlan, RefusesVlan, vlan_bytes}
-use Rattle.ep_link.proofs.ArpLemmas.{arp_is_read}
 use Rattle.ep_link.proofs.LinkExtensionLemmas.{cases_begins, vlan_not_macsec}
 use Rattle.ep_link.proofs.MacsecLemmas.{macsec_header_is_read}
 use Rattle.ep_link.proofs.VlanLemmas.{vlan_is_read}
 use Rattle.ep_transport.specs.declared.transport_header.TransportHeader.{TransportHeader}
 use Rattle.ep_transport.specs.declared.transport_header.TransportHeader.TheVariants as header
-use Rattle.ep_transport.specs.TransportParts.{TransportLayer, IsTransportPart, RefusesTransportPart}
+use Rattle.ep_transport.specs.TransportParts.{TransportLayer, IsTransportPart}
 use Rattle.ep_packet.specs.declared.err.slice_error.SliceError.{SliceError}
-use Rattle.ep_packet.specs.Frame.{NetKind, only_ipv4, only_ipv6, only_arp, any_ip, net_kind}
+use Rattle.ep_packet.specs.Frame.{NetKind, only_ipv4, only_ipv6, only_arp, net_kind}
 use Rattle.ep_packet.specs.FrameRefusals.{RefusesTransportIn, extension_refusal, ipv4_refusal, ipv6_refusal, len_refusal, net_header_len, transport_refusal}
 use Rattle.ep_packet.specs.Layers.{NetLayer, ipv4_layer, ipv6_layer}
 use Rattle.ep_packet.proofs.LayerLawLemmas.{layer_laws}
-use Rattle.ep_lax.specs.LaxIp.{LaxIp, IsLaxIpv4, IsLaxIpv4Behind, IsLaxIpv6, IsLaxIpv6Behind}
+use Rattle.ep_lax.specs.LaxIp.{LaxIp, IsLaxIpv4, IsLaxIpv6}
 use Rattle.ep_lax.specs.LaxLayers.{LaxTransport, LaxNet, layer_cut, net_with, no_transport, no_net, told}
 use Rattle.ep_lax.specs.LaxMacsec.{IsLaxMacsec, lax_macsec_payload, macsec_says}
-use Rattle.ep_lax.specs.Lax.{IsHeaderCutLaxly, IsCutLaxly, IsLaxTransport, IsInsideIp, IsIpLayer, IsIpv4Net, IsIpv6Net, IsNoNet, IsLaxNet, IsLaxExtension, RefusesLaxExtension, IsLaxInside, arp_net, chain_refusal}
+use Rattle.ep_lax.specs.Lax.{IsHeaderCutLaxly, IsCutLaxly, IsLaxTransport, IsInsideIp, IsIpLayer, IsNoNet, IsLaxNet, IsLaxExtension, RefusesLaxExtension, IsLaxInside, arp_net, chain_refusal}
 use Rattle.ep_lax.proofs.LaxIpLemmas.{behind_ipv4_fits, behind_ipv6_fits, cut_fits, ipv4_behind_is_one, ipv6_behind_is_one, one_lax_ipv4, one_lax_ipv6, refused_no_lax_ipv4, refused_no_lax_ipv6}
 use Rattle.ep_lax.proofs.LaxMacsecLemmas.{one_lax_macsec, payload_by_is, refused_no_lax_macsec}
 

@@ -1,20 +1,18 @@
 -- The net layer in the lax walk over a packet, from what the calls of its slices ensure.
-use Rattle.std.proofs.Common.{◌≡◌, ◌⊎◌, ℕ, ◌+◌, ◌≤◌, Bool, List, [], ◌∷◌, ◌++◌, length, Option, Some, None, refl, sym, ap, subst, ◌∙◌, arith, length-append}
+use Rattle.std.proofs.Common.{◌≡◌, ℕ, ◌+◌, ◌≤◌, Bool, List, [], ◌∷◌, ◌++◌, length, Option, Some, None, refl, sym, ap, subst, ◌∙◌, arith, length-append}
 use Rattle.std.proofs.Math.Path.{transport}
 use Rattle.std.specs.Option.{option_map}
 use Rattle.std.proofs.lemmas.Grind.{common_steps}
 use Rattle.ep_base.specs.IpPayload.{IpPayload}
 use Rattle.ep_base.specs.declared.len_source.LenSource.{LenSource}
 use Rattle.ep_base.specs.declared.err.ip_auth.HeaderSliceError.{HeaderSliceError as AuthSliceError}
-use Rattle.ep_base.specs.declared.err.ipv6_exts.HeaderError.TheVariants as content
-use Rattle.ep_base.specs.declared.err.ipv6_exts.HeaderError.{HeaderError as ExtsContent}
 use Rattle.ep_base.specs.declared.err.ipv6_exts.HeaderSliceError.{HeaderSliceError}
 use Rattle.ep_base.specs.declared.err.ipv6_exts.HeaderSliceError.TheVariants as header_error
 use Rattle.ep_base.specs.declared.err.layer.Layer.{Layer}
 use Rattle.ep_base.specs.Readings.{slices}
 use Rattle.ep_ext.specs.ExtensionParts.{ExtensionPart, hop_by_hop, destination_options, routing, fragment, authentication, auth_refusal, part_bytes, part_len, part_next}
 use Rattle.ep_ext.specs.Chains.{IpVersion, ipv4, ipv6, ExtensionChain, offset_of, parts_bytes}
-use Rattle.ep_ext.specs.FrontChains.{AreInFront, IsFrontChain, chain_stop}
+use Rattle.ep_ext.specs.FrontChains.{AreInFront, IsFrontChain}
 use Rattle.ep_ext.proofs.ChainBytesLemmas.{chain_len}
 use Rattle.ep_ext.proofs.PartLemmas.{auth_len, part_lens}
 use Rattle.ep_ip.specs.declared.ipv4_header.Ipv4Header.{Ipv4Header}
@@ -24,7 +22,6 @@ use Rattle.ep_ip.specs.Ipv6.{ipv6_bytes}
 use Rattle.ep_ip.proofs.IpBytesLemmas.{encoded_len, ipv6_len}
 use Rattle.ep_transport.specs.declared.transport_slice.TransportSlice.{TransportSlice}
 use Rattle.ep_packet.specs.declared.err.slice_error.SliceError.{SliceError}
-use Rattle.ep_packet.specs.declared.err.slice_error.SliceError.TheVariants.{Ipv6Exts}
 use Rattle.ep_packet.specs.FrameRefusals.{net_header_len}
 use Rattle.ep_packet.specs.Layers.{ipv4_layer, ipv6_layer}
 use Rattle.ep_packet.specs.ShownBytes.{ShowsTransport}

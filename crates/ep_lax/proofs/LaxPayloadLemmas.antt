@@ -12,7 +12,7 @@ use Rattle.ep_packet.specs.Offsets.{tags_len}
 use Rattle.ep_packet.proofs.PayloadLemmas.{payload_of_last}
 use Rattle.ep_lax.specs.declared.lax_link_ext_slice.LaxLinkExtSlice.{LaxLinkExtSlice}
 use Rattle.ep_lax.specs.LaxPackets.{extensions_incomplete}
-use Rattle.ep_lax.specs.LaxPayloads.{LaxEtherPayload, last_behind, lax_ether_payload_behind, payload_of_tagged, source_behind}
+use Rattle.ep_lax.specs.LaxPayloads.{last_behind, lax_ether_payload_behind, payload_of_tagged, source_behind}
 use Rattle.ep_lax.specs.LaxViews.{extension_incomplete, lax_extension_of, lax_extensions_of}
 use Rattle.ep_lax.specs.StrictFrames.{extension_in}
 

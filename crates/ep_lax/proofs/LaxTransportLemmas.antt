@@ -1,30 +1,26 @@
 -- What the call that reads the transport layer of a payload of IP laxly owes.
-use Rattle.std.proofs.Common.{◌≡◌, ◌≢◌, ◌⊎◌, ◌==◌, ◌&&◌, ◌||◌, not, nat_le, nat_lt, if◌then◌else◌, ℕ, ◌+◌, ◌≤◌, ◌<◌, Bool, true, false, List, ◌++◌, length, Option, Some, None, refl, sym, ap, subst, ◌∙◌, inl, inr, arith}
+use Rattle.std.proofs.Common.{◌≡◌, ◌≢◌, ◌⊎◌, ◌==◌, ◌&&◌, ◌||◌, not, nat_lt, if◌then◌else◌, ℕ, ◌+◌, Bool, true, false, List, ◌++◌, length, Option, Some, None, refl, sym, ap, ◌∙◌, inl, inr, arith}
 use Rattle.std.specs.Prelude.{IfSome}
 use Rattle.std.specs.Option.{option_map}
 use Rattle.std.proofs.lemmas.Bool.{cases_lt, ne_eqb}
-use Rattle.std.proofs.lemmas.Grind.{common_steps}
 use Rattle.ep_base.specs.IpNumbers.{udp_number}
 use Rattle.ep_base.specs.LaxCut.{LaxCut, IsLaxCut, cuts, is_missing}
 use Rattle.ep_base.specs.Readings.{headers, slices}
 use Rattle.ep_base.specs.Tables.{first_row, rows_as}
-use Rattle.ep_base.specs.declared.err.len_error.LenError.{LenError}
 use Rattle.ep_base.specs.declared.err.tcp.HeaderSliceError.{HeaderSliceError}
 use Rattle.ep_base.specs.declared.err.tcp.HeaderSliceError.TheVariants.{Len}
 use Rattle.ep_base.specs.declared.len_source.LenSource.TheVariants as source
 use Rattle.ep_base.proofs.LaxCutLemmas.{cuts_not, cuts_there}
-use Rattle.ep_base.proofs.TableLemmas.{first_row-as_some}
 use Rattle.ep_transport.specs.declared.transport_header.TransportHeader.TheVariants as header
 use Rattle.ep_transport.specs.declared.transport_slice.TransportSlice.{TransportSlice}
 use Rattle.ep_transport.specs.declared.transport_slice.TransportSlice.TheVariants as slice
-use Rattle.ep_transport.specs.declared.udp_header.UdpHeader.{UdpHeader}
 use Rattle.ep_transport.specs.declared.udp_slice.UdpSlice.{UdpSlice}
 use Rattle.ep_transport.specs.TransportParts.{TransportLayer, transport_layer, IsTransportPart, RefusesTransportPart, transport_layer_of, transport_rows, transport_slice_bytes, udp_part_rows}
-use Rattle.ep_transport.specs.Udp.{IsLaxUdp, RefusesUdpHeader, udp_header_rows}
+use Rattle.ep_transport.specs.Udp.{IsLaxUdp}
 use Rattle.ep_transport.specs.UdpSlices.{udp_slice_header, udp_slice_payload}
 use Rattle.ep_packet.specs.ShownBytes.{ShowsTransport}
 use Rattle.ep_lax.specs.Lax.{IsCutLaxly}
-use Rattle.ep_lax.specs.LaxLayers.{LaxTransport, layer_cut}
+use Rattle.ep_lax.specs.LaxLayers.{layer_cut}
 use Rattle.ep_lax.specs.LaxPackets.{inside_of}
 
 -- why the length field of UDP has no say: the payload is a fragment, or of another number

@@ -3,37 +3,26 @@ use Rattle.std.proofs.Common.{◌≡◌, ◌⊎◌, ℕ, zero, suc, ◌+◌, ◌
 use Rattle.std.proofs.Math.Path.{transport}
 use Rattle.std.specs.Prelude.{IfSome, IfNone}
 use Rattle.std.proofs.lemmas.List.{append-nil}
-use Rattle.ep_base.specs.LaxCut.{LaxCut}
-use Rattle.ep_base.specs.Tables.{parts_of}
 use Rattle.ep_base.proofs.TableLemmas.{refusal_is}
-use Rattle.ep_base.specs.declared.err.layer.Layer.{Layer}
 use Rattle.ep_base.specs.declared.err.len_error.LenError.{LenError}
 use Rattle.ep_base.specs.declared.err.macsec.HeaderSliceError.{HeaderSliceError as TagError}
-use Rattle.ep_base.specs.declared.err.macsec.HeaderSliceError.TheVariants as tag_error
 use Rattle.ep_base.specs.declared.ether_type.EtherType.{EtherType}
-use Rattle.ep_link.specs.declared.link_ext.single_vlan_slice.SingleVlanSlice.{SingleVlanSlice}
-use Rattle.ep_link.specs.LinkExtensions.{LinkExtension, vlan, macsec, BeginsLinkExtension, IsVlanType, IsMacsecType, extension_header, extension_payload, extension_type, link_ext_header_len}
-use Rattle.ep_link.specs.Macsec.{macsec_header_len, macsec_header_rows, macsec_payload_bytes}
-use Rattle.ep_link.specs.Vlan.{IsVlan, vlan_bytes, vlan_rows}
-use Rattle.ep_link.specs.VlanSlices.{vlan_slice_bytes, vlan_slice_header, vlan_slice_payload, vlan_slice_parts}
+use Rattle.ep_link.specs.LinkExtensions.{LinkExtension, vlan, macsec, BeginsLinkExtension, extension_header, extension_payload, extension_type, link_ext_header_len}
+use Rattle.ep_link.specs.Macsec.{macsec_header_rows, macsec_payload_bytes}
+use Rattle.ep_link.specs.Vlan.{vlan_bytes, vlan_rows}
 use Rattle.ep_link.proofs.MacsecReadLemmas.{encoded_len as macsec_encoded_len}
 use Rattle.ep_transport.specs.declared.transport_slice.TransportSlice.{TransportSlice}
 use Rattle.ep_packet.specs.declared.err.slice_error.SliceError.{SliceError}
 use Rattle.ep_packet.specs.Frame.{most_link_exts}
 use Rattle.ep_packet.specs.FrameRefusals.{extension_refusal}
-use Rattle.ep_packet.specs.ShownBytes.{BeginsWith}
 use Rattle.ep_packet.specs.Walk.{net_kind_in}
 use Rattle.ep_lax.specs.declared.lax_link_ext_slice.LaxLinkExtSlice.{LaxLinkExtSlice}
-use Rattle.ep_lax.specs.declared.lax_link_ext_slice.LaxLinkExtSlice.TheVariants as extension
-use Rattle.ep_lax.specs.declared.lax_macsec_slice.LaxMacsecSlice.{LaxMacsecSlice}
 use Rattle.ep_lax.specs.declared.lax_net_slice.LaxNetSlice.{LaxNetSlice}
 use Rattle.ep_lax.specs.LaxLayers.{LaxNet, no_net, told}
-use Rattle.ep_lax.specs.LaxMacsec.{IsLaxMacsec}
-use Rattle.ep_lax.specs.LaxSlices.{ShowsLaxMacsec, lax_macsec_slice_header, lax_macsec_slice_payload}
 use Rattle.ep_lax.specs.Lax.{IsLaxExtension, IsLaxInside, IsLaxNet, RefusesLaxExtension}
-use Rattle.ep_lax.specs.LaxPackets.{ShowsLaxInside, ShowsLaxNet, extensions_incomplete, lax_extension_bytes, lax_net_of}
+use Rattle.ep_lax.specs.LaxPackets.{ShowsLaxInside, extensions_incomplete, lax_net_of}
 use Rattle.ep_lax.specs.LaxViews.{extension_incomplete, lax_extension_of, lax_extensions_of}
-use Rattle.ep_lax.specs.LaxWalk.{HasLaxExtensions, HoldsLaxInside, HoldsLaxNet, IsShownExtension, RefusesTag, StopsBehind, extension_start}
+use Rattle.ep_lax.specs.LaxWalk.{HasLaxExtensions, IsShownExtension, RefusesTag, StopsBehind, extension_start}
 use Rattle.ep_lax.proofs.LaxMacsecLemmas.{payload_by_is}
 
 -- ---- one extension

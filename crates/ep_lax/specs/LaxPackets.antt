@@ -1,5 +1,5 @@
 -- What a packet that was sliced laxly shows: its layers, and their bytes.
-use Rattle.std.specs.Prelude.{◌≡◌, ◌+◌, ℕ, Bool, false, List, [], ◌∷◌, ◌++◌, length, Option, Some, None}
+use Rattle.std.specs.Prelude.{◌≡◌, ◌+◌, ℕ, Bool, false, List, [], ◌∷◌, length, Option, Some, None}
 use Rattle.std.specs.Option.{option_map}
 use Rattle.ep_base.specs.LaxCut.{is_missing}
 use Rattle.ep_base.specs.declared.err.layer.Layer.{Layer}

@@ -1,5 +1,5 @@
 -- Why nothing of bytes is read, not even laxly: their first header is refused.
-use Rattle.std.specs.Prelude.{ℕ, Bool, ◌==◌, ◌||◌, not, if◌then◌else◌, List, [], ◌∷◌, ◌++◌, length}
+use Rattle.std.specs.Prelude.{ℕ, Bool, ◌==◌, ◌||◌, not, if◌then◌else◌, List, ◌∷◌, length}
 use Rattle.ep_base.specs.Readings.{len_error}
 use Rattle.ep_base.specs.Tables.{Refuses, RefusesAs, rows_as}
 use Rattle.ep_base.specs.declared.err.layer.Layer.TheVariants as layer

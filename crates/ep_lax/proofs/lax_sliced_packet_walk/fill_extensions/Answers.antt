@@ -1,12 +1,8 @@
-use Rattle.std.proofs.Common.{◌≡◌, ◌+◌, ◌-◌, suc, Bool, Option, Some, None, length, length-append, ap, subst, sym, arith, inl, inr}
-use Rattle.std.specs.Prelude.{IfSome, IfNone}
+use Rattle.std.proofs.Common.{◌≡◌, ◌+◌, ◌-◌, suc, length, length-append, ap, arith, inl, inr}
 use Rattle.std.proofs.lemmas.Grind.{common_steps}
-use Rattle.ep_base.specs.declared.ether_type.EtherType.{EtherType}
-use Rattle.ep_link.specs.LinkExtensions.{BeginsLinkExtension}
 use Rattle.ep_packet.specs.Frame.{most_link_exts}
 use Rattle.ep_lax.specs.declared.lax_link_ext_slice.LaxLinkExtSlice.{LaxLinkExtSlice}
 use Rattle.ep_lax.specs.LaxViews.{extension_incomplete, lax_extension_of}
-use Rattle.ep_lax.specs.LaxWalk.{IsShownExtension}
 use Rattle.ep_lax.proofs.LaxWalkLemmas.{extensions_end, known_begins_none, lax_extension_len, reads_nothing, reads_one}
 use Rattle.ep_lax.proofs.LaxWalkLemmas.{found_there, none_there, reads_refused, tag_refused, tag_start, unknown_begins_none}
 use Rattle.ep_lax.proofs.lax_sliced_packet_walk.fill_extensions.Goals as goal

@@ -1,8 +1,7 @@
 use Rattle.std.proofs.Common.{◌≡◌, ◌≢◌, Bool, false, subst, sym, inr, rules, tests}
-use Rattle.std.specs.Prelude.{IfOk, IfErr}
-use Rattle.std.proofs.lemmas.Result.{IfOk-weaker, IfErr-weaker}
+use Rattle.std.proofs.lemmas.Result.{IfOk-weaker}
 use Rattle.ep_base.specs.IpNumbers.{udp_number}
-use Rattle.ep_lax.proofs.LaxTransportLemmas.{IsReadLaxly, others_read, others_refused, shown_or_none, udp_read_laxly}
+use Rattle.ep_lax.proofs.LaxTransportLemmas.{IsReadLaxly, others_read, udp_read_laxly}
 use Rattle.ep_lax.proofs.lax_transport.transport_in.Goals as goal
 
 pub returns-in-Ok-clause-ok : goal.returns-in-Ok-clause-ok

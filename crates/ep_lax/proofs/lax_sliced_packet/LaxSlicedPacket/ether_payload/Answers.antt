@@ -2,7 +2,7 @@ use Rattle.std.proofs.Common.{◌≡◌, ◌-◌, false, map, length, Some, None
 use Rattle.std.specs.Prelude.{slice_get}
 use Rattle.std.specs.Option.{option_map}
 use Rattle.ep_base.specs.declared.len_source.LenSource.TheVariants as source
-use Rattle.ep_link.specs.LinkExtensions.{LinkExtension, extension_type}
+use Rattle.ep_link.specs.LinkExtensions.{extension_type}
 use Rattle.ep_link.specs.LinkSlices.{link_layer_of}
 use Rattle.ep_lax.specs.LaxPackets.{extensions_incomplete}
 use Rattle.ep_lax.specs.LaxPayloads.{lax_ether_payload_of, source_behind, typed_payload}
