@@ -11,10 +11,12 @@ use Rattle.ep_base.proofs.BytesLemmas.{AreBytes-drop, AreBytes-take}
 use Rattle.ep_base.proofs.TableLemmas.{IsReadBy}
 use Rattle.capture_reader.specs.Numbers.{word16, word32, word32_at}
 use Rattle.capture_reader.specs.Blocks.{FitsContent, IsBlock, PlainBlock, Section}
-use Rattle.capture_reader.specs.Blocks.{header, interface, enhanced, obsolete, simple, other, block_body, block_bytes, block_in}
+use Rattle.capture_reader.specs.Blocks.{header, interface, enhanced, obsolete, simple, other, block_body, block_bytes}
+use Rattle.capture_reader.specs.Blocks.{block_in}
 use Rattle.capture_reader.specs.Blocks.{block_len, block_number, block_of, block_order, block_rows, body_rows}
 use Rattle.capture_reader.specs.Blocks.{front_rows}
-use Rattle.capture_reader.specs.Blocks.{has_no_order, is_other, kind_in, kind_of, least_len, most_block, order_in, order_of}
+use Rattle.capture_reader.specs.Blocks.{has_no_order, is_other, kind_in, kind_of, least_len, most_block, order_in}
+use Rattle.capture_reader.specs.Blocks.{order_of}
 use Rattle.capture_reader.specs.Blocks.{order_or, order_said, whole_rows}
 use Rattle.capture_reader.specs.Captures.{BeginsSection, block_shown}
 use Rattle.capture_reader.specs.declared.block.BlockKind.{BlockKind}
@@ -29,7 +31,8 @@ use Rattle.capture_reader.proofs.NumberLemmas.{length-word32, range_front, range
 use Rattle.capture_reader.proofs.NumberLemmas.{word32_at-more}
 use Rattle.capture_reader.proofs.NumberLemmas.{word32_front, word32_read}
 use Rattle.capture_reader.proofs.BodyLemmas.{enhanced_is_read, enhanced_reads, header_is_read, header_reads}
-use Rattle.capture_reader.proofs.BodyLemmas.{interface_is_read, interface_reads, obsolete_is_read, obsolete_reads, row_none, row_pass}
+use Rattle.capture_reader.proofs.BodyLemmas.{interface_is_read, interface_reads, obsolete_is_read, obsolete_reads}
+use Rattle.capture_reader.proofs.BodyLemmas.{row_none, row_pass}
 use Rattle.capture_reader.proofs.BodyLemmas.{simple_is_read, simple_reads}
 
 -- ---- the numbers of kinds and byte orders
@@ -176,7 +179,8 @@ pub record Passes (before : ByteOrder) (interfaces : List Interface) (order : By
   pub trailing : word32_at order bytes (len - 4) ≡ len
   pub body : first_row (body_rows interfaces order kind len (slice_range bytes 8 (len - 4))) ≡ None
 
-passes : (before : ByteOrder) (interfaces : List Interface) (order : ByteOrder) (kind : BlockKind) (magic len : ℕ) (bytes : List ℕ)
+passes : (before : ByteOrder) (interfaces : List Interface) (order : ByteOrder) (kind : BlockKind) (magic len : ℕ)
+    (bytes : List ℕ)
     → first_row (rows_of before interfaces order kind magic len bytes) ≡ None
     → Passes before interfaces order kind magic len bytes
 passes before interfaces order kind magic len bytes none =
@@ -199,7 +203,8 @@ passes before interfaces order kind magic len bytes none =
       body = f.1;
     }
 
-pub none_of : (before : ByteOrder) (interfaces : List Interface) (order : ByteOrder) (kind : BlockKind) (magic len : ℕ) (bytes : List ℕ)
+pub none_of : (before : ByteOrder) (interfaces : List Interface) (order : ByteOrder) (kind : BlockKind) (magic len : ℕ)
+    (bytes : List ℕ)
     → Passes before interfaces order kind magic len bytes
     → first_row (rows_of before interfaces order kind magic len bytes) ≡ None
 none_of before interfaces order kind magic len bytes passed =
@@ -211,7 +216,8 @@ none_of before interfaces order kind magic len bytes passed =
     ∙ row_pass (nat_lt most_block len) _ _ (le-ltb most_block len passed.most)
     ∙ row_pass (nat_lt (length bytes) len) _ _ (le-ltb (length bytes) len passed.within)
     ∙ row_pass (not (word32_at order bytes (len - 4) == len)) _ _
-    (not_from_true (word32_at order bytes (len - 4) == len) (eq-eqb (word32_at order bytes (len - 4)) len passed.trailing))
+    (not_from_true (word32_at order bytes (len - 4) == len)
+    (eq-eqb (word32_at order bytes (len - 4)) len passed.trailing))
     ∙ passed.body
 
 pub least_12 : (kind : BlockKind) → 12 ≤ least_len kind
@@ -496,7 +502,8 @@ block_is_read section bytes (block, rest) is =
     } in
     let rows : block_rows section bytes ≡ rows_of section.order interfaces order kind magic len bytes =
     λ i. rows_of section.order interfaces (found.order i) (found.kind i) magic (len_is i) bytes in
-    let same : block_of interfaces order kind (word32_at section.order bytes 0) (slice_range bytes 8 (len - 4)) ≡ block =
+    let same : block_of interfaces order kind (word32_at section.order bytes 0) (slice_range bytes 8 (len - 4))
+    ≡ block =
     ap (λ (n : ℕ). block_of interfaces order kind n (slice_range bytes 8 (len - 4))) found.number ∙ content.is in
     let read : block_in section bytes
     ≡ block_of interfaces order kind (word32_at section.order bytes 0) (slice_range bytes 8 (len - 4)) =
@@ -508,7 +515,8 @@ block_is_read section bytes (block, rest) is =
     )
 
 -- the number that a block begins with
-pub number_of_block : (section : Section) (block : PlainBlock) (bytes rest : List ℕ) → IsBlock section bytes (block, rest)
+pub number_of_block : (section : Section) (block : PlainBlock) (bytes rest : List ℕ) → IsBlock section bytes
+    (block, rest)
     → (word32_at section.order bytes 0 ≡ block_number block) × (12 ≤ length bytes)
 number_of_block section block bytes rest is =
     let found = framed section block bytes rest is in (found.number, omega (arith, found.long))
@@ -532,7 +540,8 @@ not_long section (other plain) bytes kind len most =
     let few = le-ltb most_block (word32_at section.order bytes 4) (omega (arith, len, most)) in
     λ i. is_other (kind i) && few i
 
-pub block_not_long : (section : Section) (block : PlainBlock) (bytes rest : List ℕ) → IsBlock section bytes (block, rest)
+pub block_not_long : (section : Section) (block : PlainBlock) (bytes rest : List ℕ) → IsBlock section bytes
+    (block, rest)
     → is_other (kind_in section.order bytes) && nat_lt most_block (word32_at section.order bytes 4) ≡ false
 block_not_long section block bytes rest is =
     let found = framed section block bytes rest is in
@@ -561,7 +570,8 @@ section_block (obsolete plain) begins = absurd begins
 section_block (simple plain) begins = absurd begins
 section_block (other plain) begins = absurd begins
 
-pub shows_none : (interfaces : List Interface) (one : PlainBlock) → BeginsSection one → block_shown interfaces one ≡ None
+pub shows_none : (interfaces : List Interface) (one : PlainBlock) → BeginsSection one → block_shown interfaces one
+    ≡ None
 shows_none interfaces (header plain) begins = refl
 shows_none interfaces (interface plain) begins = absurd begins
 shows_none interfaces (enhanced plain) begins = absurd begins

@@ -71,13 +71,24 @@ range-more bytes more i j start end =
     ∙ take-append-le (j - i) (drop i bytes) more (omega (arith, length-drop i bytes))
 
 -- the rows of a block, by what they are about
-abbrev rows_by : ByteOrder → List Interface → ByteOrder → BlockKind → (magic len n trailing : ℕ) → List ℕ → List (Bool × Refusal)
+abbrev rows_by : ByteOrder → List Interface → ByteOrder → BlockKind → (magic len n trailing : ℕ) → List ℕ
+    → List (Bool × Refusal)
 rows_by before interfaces order kind magic len n trailing body =
     (nat_lt n 12, refusal.Cut 12 n)
     ∷ front_rows before kind magic len
     ++ (nat_lt n len, refusal.Cut len n)
     ∷ (not (trailing == len), refusal.TrailingLength len trailing)
     ∷ body_rows interfaces order kind len body
+
+-- those behind the first, which says whether bytes are too few for the length
+abbrev rows_behind : Section → List ℕ → List (Bool × Refusal)
+rows_behind section bytes =
+    let kind = kind_in section.order bytes in
+    let order = order_in section.order bytes in
+    let len = word32_at order bytes 4 in
+    front_rows section.order kind (word32_at Big bytes 8) len
+    ++ (nat_lt (length bytes) len, refusal.Cut len (length bytes))
+    ∷ whole_rows section.interfaces order kind len bytes
 
 pub block_more : (section : Section) (bytes more : List ℕ) (e : Refusal) → IsFinal e
     → first_row (block_rows section bytes) ≡ Some e → first_row (block_rows section (bytes ++ more)) ≡ Some e
@@ -91,8 +102,7 @@ block_more section bytes more e final refused =
     let n = length bytes in
     let m = length (bytes ++ more) in
     let size = length-append bytes more in
-    let is = not_few (nat_lt n 12) 12 n (front_rows before kind magic len
-    ++ (nat_lt n len, refusal.Cut len n) ∷ whole_rows interfaces order kind len bytes) e final refused in
+    let is = not_few (nat_lt n 12) 12 n (rows_behind section bytes) e final refused in
     let long : 12 ≤ n = ltb-false n 12 is.0 in
     let same_kind : kind_in before (bytes ++ more) ≡ kind =
     ap kind_of (word32_at-more before bytes more 0 (omega arith)) in
@@ -110,7 +120,11 @@ block_more section bytes more e final refused =
     λ enough. let within : len ≤ n = ltb-false n len enough in
     let same_trailing : other_trailing ≡ trailing = word32_at-more order bytes more (len - 4) (omega arith) in
     let same_body : other_body ≡ body = range-more bytes more 8 (len - 4) (omega arith) (omega arith) in
-    let same_last : other_last ≡ last = λ i. (not (same_trailing i == len), refusal.TrailingLength len (same_trailing i))
+    let same_last : other_last ≡ last = λ i. (
+      not (same_trailing i == len),
+      refusal.TrailingLength len
+          (same_trailing i),
+    )
     ∷ body_rows interfaces order kind len (same_body i) in
     (le-ltb m len (omega (arith, size)), ap first_row same_last) in
     let same_rows : block_rows section (bytes ++ more)
@@ -121,23 +135,21 @@ block_more section bytes more e final refused =
     ≡ first_row (rows_by before interfaces order kind magic len m other_trailing other_body) =
     ap first_row same_rows in
     same ∙ row_pass (nat_lt m 12) (refusal.Cut 12 m) _ (le-ltb m 12 (omega (arith, size)))
-    ∙ past_front (front_rows before kind magic len) (nat_lt n len) (nat_lt m len) len n m last other_last e final goes_on is.1
+    ∙ past_front (front_rows before kind magic len) (nat_lt n len) (nat_lt m len) len n m last other_last e final
+    goes_on is.1
 
 -- what refuses a block for good is known by its first 12 bytes
 pub block_long : (section : Section) (bytes : List ℕ) (e : Refusal) → IsFinal e
     → first_row (block_rows section bytes) ≡ Some e → 12 ≤ length bytes
 block_long section bytes e final refused =
-    let order = order_in section.order bytes in
-    let kind = kind_in section.order bytes in
-    let len = word32_at order bytes 4 in
-    let n = length bytes in
-    ltb-false n 12 (not_few (nat_lt n 12) 12 n (front_rows section.order kind (word32_at Big bytes 8) len
-    ++ (nat_lt n len, refusal.Cut len n) ∷ whole_rows section.interfaces order kind len bytes) e final refused).0
+    ltb-false (length bytes) 12
+    (not_few (nat_lt (length bytes) 12) 12 (length bytes) (rows_behind section bytes) e final refused).0
 
 -- ---- bytes that are too few
 
 -- where bytes are too few, no row in front refuses, and this one does
-pub cut_behind : (front : List (Bool × Refusal)) (short : Bool) (len n required there : ℕ) (last : List (Bool × Refusal))
+pub cut_behind : (front : List (Bool × Refusal)) (short : Bool) (len n required there : ℕ)
+    (last : List (Bool × Refusal))
     → AllErrors IsFinal front → AllErrors IsFinal last
     → first_row (front ++ (short, refusal.Cut len n) ∷ last) ≡ Some (refusal.Cut required there)
     → (first_row front ≡ None) × (short ≡ true)
@@ -166,21 +178,18 @@ few_or_cut false len rows e refused = inr refused
 pub block_few : (section : Section) (bytes : List ℕ) (required there : ℕ)
     → first_row (block_rows section bytes) ≡ Some (refusal.Cut required there) → length bytes < most_block
 block_few section bytes required there refused =
-    let before = section.order in
-    let interfaces = section.interfaces in
-    let kind = kind_in before bytes in
-    let magic = word32_at Big bytes 8 in
-    let order = order_in before bytes in
+    let kind = kind_in section.order bytes in
+    let order = order_in section.order bytes in
     let len = word32_at order bytes 4 in
     let n = length bytes in
-    let front = front_rows before kind magic len in
-    let last = whole_rows interfaces order kind len bytes in
-    elim (few_or_cut (nat_lt n 12) n (front ++ (nat_lt n len, refusal.Cut len n) ∷ last) (refusal.Cut required there) refused) [
+    elim (few_or_cut (nat_lt n 12) n (rows_behind section bytes) (refusal.Cut required there) refused) [
       | inl few ↦ let below : n < 12 = ltb-true n 12 few in omega arith
       | inr behind ↦
-          let cut = cut_behind front (nat_lt n len) len n required there last (tt, (tt, (tt, tt)))
-          (tt, body_final interfaces order kind len (slice_range bytes 8 (len - 4))) behind in
-          let a = row_none (has_no_order before kind magic) _ _ cut.0 in
+          let magic = word32_at Big bytes 8 in
+          let cut = cut_behind (front_rows section.order kind magic len) (nat_lt n len) len n required there
+          (whole_rows section.interfaces order kind len bytes) (tt, (tt, (tt, tt)))
+          (tt, body_final section.interfaces order kind len (slice_range bytes 8 (len - 4))) behind in
+          let a = row_none (has_no_order section.order kind magic) _ _ cut.0 in
           let b = row_none (nat_lt len (least_len kind) || not (len % 4 == 0)) _ _ a.1 in
           let c = row_none (nat_lt most_block len) _ _ b.1 in
           let most : len ≤ most_block = ltb-false most_block len c.0 in

@@ -1,5 +1,6 @@
 -- What blocks hold is read in one way.
-use Rattle.std.proofs.Common.{◌≡◌, ℕ, ◌+◌, ◌-◌, ◌^◌, ◌<◌, ◌≤◌, ◌==◌, ◌||◌, Bool, true, false, not, nat_lt, if◌then◌else◌}
+use Rattle.std.proofs.Common.{◌≡◌, ℕ, ◌+◌, ◌-◌, ◌^◌, ◌<◌, ◌≤◌, ◌==◌, ◌||◌, Bool, true, false, not, nat_lt}
+use Rattle.std.proofs.Common.{if◌then◌else◌}
 use Rattle.std.proofs.Common.{List, [], ◌∷◌, ◌++◌, Option, Some, None, length, drop, slice_range}
 use Rattle.std.proofs.Common.{get_or, refl, sym, ap, ◌∙◌, append_assoc, length-append, length-drop, arith}
 use Rattle.std.proofs.lemmas.Bool.{eq-eqb, eqb-true, le-ltb, lt-ltb, ltb-false, ltb-true, not-false, not_from_true}
@@ -17,7 +18,8 @@ use Rattle.capture_reader.specs.Options.{padding_of, resolution_said, value_of}
 use Rattle.capture_reader.specs.Blocks.{FitsEnhanced, FitsHeader, FitsInterface, FitsObsolete, FitsSimple}
 use Rattle.capture_reader.specs.Blocks.{PlainEnhanced, PlainHeader, PlainInterface, PlainObsolete, PlainSimple}
 use Rattle.capture_reader.specs.Blocks.{header, interface, enhanced, obsolete, simple, Section, block_body}
-use Rattle.capture_reader.specs.Blocks.{body_rows, enhanced_of, header_of, interface_read, kept_rows, numbered_rows, obsolete_of}
+use Rattle.capture_reader.specs.Blocks.{body_rows, enhanced_of, header_of, interface_read, kept_rows, numbered_rows}
+use Rattle.capture_reader.specs.Blocks.{obsolete_of}
 use Rattle.capture_reader.specs.Blocks.{packet_body, packet_with}
 use Rattle.capture_reader.specs.Blocks.{knows_minor, most_interfaces, options_rows, said_rows, simple_kept, simple_of}
 use Rattle.capture_reader.specs.Blocks.{version_rows}
@@ -183,8 +185,10 @@ interface_reads section len body fits long none =
     let first_len = row_none (not (has_len 1 said)) _ _ ends.1 in
     let second_len = row_none (not (has_len 8 (value_of 14 plain.options))) _ _ first_len.1 in
     let known = row_none (not (knows_resolution (resolution_said said))) _ _ second_len.1 in
-    let second : drop 2 body ≡ word16 order plain.reserved ++ drop 4 body = word16_front order body 2 fits (omega arith) in
-    let third : drop 4 body ≡ word32 order plain.snap_len ++ drop 8 body = word32_front order body 4 fits (omega arith) in (
+    let second : drop 2 body ≡ word16 order plain.reserved ++ drop 4 body = word16_front order body 2 fits (omega arith)
+    in
+    let third : drop 4 body ≡ word32 order plain.snap_len ++ drop 8 body = word32_front order body 4 fits
+    (omega arith) in (
       record {
         room = ltb-true (length section.interfaces) most_interfaces (not-false few room.0);
         link_type = word16_at-fits order body 0 fits;
@@ -230,7 +234,8 @@ interface_is_read section len plain body fits is =
     let same_rows : options_rows order (drop 8 body) ≡ rows =
     λ i. said_rows (ends_options order (options.1 i)) (value_of 9 (options.0 i)) (value_of 14 (options.0 i)) in
     let size : length body
-    ≡ length (word16 order plain.link_type) + (length (word16 order plain.reserved) + (length (word32 order plain.snap_len)
+    ≡ length (word16 order plain.link_type) + (length (word16 order plain.reserved) +
+    (length (word32 order plain.snap_len)
     + length (options_bytes order plain.options ++ plain.ending))) =
     ap length parts ∙ length-append (word16 order plain.link_type) _
     ∙ ap (λ (n : ℕ). length (word16 order plain.link_type) + n) (length-append (word16 order plain.reserved) _
@@ -297,7 +302,8 @@ packet_reads section number len body fits long numbered none =
     )
 
 packet_is_read : (section : Section) (number len : ℕ) (plain : PlainEnhanced) (body : List ℕ)
-    → FitsEnhanced section plain → number ≡ plain.number → 4 ≤ length body → drop 4 body ≡ packet_body section.order plain
+    → FitsEnhanced section plain → number ≡ plain.number → 4 ≤ length body → drop 4 body
+    ≡ packet_body section.order plain
     → (first_row (numbered_rows section.interfaces number section.order len body) ≡ None)
     × (packet_with section.order number body ≡ plain) × (20 ≤ length body)
 packet_is_read section number len plain body fits number_is some is =
@@ -371,10 +377,12 @@ obsolete_reads section len body fits long none =
     let drops = word16_at order body 2 in
     let small : number < 2 ^ 16 = word16_at-fits order body 0 fits in
     let read = packet_reads section number len body fits long (omega (arith, small)) none in
-    let second : drop 2 body ≡ word16 order drops ++ drop 4 body = word16_front order body 2 fits (omega (arith, long)) in (
+    let second : drop 2 body ≡ word16 order drops ++ drop 4 body = word16_front order body 2 fits
+    (omega (arith, long)) in (
       record { numbered = small; drops = word16_at-fits order body 2 fits; packet = read.0 },
       word16_front order body 0 fits (omega (arith, long))
-          ∙ ap (λ (s : List ℕ). word16 order number ++ s) (second ∙ ap (λ (s : List ℕ). word16 order drops ++ s) read.1),
+          ∙ ap (λ (s : List ℕ). word16 order number ++ s)
+          (second ∙ ap (λ (s : List ℕ). word16 order drops ++ s) read.1),
     )
 
 pub obsolete_is_read : (section : Section) (len : ℕ) (plain : PlainObsolete) (body : List ℕ)
@@ -395,7 +403,8 @@ obsolete_is_read section len plain body fits is =
       length-word16 order plain.packet.number,
       length-word16 order plain.drops,
     ) in
-    let read = packet_is_read section (word16_at order body 0) len plain.packet body fits.packet number.0 some drops.1 in
+    let read = packet_is_read section (word16_at order body 0) len plain.packet body fits.packet number.0 some drops.1
+    in
     (read.0, (λ i. record { drops = drops.0 i; packet = read.1 i }), read.2)
 
 simple_parts : (order : ByteOrder) (plain : PlainSimple)
@@ -415,7 +424,8 @@ simple_reads section len body fits long none =
     let facts = kept_facts len 4 kept (length body) described.1 in
     let front = kept_front body 4 kept facts.1 in (
       record {
-        described = ltb-true 0 (length section.interfaces) (not-false (nat_lt 0 (length section.interfaces)) described.0);
+        described = ltb-true 0 (length section.interfaces)
+            (not-false (nat_lt 0 (length section.interfaces)) described.0);
         original_len = word32_at-fits order body 0 fits;
         bytes = front.0;
         kept = omega (arith, front.0, facts.0);
@@ -443,7 +453,8 @@ simple_is_read section len plain body fits is =
       length-append (word32 order plain.original_len) (plain.bytes ++ (plain.padding ++ plain.behind)),
       length-word32 order plain.original_len,
     ) in
-    let found = kept_read body plain.bytes plain.padding plain.behind 4 (simple_kept interfaces (word32_at order body 0))
+    let found = kept_read body plain.bytes plain.padding plain.behind 4
+    (simple_kept interfaces (word32_at order body 0))
     long read.1 kept fits.padding in
     let described : nat_lt 0 (length interfaces) ≡ true = lt-ltb 0 (length interfaces) fits.described in (
       row_pass (not (nat_lt 0 (length interfaces))) _ _ (not_from_true (nat_lt 0 (length interfaces)) described)

@@ -1,10 +1,12 @@
 -- Whole captures: their items are read one behind the other, in one way.
-use Rattle.std.proofs.Common.{◌≡◌, ℕ, zero, suc, ◌+◌, ◌-◌, ◌%◌, ◌<◌, ◌≤◌, ◌==◌, ◌&&◌, ◌⊎◌, Bool, true, false, not, nat_le}
+use Rattle.std.proofs.Common.{◌≡◌, ℕ, zero, suc, ◌+◌, ◌-◌, ◌%◌, ◌<◌, ◌≤◌, ◌==◌, ◌&&◌, ◌⊎◌, Bool, true, false, not}
+use Rattle.std.proofs.Common.{nat_le}
 use Rattle.std.proofs.Common.{nat_lt, min, take, drop, length-take-le, take-append-drop}
 use Rattle.std.proofs.Common.{if◌then◌else◌, is_some, List, [], ◌∷◌, ◌++◌, Option, Some, None, length, slice_range}
 use Rattle.std.proofs.Common.{refl, sym, ap, subst, ◌∙◌, inl, inr}
 use Rattle.std.proofs.Common.{append_assoc, length-append, arith}
-use Rattle.std.proofs.lemmas.Bool.{and_from, and_parts, cases_Bool, eq-eqb, eqb-true, le-leb, le-ltb, leb-true, lt-ltb, ltb-false, ltb-true}
+use Rattle.std.proofs.lemmas.Bool.{and_from, and_parts, cases_Bool, eq-eqb, eqb-true, le-leb, le-ltb, leb-true, lt-ltb}
+use Rattle.std.proofs.lemmas.Bool.{ltb-false, ltb-true}
 use Rattle.std.proofs.lemmas.Bool.{not-false, not_from_true, true≢false}
 use Rattle.std.proofs.Math.Dec.{eqb-suc-zero}
 use Rattle.std.proofs.Math.Nat.{le-min}
@@ -16,8 +18,10 @@ use Rattle.ep_base.proofs.BytesLemmas.{AreBytes-back}
 use Rattle.ep_base.proofs.TableLemmas.{IsReadBy, one_value}
 use Rattle.capture_reader.specs.Blocks.{IsBlock, PlainBlock, block_in, block_of, block_rows, kind_in, kind_of}
 use Rattle.capture_reader.specs.Blocks.{Section, is_other, most_block, no_section, order_in}
-use Rattle.capture_reader.specs.Captures.{Item, heading, packet, block, part, front, stretch, back, Stage, at_start, in_records}
-use Rattle.capture_reader.specs.Captures.{in_section, inside, FitsFront, begins_long, inside_rows, most_stretch, section_rows}
+use Rattle.capture_reader.specs.Captures.{Item, heading, packet, block, part, front, stretch, back, Stage, at_start}
+use Rattle.capture_reader.specs.Captures.{in_records}
+use Rattle.capture_reader.specs.Captures.{in_section, inside, FitsFront, begins_long, inside_rows, most_stretch}
+use Rattle.capture_reader.specs.Captures.{section_rows}
 use Rattle.capture_reader.specs.Captures.{AreItems, BeginsSection, Fits, IsCapture, RefusesCapture, begins_section}
 use Rattle.capture_reader.specs.Captures.{item_bytes, item_rows, items_bytes, may_end, stage_after, stage_behind}
 use Rattle.capture_reader.specs.Classic.{heading_rows, style_in, style_of}
@@ -92,7 +96,8 @@ header_begins : (bytes : List ℕ) (one : PlainBlock) (rest : List ℕ) → Begi
 header_begins bytes one rest begins is =
     let found = number_of_block no_section one bytes rest is in
     let number : word32_at Big bytes 0 ≡ 0x0a0d0d0a = found.0 ∙ section_block one begins in
-    and_from (nat_le 4 (length bytes)) (word32_at Big bytes 0 == 0x0a0d0d0a) (le-leb 4 (length bytes) (omega (arith, found.1)))
+    and_from (nat_le 4 (length bytes)) (word32_at Big bytes 0 == 0x0a0d0d0a)
+    (le-leb 4 (length bytes) (omega (arith, found.1)))
     (eq-eqb (word32_at Big bytes 0) 0x0a0d0d0a number)
 
 -- where a section begins, no heading stands
@@ -384,7 +389,7 @@ other_steps stage bytes item items ending run =
     record { fits = run.fits.1; rest = run.rest; parts = refl; stops = run.stops }
 
 -- a capture ends only where no byte is left
-ended_empty : (stage : Stage) (bytes : List ℕ) → may_end stage bytes ≡ true → bytes ≡ []
+pub ended_empty : (stage : Stage) (bytes : List ℕ) → may_end stage bytes ≡ true → bytes ≡ []
 ended_empty at_start bytes ended = absurd (cc)
 ended_empty (in_records first) [] ended = refl
 ended_empty (in_records first) (byte ∷ bytes) ended = absurd (cc)

@@ -208,7 +208,8 @@ pub record Passes (style : ByteOrder × Resolution) (bytes : List ℕ) : Type 0 
 passes : (style : ByteOrder × Resolution) (bytes : List ℕ) → first_row (rows_with (Some style) bytes) ≡ None
     → Passes style bytes
 passes style bytes none =
-    let facts : (24 ≤ length bytes) × (word16_at style.0 bytes 4 ≡ 2) × (word16_at style.0 bytes 6 ≡ 4) = grind (arith, common_steps, nat_tests) in
+    let facts : (24 ≤ length bytes) × (word16_at style.0 bytes 4 ≡ 2) × (word16_at style.0 bytes 6 ≡ 4) = grind
+    (arith, common_steps, nat_tests) in
     record { long = facts.0; major = facts.1; minor = facts.2 }
 
 none_refuses : (style : ByteOrder × Resolution) (bytes : List ℕ) → Passes style bytes

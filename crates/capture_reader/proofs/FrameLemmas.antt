@@ -80,7 +80,8 @@ framed_stands before bytes frame is =
     (is.order_is ∙ ap (λ k. order_of before k (word32_at Big bytes 8)) (sym is.kind))
 
 -- a block that is there whole, and is not refused
-pub whole_block : (before : ByteOrder) (bytes : List ℕ) (frame : Framing) (interfaces : List Interface) (content : Content)
+pub whole_block : (before : ByteOrder) (bytes : List ℕ) (frame : Framing) (interfaces : List Interface)
+    (content : Content)
     → AreBytes bytes → IsFramed before bytes frame
     → Says interfaces frame.order frame.kind frame.len (slice_range bytes 8 (frame.len - 4)) content
     → let section = section_of before interfaces in

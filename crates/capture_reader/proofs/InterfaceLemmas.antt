@@ -1,5 +1,6 @@
 -- The description of an interface, as it was read.
-use Rattle.std.proofs.Common.{◌≡◌, ℕ, ℤ, Bool, List, Option, drop, sym, ap, ◌∙◌}
+use Rattle.std.proofs.Common.{◌≡◌, ℕ, ℤ, ◌-◌, Bool, List, Option, take, drop, length, length-drop, sym, ap, ◌∙◌, arith}
+use Rattle.std.proofs.lemmas.List.{take_all}
 use Rattle.capture_reader.specs.Numbers.{word16_at, word32_at}
 use Rattle.capture_reader.specs.Blocks.{interface_of, interface_read, options_rows, said_rows}
 use Rattle.capture_reader.specs.Options.{ends_options, offset_said, options_end, options_of, per_second_of}
@@ -8,11 +9,24 @@ use Rattle.capture_reader.specs.declared.byte_order.ByteOrder.{ByteOrder}
 use Rattle.capture_reader.specs.declared.interface.Interface.{Interface}
 
 -- what options say, of which a block's body has these
-pub record Said (order : ByteOrder) (body options : List ℕ) (ended : Bool) (resolution offset : Option (List ℕ)) : Type 0 where
+pub record Said (order : ByteOrder) (body options : List ℕ) (ended : Bool)
+    (resolution offset : Option (List ℕ)) : Type 0 where
   pub options_are : options ≡ drop 8 body
   pub resolution_is : resolution ≡ value_of 9 (options_of order options)
   pub offset_is : offset ≡ value_of 14 (options_of order options)
   pub ended_is : ended ≡ ends_options order (options_end order options)
+
+-- as the options are read that lie behind the first eight bytes
+pub said_by : (order : ByteOrder) (body : List ℕ) (ended : Bool) (resolution offset : Option (List ℕ))
+    → let options = take (length body - 8) (drop 8 body) in
+    resolution ≡ value_of 9 (options_of order options) → offset ≡ value_of 14 (options_of order options)
+    → ended ≡ ends_options order (options_end order options) → Said order body options ended resolution offset
+said_by order body ended resolution offset resolution_is offset_is ended_is = record {
+  options_are = take_all _ (drop 8 body) (omega (arith, length-drop 8 body));
+  resolution_is = resolution_is;
+  offset_is = offset_is;
+  ended_is = ended_is;
+}
 
 -- the rows are about what they say
 pub said_are : (order : ByteOrder) (body options : List ℕ) (ended : Bool) (resolution offset : Option (List ℕ))

@@ -63,7 +63,8 @@ drop-four bytes i within =
     drop-elements 4 i bytes within ∙ ap (λ (s : List ℕ). s ++ drop (i + 4) bytes) cells
 
 -- behind a front
-pub word32_at-drop : (order : ByteOrder) (bytes : List ℕ) (i : ℕ) → word32_at order (drop i bytes) 0 ≡ word32_at order bytes i
+pub word32_at-drop : (order : ByteOrder) (bytes : List ℕ) (i : ℕ) → word32_at order (drop i bytes) 0
+    ≡ word32_at order bytes i
 unfolding word32_at
 word32_at-drop Big bytes i = ap (from_be_bytes w32) (four_at-drop bytes i)
 word32_at-drop Little bytes i = ap (from_le_bytes w32) (four_at-drop bytes i)
@@ -102,7 +103,8 @@ word16_of_read Little bytes i fits = le_bytes_2 (two_at bytes i) _ refl (two_fit
 two_at-drop : (bytes : List ℕ) (i : ℕ) → two_at (drop i bytes) 0 ≡ two_at bytes i
 two_at-drop bytes i = simp (get_or-drop, add-zero)
 
-word16_at-drop : (order : ByteOrder) (bytes : List ℕ) (i : ℕ) → word16_at order (drop i bytes) 0 ≡ word16_at order bytes i
+word16_at-drop : (order : ByteOrder) (bytes : List ℕ) (i : ℕ) → word16_at order (drop i bytes) 0
+    ≡ word16_at order bytes i
 unfolding word16_at
 word16_at-drop Big bytes i = ap (from_be_bytes w16) (two_at-drop bytes i)
 word16_at-drop Little bytes i = ap (from_le_bytes w16) (two_at-drop bytes i)

@@ -103,7 +103,8 @@ option_read order bytes option rest fits is =
     let within : option_len order bytes ≤ length bytes = omega (arith, size, len.0, filled) in
     let some : 0 < word16_at order bytes 0 = omega (arith, code.0, fits.some) in
     record {
-      has = has_from (length bytes) (word16_at order bytes 0) (option_len order bytes) (omega (arith, size)) some within;
+      has = has_from (length bytes) (word16_at order bytes 0) (option_len order bytes) (omega (arith, size)) some
+          within;
       is = λ i. record { code = code.0 i; value = value.0 i; padding = padding.0 i };
       behind = padding.1;
     }
@@ -241,7 +242,8 @@ ends_stuck order bytes ends = end_cases (length bytes) (word16_at order bytes 0)
 pub record Told (order : ByteOrder) (bytes rest : List ℕ) (resolution offset : Option (List ℕ)) : Type 0 where
   pub most : ℕ
   pub within : length rest ≤ most
-  pub resolution_is : first_value resolution (value_of 9 (options_in most order rest)) ≡ value_of 9 (options_of order bytes)
+  pub resolution_is : first_value resolution (value_of 9 (options_in most order rest))
+      ≡ value_of 9 (options_of order bytes)
   pub offset_is : first_value offset (value_of 14 (options_in most order rest)) ≡ value_of 14 (options_of order bytes)
   pub ending_is : behind_options most order rest ≡ options_end order bytes
 
@@ -287,14 +289,16 @@ told_more order bytes rest resolution offset told has =
     }
 
 -- an option was read
-pub told_step : (order : ByteOrder) (bytes rest : List ℕ) (resolution offset now_resolution now_offset : Option (List ℕ))
+pub told_step : (order : ByteOrder) (bytes rest : List ℕ)
+    (resolution offset now_resolution now_offset : Option (List ℕ))
     (code len filled : ℕ) (value next : List ℕ) → Told order bytes rest resolution offset
     → has_option order rest ≡ true → code ≡ word16_at order rest 0 → len ≡ word16_at order rest 2
     → filled ≡ padding_of len → value ≡ slice_range rest 4 (4 + len) → next ≡ drop (4 + len + filled) rest
     → now_resolution ≡ first_value resolution (if code == 9 then Some value else None)
     → now_offset ≡ first_value offset (if code == 14 then Some value else None)
     → Told order bytes next now_resolution now_offset
-told_step order bytes rest resolution offset now_resolution now_offset code len filled value next told has code_is len_is
+told_step order bytes rest resolution offset now_resolution now_offset code len filled value next told has code_is
+    len_is
     filled_is value_is next_is resolution_is offset_is =
     let option = option_of order rest in
     let whole : option_len order rest ≡ 4 + len + filled =

@@ -1,6 +1,7 @@
 -- What the steps of a reader come upon, and what it is refused.
-use Rattle.std.proofs.Common.{◌≡◌, ℕ, ◌+◌, ◌%◌, ◌<◌, ◌≤◌, ◌==◌, ◌&&◌, min, nat_le, nat_lt, not, is_some, Bool, true, false}
-use Rattle.std.proofs.Common.{if◌then◌else◌, List, [], ◌∷◌, ◌++◌, Some, None, Result, Ok, Err, length, drop}
+use Rattle.std.proofs.Common.{◌≡◌, ℕ, ◌+◌, ◌%◌, ◌<◌, ◌≤◌, ◌==◌, ◌&&◌, min, nat_le, nat_lt, not, is_some, Bool, true}
+use Rattle.std.proofs.Common.{false}
+use Rattle.std.proofs.Common.{List, [], ◌∷◌, ◌++◌, Some, None, Result, Ok, Err, length, drop}
 use Rattle.std.proofs.Common.{refl, sym, ap, subst, ◌∙◌, append_assoc, length-append, length-drop, arith}
 use Rattle.std.proofs.lemmas.Bool.{and_parts, le-leb, le-ltb, leb-true, lt-ltb, ltb-false, ltb-true}
 use Rattle.std.proofs.lemmas.List.{append-nil}
@@ -13,7 +14,8 @@ use Rattle.capture_reader.specs.Blocks.{Section, block_rows, is_other, kind_of, 
 use Rattle.capture_reader.specs.Classic.{heading_rows}
 use Rattle.capture_reader.specs.Classic.{record_rows, style_in}
 use Rattle.capture_reader.specs.Captures.{Item, Stage, at_start, in_records, in_section, inside, AreItems}
-use Rattle.capture_reader.specs.Captures.{Fits, IsCapture, RefusesCapture, begins_long, begins_section, inside_rows, long_rows, most_stretch, section_rows}
+use Rattle.capture_reader.specs.Captures.{Fits, IsCapture, RefusesCapture, begins_long, begins_section, inside_rows}
+use Rattle.capture_reader.specs.Captures.{long_rows, most_stretch, section_rows}
 use Rattle.capture_reader.specs.Captures.{item_bytes, item_rows, items_bytes, may_end}
 use Rattle.capture_reader.specs.Captures.{stage_after, stage_behind}
 use Rattle.capture_reader.specs.BlockContents.{section_of}
@@ -37,7 +39,7 @@ use Rattle.capture_reader.specs.declared.refusal.Refusal.{Refusal}
 use Rattle.capture_reader.specs.declared.refusal.Refusal.TheVariants as refusal
 use Rattle.capture_reader.proofs.BlockRefusalLemmas.{IsFinal, block_few, block_long, block_more, cut_behind, not_few}
 use Rattle.capture_reader.proofs.BodyLemmas.{row_pass}
-use Rattle.capture_reader.proofs.CaptureLemmas.{item_some, long_facts, none_of_some, start_rows}
+use Rattle.capture_reader.proofs.CaptureLemmas.{ended_empty, item_some, long_facts, none_of_some, start_rows}
 use Rattle.capture_reader.proofs.NumberLemmas.{word32_at-more}
 use Rattle.capture_reader.proofs.ClassicRefusalLemmas.{final_5, heading_few, heading_more, last_rows, record_few}
 use Rattle.capture_reader.proofs.ClassicRefusalLemmas.{record_more}
@@ -76,7 +78,8 @@ reads_more reader next item taken items step reads =
     items_bytes-append items at_start item ∙ ap (λ s. before ++ item_bytes s item) (sym stands) in
     record {
       fits = AreItems-append items at_start item reads.fits (subst (λ s. Fits s item) stands step.fits);
-      parts = reads.parts ∙ ap (λ (s : List ℕ). before ++ s) step.parts ∙ sym (append_assoc before one (reader_rest next))
+      parts = reads.parts ∙ ap (λ (s : List ℕ). before ++ s) step.parts
+          ∙ sym (append_assoc before one (reader_rest next))
           ∙ ap (λ (s : List ℕ). s ++ reader_rest next) (sym bytes);
       stage = step.stage ∙ ap (λ s. stage_after s item) stands ∙ sym (stage_behind-append items at_start item);
       offset = step.offset ∙ ap (λ (n : ℕ). n + length one) reads.offset ∙ sym (length-append before one)
@@ -128,14 +131,6 @@ refuses reader more taken items error stops reads =
       offset = stops.offset ∙ reads.offset;
       refused = ap (λ s. first_row (item_rows s rest)) (sym reads.stage) ∙ stops.refused;
     }
-
-ended_empty : (stage : Stage) (bytes : List ℕ) → may_end stage bytes ≡ true → bytes ≡ []
-ended_empty at_start bytes ended = absurd (cc)
-ended_empty (in_records first) [] ended = refl
-ended_empty (in_records first) (byte ∷ bytes) ended = absurd (cc)
-ended_empty (in_section section) [] ended = refl
-ended_empty (in_section section) (byte ∷ bytes) ended = absurd (cc)
-ended_empty (inside section len left) bytes ended = absurd (cc)
 
 -- where a capture may end behind a reader, it is whole
 ends : (reader : CaptureReader) (taken : List ℕ) (items : List Item)
@@ -195,8 +190,11 @@ step_left reader next item step =
     let one = item_bytes (reader_stage reader) item in
     let len : length (reader_rest reader) ≡ length one + length (reader_rest next) =
     ap length step.parts ∙ length-append one (reader_rest next) in
-    let some = item_some (reader_stage reader) item step.fits in
-    (omega (arith, len, step.offset, left_is reader, left_is next), omega (arith, len, some, left_is reader, left_is next))
+    let some = item_some (reader_stage reader) item step.fits in (
+      omega (arith, len, step.offset, left_is reader, left_is next),
+      omega
+          (arith, len, some, left_is reader, left_is next),
+    )
 
 pub keeps_total : (reader next : CaptureReader) (answer : Result Advance CaptureError) → Answers reader next answer
     → reader_offset next + reader_left next ≡ reader_offset reader + reader_left reader
@@ -297,7 +295,8 @@ section_long false section bytes e final long refused =
     let twelve = block_long section bytes e final refused in omega arith
 
 section_more : (long : Bool) (section : Section) (bytes more : List ℕ) (e : Refusal) → 8 ≤ length bytes → IsFinal e
-    → first_row (section_rows long section bytes) ≡ Some e → first_row (section_rows long section (bytes ++ more)) ≡ Some e
+    → first_row (section_rows long section bytes) ≡ Some e → first_row (section_rows long section (bytes ++ more))
+    ≡ Some e
 section_more true section bytes more e long final refused =
     ap (λ (n : ℕ). first_row ((not (n % 4 == 0), refusal.BlockLength n) ∷ []))
     (word32_at-more section.order bytes more 4 long)
@@ -367,7 +366,8 @@ item_few (inside section len left) bytes required there refused =
     inside_few (left == 0) section.order len left bytes required there refused
 
 -- where a capture may not end, it may not with more bytes
-ends_not_more : (stage : Stage) (bytes more : List ℕ) → may_end stage bytes ≡ false → may_end stage (bytes ++ more) ≡ false
+ends_not_more : (stage : Stage) (bytes more : List ℕ) → may_end stage bytes ≡ false → may_end stage (bytes ++ more)
+    ≡ false
 ends_not_more at_start bytes more goes_on = refl
 ends_not_more (in_records first) [] more goes_on = absurd (cc)
 ends_not_more (in_records first) (byte ∷ bytes) more goes_on = refl
@@ -465,7 +465,8 @@ block_refused : (state : State) (interfaces : List Interface) (order : ByteOrder
 block_refused Start interfaces order bytes e stands refused =
     let same : no_section ≡ section_of order interfaces = λ i. section_of (sym stands.0 i) (sym stands.1 i) in (
       refl,
-      ap (λ (b : Bool). first_row (start_rows b bytes)) stands.2 ∙ ap (λ s. first_row (block_rows s bytes)) same ∙ refused,
+      ap (λ (b : Bool). first_row (start_rows b bytes)) stands.2 ∙ ap (λ s. first_row (block_rows s bytes)) same
+          ∙ refused,
     )
 block_refused (Records first) interfaces order bytes e stands refused = absurd stands
 block_refused (Inside before len left) interfaces order bytes e stands refused = absurd stands

@@ -8,12 +8,13 @@ use Rattle.capture_reader.specs.Blocks.{IsBlock, PlainBlock, block_in}
 use Rattle.capture_reader.specs.Blocks.{no_section, section_after}
 use Rattle.capture_reader.specs.Classic.{IsHeading, IsRecord, PlainPacket, heading_bytes}
 use Rattle.capture_reader.specs.Classic.{record_bytes, kept_packet}
-use Rattle.capture_reader.specs.Captures.{Item, heading, packet, block, part, Part, Stage, at_start, in_records, in_section}
+use Rattle.capture_reader.specs.Captures.{Item, heading, packet, block, part, Part, Stage, at_start, in_records}
+use Rattle.capture_reader.specs.Captures.{in_section}
 use Rattle.capture_reader.specs.Captures.{BeginsSection, Fits, PlainShown, begins_long, begins_section}
 use Rattle.capture_reader.specs.Captures.{block_shown, item_bytes, may_end, record_shown, shown_in}
 use Rattle.capture_reader.specs.Captures.{stage_after}
 use Rattle.capture_reader.specs.BlockContents.{FitsLen, content_interfaces, content_shown, known_shown, section_of}
-use Rattle.capture_reader.specs.Readers.{Answers, BlocksStand, IsOther, ReadsBlocks}
+use Rattle.capture_reader.specs.Readers.{Answers, BlocksStand, IsOther, ReadsBlock, ReadsBlocks}
 use Rattle.capture_reader.specs.Readers.{ShowsItem, StepsOver, reader_bytes}
 use Rattle.capture_reader.specs.Readers.{reader_packet, reader_rest, reader_shown, reader_stage}
 use Rattle.capture_reader.specs.Readers.{stage_of}
@@ -224,7 +225,8 @@ pub block_shows : (reader : CaptureReader) (order : ByteOrder) (len : ℕ) (show
     → block_shown reader.interfaces.items (block_in section (reader_rest reader)) ≡ shown
     → shown_in (reader_stage reader) (block (block_in section (reader_rest reader))) ≡ shown
 block_shows reader order len shown stands is shows =
-    (block_steps reader.state reader.interfaces.items order (reader_rest reader) (drop len (reader_rest reader)) stands is).shows
+    (block_steps reader.state reader.interfaces.items order (reader_rest reader) (drop len (reader_rest reader)) stands
+    is).shows
     ∙ shows
 
 -- the bytes of a packet within a block
@@ -270,20 +272,6 @@ ends_blocks reader order blocks none =
 
 -- ---- blocks that were read
 
--- a block was read behind a reader, in a section of this byte order
-pub record ReadsBlock (reader : CaptureReader) (order : ByteOrder) (one : Block) : Type 0 where
-  pub stands : ReadsBlocks reader order
-  pub is : IsBlock (section_of order reader.interfaces.items) (reader_rest reader)
-      (block_in (section_of order reader.interfaces.items) (reader_rest reader), drop one.len (reader_rest reader))
-  pub within : one.len ≤ length (reader_rest reader)
-  pub fits : FitsLen one.content one.len
-  pub after : section_after (section_of order reader.interfaces.items)
-      (block_in (section_of order reader.interfaces.items) (reader_rest reader))
-      ≡ section_of one.order (content_interfaces reader.interfaces.items one.content)
-  pub shown : block_shown reader.interfaces.items
-      (block_in (section_of order reader.interfaces.items) (reader_rest reader))
-      ≡ content_shown (slice_range (reader_rest reader) 8 (one.len - 4)) one.content
-
 -- the reader stands behind it
 pub record StandsBehind (reader next : CaptureReader) (one : Block) : Type 0 where
   pub state : next.state ≡ Blocks one.order
@@ -291,6 +279,13 @@ pub record StandsBehind (reader next : CaptureReader) (one : Block) : Type 0 whe
   pub end : next.end ≡ reader.end + one.len
   pub offset : next.offset ≡ reader.offset + one.len
   pub interfaces : next.interfaces.items ≡ content_interfaces reader.interfaces.items one.content
+
+pub stands_behind : (reader next : CaptureReader) (one : Block) → next.state ≡ Blocks one.order
+    → next.buffer.items ≡ reader.buffer.items → next.end ≡ reader.end + one.len
+    → next.offset ≡ reader.offset + one.len
+    → next.interfaces.items ≡ content_interfaces reader.interfaces.items one.content → StandsBehind reader next one
+stands_behind reader next one state buffer end offset interfaces =
+    record { state = state; buffer = buffer; end = end; offset = offset; interfaces = interfaces }
 
 stepped : (reader next : CaptureReader) (order : ByteOrder) (one : Block) → ReadsBlock reader order one
     → StandsBehind reader next one
@@ -334,7 +329,8 @@ packet_block reader next order one packet_in read behind content_is start last k
 -- ---- blocks that come in parts
 
 -- a part was read, which stood in front
-pub part_steps : (reader next : CaptureReader) (stage after : Stage) (one : Part) (len : ℕ) → reader_stage reader ≡ stage
+pub part_steps : (reader next : CaptureReader) (stage after : Stage) (one : Part) (len : ℕ) → reader_stage reader
+    ≡ stage
     → Fits stage (part one) → shown_in stage (part one) ≡ None
     → reader_rest reader ≡ item_bytes stage (part one) ++ drop len (reader_rest reader)
     → len ≤ length (reader_rest reader) → next.buffer.items ≡ reader.buffer.items → next.end ≡ reader.end + len

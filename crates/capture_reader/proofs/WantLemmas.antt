@@ -1,12 +1,14 @@
 -- A refusal for want of bytes says how many there are, and that more are needed.
-use Rattle.std.proofs.Common.{◌≡◌, ℕ, ◌+◌, ◌-◌, ◌<◌, ◌==◌, min, Bool, true, false, List, [], ◌∷◌, Some, length, slice_range}
+use Rattle.std.proofs.Common.{◌≡◌, ℕ, ◌+◌, ◌-◌, ◌<◌, ◌==◌, min, Bool, true, false, List, [], ◌∷◌, Some, length}
+use Rattle.std.proofs.Common.{slice_range}
 use Rattle.std.proofs.Common.{refl, subst}
 use Rattle.std.proofs.lemmas.Bool.{ltb-true}
 use Rattle.std.proofs.lemmas.Option.{none-some}
 use Rattle.ep_base.specs.Tables.{first_row}
 use Rattle.capture_reader.specs.Numbers.{word32_at}
 use Rattle.capture_reader.specs.Blocks.{Section, block_rows, body_rows, kind_in, no_section, order_in}
-use Rattle.capture_reader.specs.Captures.{Stage, at_start, in_records, in_section, inside, begins_long, begins_section, inside_rows}
+use Rattle.capture_reader.specs.Captures.{Stage, at_start, in_records, in_section, inside, begins_long, begins_section}
+use Rattle.capture_reader.specs.Captures.{inside_rows}
 use Rattle.capture_reader.specs.Captures.{item_rows, most_stretch, section_rows}
 use Rattle.capture_reader.specs.Readers.{WantsBytes}
 use Rattle.capture_reader.specs.declared.block.BlockKind.{BlockKind}

@@ -23,7 +23,8 @@ use Rattle.capture_reader.specs.declared.shown.Time.{Time}
 
 -- ---- items
 
--- A part of a block that is longer than one that is kept whole, and of a kind that is not read: its number and length in
+-- A part of a block that is longer than one that is kept whole, and of a kind that is not read: its number and length
+-- in
 -- front, bytes that it holds, or its length behind these.
 pub data Part : Type 0 where
   front : (number len : ℕ) → Part
@@ -37,7 +38,8 @@ pub data Item : Type 0 where
   block : PlainBlock → Item
   part : Part → Item
 
--- what was read so far: nothing; a heading, behind which stand records; blocks, the last of a section; or the front of a
+-- what was read so far: nothing; a heading, behind which stand records; blocks, the last of a section; or the front of
+-- a
 -- block of so many bytes, of which so many are left in front of its length
 pub data Stage : Type 0 where
   at_start : Stage

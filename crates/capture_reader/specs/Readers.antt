@@ -1,13 +1,15 @@
 -- What a contract sees of a reader.
-use Rattle.std.specs.Prelude.{◌≡◌, ℕ, ◌+◌, ◌-◌, ◌<◌, true, false, List, [], ◌∷◌, ◌++◌, length, drop, slice_range}
+use Rattle.std.specs.Prelude.{◌≡◌, ℕ, ◌+◌, ◌-◌, ◌<◌, ◌≤◌, true, false, List, [], ◌∷◌, ◌++◌, length, drop, slice_range}
 use Rattle.std.specs.Prelude.{Option, Some, None, Result, Ok, Err, vec_capacity, vec_len}
 use Rattle.ep_base.specs.Tables.{Refuses}
-use Rattle.capture_reader.specs.Blocks.{most_block}
+use Rattle.capture_reader.specs.Blocks.{IsBlock, block_in, most_block, section_after}
 use Rattle.capture_reader.specs.Captures.{Item, packet, Stage, at_start, in_records, in_section, inside}
-use Rattle.capture_reader.specs.Captures.{AreItems, Fits, IsCapture, PlainShown, RefusesCapture, begins_long, begins_section}
+use Rattle.capture_reader.specs.Captures.{AreItems, Fits, IsCapture, PlainShown, RefusesCapture, begins_long}
+use Rattle.capture_reader.specs.Captures.{begins_section}
 use Rattle.capture_reader.specs.Captures.{item_bytes, item_rows, items_bytes, may_end, shown_in, stage_after}
-use Rattle.capture_reader.specs.Captures.{stage_behind}
-use Rattle.capture_reader.specs.BlockContents.{known_shown, section_of}
+use Rattle.capture_reader.specs.Captures.{block_shown, stage_behind}
+use Rattle.capture_reader.specs.BlockContents.{FitsLen, content_interfaces, content_shown, known_shown, section_of}
+use Rattle.capture_reader.specs.declared.block.Block.{Block}
 use Rattle.capture_reader.specs.Classic.{PlainPacket, kept_packet, most_kept}
 use Rattle.capture_reader.specs.declared.byte_order.ByteOrder.{ByteOrder}
 use Rattle.capture_reader.specs.declared.byte_order.ByteOrder.TheVariants.{Big}
@@ -161,6 +163,20 @@ BlocksStand (Inside other len left) interfaces order bytes = ⊥
 -- what stands next is a block in a section of this byte order
 abbrev pub ReadsBlocks : CaptureReader → ByteOrder → Type 0
 ReadsBlocks reader order = BlocksStand reader.state reader.interfaces.items order (reader_rest reader)
+
+-- a block stands there, and was read so
+pub record ReadsBlock (reader : CaptureReader) (order : ByteOrder) (one : Block) : Type 0 where
+  pub stands : ReadsBlocks reader order
+  pub is : IsBlock (section_of order reader.interfaces.items) (reader_rest reader)
+      (block_in (section_of order reader.interfaces.items) (reader_rest reader), drop one.len (reader_rest reader))
+  pub within : one.len ≤ length (reader_rest reader)
+  pub fits : FitsLen one.content one.len
+  pub after : section_after (section_of order reader.interfaces.items)
+      (block_in (section_of order reader.interfaces.items) (reader_rest reader))
+      ≡ section_of one.order (content_interfaces reader.interfaces.items one.content)
+  pub shown : block_shown reader.interfaces.items
+      (block_in (section_of order reader.interfaces.items) (reader_rest reader))
+      ≡ content_shown (slice_range (reader_rest reader) 8 (one.len - 4)) one.content
 
 -- between two states of a reader, this item was read
 pub record StepsOver (reader next : CaptureReader) (item : Item) : Type 0 where

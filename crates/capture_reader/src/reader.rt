@@ -1,6 +1,6 @@
 //! A capture that comes in pieces.
 
-ghost use Rattle.std.specs.Prelude.{◌≡◌, ◌≤◌, ◌<◌, ◌+◌, ◌-◌, ◌^◌, ◌++◌, [], ℕ, List, OnErr, OnOk};
+ghost use Rattle.std.specs.Prelude.{◌≡◌, ◌≤◌, ◌<◌, ◌+◌, ◌-◌, ◌^◌, ◌++◌, [], ℕ, List, IfErr, IfOk, OnErr, OnOk};
 ghost use Rattle.std.specs.Prelude.{◌*◌, ◌/◌, ◌⊎◌, false, true, length, vec_capacity, vec_len};
 ghost use Rattle.capture_reader.specs.Captures.{begins_long, begins_section};
 ghost use Rattle.capture_reader.specs.States.{in_front};
@@ -81,9 +81,10 @@ pub struct CaptureReader {
 
 impl CaptureReader {
     ghost use Rattle.capture_reader.specs.Captures.{Item};
-    ghost use Rattle.capture_reader.specs.BlockContents.{known_shown};
+    ghost use Rattle.capture_reader.specs.Blocks.{RefusesBlock};
+    ghost use Rattle.capture_reader.specs.BlockContents.{known_shown, section_of};
     ghost use Rattle.capture_reader.specs.Classic.{kept_packet, packet_of};
-    ghost use Rattle.capture_reader.specs.Readers.{AdvancesTo, Answers, Passes, Reads, ReadsBlocks, Waits};
+    ghost use Rattle.capture_reader.specs.Readers.{AdvancesTo, Answers, Passes, Reads, ReadsBlock, ReadsBlocks, Waits};
     ghost use Rattle.capture_reader.specs.Readers.{bytes_room, interfaces_held, interfaces_room};
     ghost use Rattle.capture_reader.specs.Readers.{heading_in, most_held, reader_held, reader_left, reader_offset, reader_packet};
     ghost use Rattle.capture_reader.specs.Readers.{reader_rest, reader_shown, reader_stage, refused_at, shown_of};
@@ -248,12 +249,25 @@ impl CaptureReader {
         self.advance_block(ByteOrder::Big)
     }
 
+    /// The block that stands next, in a section of a byte order.
+    #[inline(always)]
+    fn next_block(&self, order: ByteOrder) -> Result<Block, Refusal>
+        requires { ReadsBlocks self.now order }
+        ensures ok { IfOk result (ReadsBlock self.now order) }
+        ensures err { IfErr result (RefusesBlock (section_of order self.now.interfaces.items) (reader_rest self.now)) }
+    {
+        match Block::from_slice(order, self.interfaces.as_slice(), self.rest()) {
+            Ok(block) => Ok(block),
+            Err(refusal) => Err(refusal),
+        }
+    }
+
     /// Reads a block, in a section of a byte order.
     fn advance_block(&mut self, order: ByteOrder) -> Result<Advance, CaptureError>
         requires { ReadsBlocks self.old order }
         ensures { Answers self.old self.new result }
     {
-        match Block::from_slice(order, self.interfaces.as_slice(), self.rest()) {
+        match self.next_block(order) {
             Ok(block) => {
                 let start = self.end + Block::FRONT_LEN;
                 self.end += block.len;

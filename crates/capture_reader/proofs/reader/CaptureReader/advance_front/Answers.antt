@@ -26,7 +26,8 @@ returns-in-Ok c =
 pub returns-in-Err : goal.returns-in-Err
 returns-in-Err c =
     let self = c.args.self.now in
-    let refused : Refuses (long_rows c.args.order (reader_rest self)) c.in-Err.refusal = rw c.rest.ensures at c.in-Err.ensures.err in
+    let refused : Refuses (long_rows c.args.order (reader_rest self)) c.in-Err.refusal = rw c.rest.ensures at
+    c.in-Err.ensures.err in
     let section = section_of c.args.order self.interfaces.items in
     let rows = front_refused section (reader_rest self) c.in-Err.refusal c.requires.long refused in
     subst (Answers self self) (sym c.refuse.ensures)

@@ -11,7 +11,8 @@ returns-in-Ok c =
     let self = c.args.self.now in
     let is = rw c.rest.ensures at c.in-Ok.ensures.ok in
     let long = rw c.rest.ensures at c.in-Ok.ensures.within in
-    steps_packet self _ c.args.heading c.in-Ok.record.kept c.requires refl refl refl refl refl refl long c.known-self.ensures is
+    steps_packet self _ c.args.heading c.in-Ok.record.kept c.requires refl refl refl refl refl refl long
+    c.known-self.ensures is
 
 pub returns-in-Err : goal.returns-in-Err
 returns-in-Err c =
