@@ -8,7 +8,8 @@ use Rattle.ep_base.specs.IpNumbers.{hop_by_hop_number, routing_number}
 use Rattle.ep_base.specs.Tables.{first_row}
 use Rattle.ep_base.specs.declared.ip_number.IpNumber.{IpNumber}
 use Rattle.ep_ext.specs.Chains.{FitParts}
-use Rattle.ep_ext.specs.ExtensionParts.{ExtensionPart, FitsPart, authentication, destination_options, fragment, hop_by_hop}
+use Rattle.ep_ext.specs.ExtensionParts.{ExtensionPart, FitsPart, authentication, destination_options, fragment}
+use Rattle.ep_ext.specs.ExtensionParts.{hop_by_hop}
 use Rattle.ep_ext.specs.ExtensionParts.{parts_there, routing}
 use Rattle.ep_ext.specs.FragmentHeader.{FitsFragmentHeader}
 use Rattle.ep_ext.specs.IpAuth.{FitsIpAuth}
@@ -29,6 +30,7 @@ use Rattle.ep_build.specs.BuildErrors.{IsBuildable}
 use Rattle.ep_build.specs.BuiltFrames.{held_ip}
 use Rattle.ep_build.specs.declared.link_part.LinkPart.{LinkPart}
 use Rattle.ep_build.proofs.LengthLemmas.{linked_len}
+use Rattle.ep_build.proofs.HeaderListLemmas.{header_lists}
 
 -- ---- numbers
 
@@ -141,36 +143,28 @@ fit_both parts new more others first second fit =
 parts_fit_6 : (extensions : Ipv6Extensions) (last : IpNumber) → last.0 < 2 ^ 8 → FitParts (ipv6_parts extensions)
     → FitParts (ipv6_parts (ipv6_linked extensions last))
 parts_fit_6 extensions last small =
-    let new = ipv6_linked extensions last in
-    let a = parts_there hop_by_hop extensions.hop_by_hop_options in
-    let b = parts_there destination_options extensions.destination_options in
-    let c = parts_there routing (option_map routing_header extensions.routing) in
-    let d = parts_there fragment extensions.fragment in
-    let e = parts_there authentication extensions.auth in
-    let f = parts_there destination_options (final_by extensions.routing) in
-    let a' = parts_there hop_by_hop new.hop_by_hop_options in
-    let b' = parts_there destination_options new.destination_options in
-    let c' = parts_there routing (option_map routing_header new.routing) in
-    let d' = parts_there fragment new.fragment in
-    let e' = parts_there authentication new.auth in
-    let f' = parts_there destination_options (final_by new.routing) in
+    let old = header_lists extensions in
+    let new = header_lists (ipv6_linked extensions last) in
     let numbers = numbers_fit extensions last small in
-    let ab = fit_both a a' b b'
+    let ab = fit_both old.hop new.hop old.destination new.destination
     (there_fits hop_by_hop (raw_leading_to (after_hop_by_hop extensions last))
     (λ header fits. raw_fits (after_hop_by_hop extensions last) header numbers.hop_by_hop fits)
     extensions.hop_by_hop_options)
     (there_fits destination_options (raw_leading_to (after_destination extensions last))
     (λ header fits. raw_fits (after_destination extensions last) header numbers.destination fits)
     extensions.destination_options) in
-    let abc = fit_both (a ++ b) (a' ++ b') c c' ab
+    let abc = fit_both (old.hop ++ old.destination) (new.hop ++ new.destination) old.behind new.behind ab
     (routing_fits (after_routing extensions last) last extensions.routing numbers.routing) in
-    let abcd = fit_both (a ++ b ++ c) (a' ++ b' ++ c') d d' abc
+    let abcd = fit_both (old.hop ++ old.destination ++ old.behind) (new.hop ++ new.destination ++ new.behind)
+    old.fragments new.fragments abc
     (there_fits fragment (fragment_leading_to (after_fragment extensions last))
     (λ header fits. fragment_fits (after_fragment extensions last) header numbers.fragment fits) extensions.fragment) in
-    let abcde = fit_both (a ++ b ++ c ++ d) (a' ++ b' ++ c' ++ d') e e' abcd
+    let abcde = fit_both (old.hop ++ old.destination ++ old.behind ++ old.fragments)
+    (new.hop ++ new.destination ++ new.behind ++ new.fragments) old.auth new.auth abcd
     (there_fits authentication (ip_auth_leading_to (after_auth extensions last))
     (λ header fits. auth_fits (after_auth extensions last) header numbers.auth fits) extensions.auth) in
-    fit_both (a ++ b ++ c ++ d ++ e) (a' ++ b' ++ c' ++ d' ++ e') f f' abcde
+    fit_both (old.hop ++ old.destination ++ old.behind ++ old.fragments ++ old.auth)
+    (new.hop ++ new.destination ++ new.behind ++ new.fragments ++ new.auth) old.final new.final abcde
     (final_fits (after_routing extensions last) last extensions.routing small)
 
 -- ---- the length

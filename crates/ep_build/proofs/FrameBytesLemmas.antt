@@ -1,6 +1,5 @@
 -- A frame of headers that fit is bytes.
-use Rattle.std.proofs.Common.{ℕ, zero, suc, ◌<◌, List, [], ◌∷◌, ◌++◌, length, arith}
-use Rattle.std.specs.Int.{w16, w32, to_be_bytes}
+use Rattle.std.proofs.Common.{ℕ, List, [], ◌∷◌, ◌++◌, length, arith}
 use Rattle.ep_base.specs.Bytes.{AreBytes}
 use Rattle.ep_base.specs.EtherTypes.{provider_bridging_type, vlan_type}
 use Rattle.ep_base.specs.declared.ether_type.EtherType.{EtherType}
@@ -24,40 +23,7 @@ use Rattle.ep_build.specs.BuiltFrames.{as_ether_type, built_frame, held_ip, link
 use Rattle.ep_build.specs.Fits.{FitsLink}
 use Rattle.ep_build.specs.declared.link_part.LinkPart.{LinkPart}
 use Rattle.ep_build.specs.declared.link_part.LinkPart.TheVariants as link
-
--- ---- lists of bytes
-
--- each number is a byte, as a fact whose list is known from it
-record AllBytes (bytes : List ℕ) : Type 0 where
-  pub fits : AreBytes bytes
-
-all : (bytes : List ℕ) → AreBytes bytes → AllBytes bytes
-all bytes fits = record { fits = fits }
-
-none : AllBytes []
-none = record { fits = λ i. omega arith }
-
-more_bytes : (byte : ℕ) (bytes : List ℕ) → byte < 256 → AreBytes bytes → AreBytes (byte ∷ bytes)
-more_bytes byte bytes small fits zero = small
-more_bytes byte bytes small fits (suc i) = fits i
-
-more : (byte : ℕ) (bytes : List ℕ) → byte < 256 → AllBytes bytes → AllBytes (byte ∷ bytes)
-more byte bytes small all = record { fits = more_bytes byte bytes small all.fits }
-
-both_bytes : (bytes behind : List ℕ) → AreBytes bytes → AreBytes behind → AreBytes (bytes ++ behind)
-both_bytes [] behind fits other = other
-both_bytes (byte ∷ bytes) behind fits other =
-    more_bytes byte (bytes ++ behind) (fits 0) (both_bytes bytes behind (λ i. fits (suc i)) other)
-
-both : (bytes behind : List ℕ) → AreBytes bytes → AllBytes behind → AllBytes (bytes ++ behind)
-both bytes behind fits other = record { fits = both_bytes bytes behind fits other.fits }
-
-word : (n : ℕ) (behind : List ℕ) → AllBytes behind → AllBytes (to_be_bytes w16 n ++ behind)
-word n behind all = more _ _ (omega arith) (more _ _ (omega arith) all)
-
-long : (n : ℕ) (behind : List ℕ) → AllBytes behind → AllBytes (to_be_bytes w32 n ++ behind)
-long n behind all =
-    more _ _ (omega arith) (more _ _ (omega arith) (more _ _ (omega arith) (more _ _ (omega arith) all)))
+use Rattle.ep_build.proofs.ByteListLemmas.{AllBytes, all, none, more, both, both_bytes, word, long}
 
 -- ---- extension headers
 

@@ -2,8 +2,10 @@ pub mod LengthLemmas
 pub mod SizeLemmas
 pub mod WritingLemmas
 pub mod LinkReadBackLemmas
+pub mod HeaderListLemmas
 pub mod NetReadBackLemmas
 pub mod TransportReadBackLemmas
 pub mod ReadBackLemmas
 pub mod FitLemmas
+pub mod ByteListLemmas
 pub mod FrameBytesLemmas

@@ -36,6 +36,7 @@ use Rattle.ep_packet.specs.declared.ip_headers.IpHeaders.TheVariants as version
 use Rattle.ep_packet.proofs.IpHeadersLemmas.{read}
 use Rattle.ep_build.specs.BuiltFragments.{headers_carry}
 use Rattle.ep_build.specs.BuiltFrames.{ip_frame}
+use Rattle.ep_build.proofs.HeaderListLemmas.{header_lists}
 
 -- the kind of a net layer of these headers, by their ether type
 abbrev pub kind_of : IpHeaders → NetKind
@@ -61,7 +62,8 @@ chain_4 reading taken number bytes (part ∷ parts) last rest is = (
   (is.1.0, is.1.1, chain_4 reading (number ∷ taken) (part_next part) is.1.0 parts last rest is.1.2),
 )
 
--- what a number demands, by what is known of it: hop by hop options, whether they are first, an extension header, one of
+-- what a number demands, by what is known of it: hop by hop options, whether they are first, an extension header, one
+-- of
 -- a kind that was taken
 abbrev demand_by : Bool → Bool → Bool → Bool → Demand
 demand_by hop first extension second =
@@ -345,29 +347,21 @@ auth_same next (Some header) = refl
 ipv6_same : (extensions : Ipv6Extensions) (last : IpNumber)
     → chain_fragments (ipv6_parts (ipv6_linked extensions last)) ≡ chain_fragments (ipv6_parts extensions)
 ipv6_same extensions last =
-    let new = ipv6_linked extensions last in
-    let a = parts_there hop_by_hop new.hop_by_hop_options in
-    let b = parts_there destination_options new.destination_options in
-    let c = parts_there routing (option_map routing_header new.routing) in
-    let d = parts_there fragment new.fragment in
-    let e = parts_there authentication new.auth in
-    let f = parts_there destination_options (final_by new.routing) in
-    let a' = parts_there hop_by_hop extensions.hop_by_hop_options in
-    let b' = parts_there destination_options extensions.destination_options in
-    let c' = parts_there routing (option_map routing_header extensions.routing) in
-    let d' = parts_there fragment extensions.fragment in
-    let e' = parts_there authentication extensions.auth in
-    let f' = parts_there destination_options (final_by extensions.routing) in
-    let ab = fragments_both a a' b b'
+    let new = header_lists (ipv6_linked extensions last) in
+    let old = header_lists extensions in
+    let ab = fragments_both new.hop old.hop new.destination old.destination
     (hop_by_hop_same (after_hop_by_hop extensions last) extensions.hop_by_hop_options)
     (destination_same (after_destination extensions last) extensions.destination_options) in
-    let abc = fragments_both (a ++ b) (a' ++ b') c c' ab
+    let abc = fragments_both (new.hop ++ new.destination) (old.hop ++ old.destination) new.behind old.behind ab
     (routing_same (after_routing extensions last) last extensions.routing) in
-    let abcd = fragments_both (a ++ b ++ c) (a' ++ b' ++ c') d d' abc
+    let abcd = fragments_both (new.hop ++ new.destination ++ new.behind) (old.hop ++ old.destination ++ old.behind)
+    new.fragments old.fragments abc
     (fragment_same (after_fragment extensions last) extensions.fragment) in
-    let abcde = fragments_both (a ++ b ++ c ++ d) (a' ++ b' ++ c' ++ d') e e' abcd
+    let abcde = fragments_both (new.hop ++ new.destination ++ new.behind ++ new.fragments)
+    (old.hop ++ old.destination ++ old.behind ++ old.fragments) new.auth old.auth abcd
     (auth_same (after_auth extensions last) extensions.auth) in
-    fragments_both (a ++ b ++ c ++ d ++ e) (a' ++ b' ++ c' ++ d' ++ e') f f' abcde
+    fragments_both (new.hop ++ new.destination ++ new.behind ++ new.fragments ++ new.auth)
+    (old.hop ++ old.destination ++ old.behind ++ old.fragments ++ old.auth) new.final old.final abcde
     (final_same (after_routing extensions last) last extensions.routing)
 
 -- headers that say a fragment fragment
@@ -401,15 +395,11 @@ pub said_fragments : (vlan_ids : List ℕ) (headers : IpHeaders) (payload : IpPa
 said_fragments vlan_ids (version.Ipv4 header extensions) payload found is =
     said_4 (is_ipv4_fragment header) found _ is
 said_fragments vlan_ids (version.Ipv6 header extensions) payload found is =
-    let a = parts_there hop_by_hop extensions.hop_by_hop_options in
-    let b = parts_there destination_options extensions.destination_options in
-    let c = parts_there routing (option_map routing_header extensions.routing) in
-    let d = parts_there fragment extensions.fragment in
-    let e = parts_there authentication extensions.auth in
-    let f = parts_there destination_options (final_by extensions.routing) in
+    let lists = header_lists extensions in
     let here = said_6 vlan_ids header payload extensions.fragment found is in
-    front_fragments (a ++ b ++ c ++ d ++ e) f
-    (front_fragments (a ++ b ++ c ++ d) e (back_fragments (a ++ b ++ c) d here))
+    front_fragments (lists.hop ++ lists.destination ++ lists.behind ++ lists.fragments ++ lists.auth) lists.final
+    (front_fragments (lists.hop ++ lists.destination ++ lists.behind ++ lists.fragments) lists.auth
+    (back_fragments (lists.hop ++ lists.destination ++ lists.behind) lists.fragments here))
 
 pub fragments_linked : (headers : IpHeaders) (last : IpNumber) (len : ℕ)
     → headers_fragment (headers_for headers last len) ≡ headers_fragment headers

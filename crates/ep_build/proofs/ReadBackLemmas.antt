@@ -28,7 +28,7 @@ use Rattle.ep_build.specs.ReadBack.{IsArpReadBack, IsEntryOf, IsReadBack, messag
 use Rattle.ep_build.specs.declared.link_part.LinkPart.{LinkPart}
 use Rattle.ep_build.specs.declared.link_part.LinkPart.TheVariants as link
 use Rattle.ep_build.proofs.LinkReadBackLemmas.{IsNet, frame_is}
-use Rattle.ep_build.proofs.NetReadBackLemmas.{NetOf, fragments_linked, net_of, said_fragments}
+use Rattle.ep_build.proofs.NetReadBackLemmas.{NetOf, fragments_linked, kind_of, net_of, said_fragments}
 use Rattle.ep_build.proofs.TransportReadBackLemmas.{transport_of}
 
 -- ---- IP
@@ -44,6 +44,18 @@ ends_there (version.Ipv6 header extensions) (transport.Tcp segment) = refl
 ends_there (version.Ipv6 header extensions) (transport.Icmpv4 message) = refl
 ends_there (version.Ipv6 header extensions) (transport.Icmpv6 message) = refl
 
+-- a layer of the headers' kind is the net part with what lies behind it
+net_part : (reading : Reading) (headers : IpHeaders) (bytes : List ℕ) (payload : IpPayload)
+    (transport : Option TransportLayer) → (net : NetOf reading headers bytes payload)
+    → IsTransportBehind reading (Some payload) transport
+    → IsNetPart reading (Some (kind_of headers)) bytes (Some net.layer) transport
+net_part reading headers bytes payload transport net behind = (
+  net.layer,
+  net.typed,
+  refl,
+  subst (λ (p : Option IpPayload). IsTransportBehind reading p transport) (sym net.has_payload) behind,
+)
+
 -- the ether type of IP headers is that of a net layer of their kind
 ip_is_net : (reading : Reading) (headers : IpHeaders) (bytes : List ℕ) (payload : IpPayload)
     (transport : Option TransportLayer) → (net : NetOf reading headers bytes payload)
@@ -53,23 +65,13 @@ ip_is_net reading (version.Ipv4 header extensions) bytes payload transport net b
   small = omega arith;
   ether_type = omega arith;
   begins_none = λ begins. absurd (omega arith);
-  part = (
-    net.layer,
-    net.typed,
-    refl,
-    subst (λ (p : Option IpPayload). IsTransportBehind reading p transport) (sym net.has_payload) behind,
-  );
+  part = net_part reading (version.Ipv4 header extensions) bytes payload transport net behind;
 }
 ip_is_net reading (version.Ipv6 header extensions) bytes payload transport net behind = record {
   small = omega arith;
   ether_type = omega arith;
   begins_none = λ begins. absurd (omega arith);
-  part = (
-    net.layer,
-    net.typed,
-    refl,
-    subst (λ (p : Option IpPayload). IsTransportBehind reading p transport) (sym net.has_payload) behind,
-  );
+  part = net_part reading (version.Ipv6 header extensions) bytes payload transport net behind;
 }
 
 -- the frame of a transport header is read back

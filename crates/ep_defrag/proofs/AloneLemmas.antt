@@ -1,5 +1,6 @@
 -- Each stream is answered as if it were alone, and payloads that are given in cuts come out.
-use Rattle.std.proofs.Common.{◌≡◌, ℕ, zero, suc, ◌≤◌, Bool, true, false, List, [], ◌∷◌, ◌++◌, append_assoc, length, map, take, Option, Some, None, option_map, slice_get, sym, refl, ap, ◌∙◌, arith, inl, inr}
+use Rattle.std.proofs.Common.{◌≡◌, ℕ, zero, suc, ◌≤◌, Bool, true, false, List, [], ◌∷◌, ◌++◌, append_assoc, length, map}
+use Rattle.std.proofs.Common.{take, Option, Some, None, option_map, slice_get, sym, refl, ap, ◌∙◌, arith, inl, inr}
 use Rattle.std.specs.List.{filter, AllByRecursion, All, Any}
 use Rattle.std.specs.Cmp.{IsEquivalence}
 use Rattle.std.proofs.lemmas.Bool.{cases_Bool, false≢true}
@@ -12,7 +13,10 @@ use Rattle.ep_defrag.specs.IpFragments.{IpFragment, is_complete}
 use Rattle.ep_defrag.specs.FragmentRefusals.{refusal_within}
 use Rattle.ep_defrag.specs.PayloadCuts.{IsCut}
 use Rattle.ep_defrag.specs.Streams.{name_of, same_stream}
-use Rattle.ep_defrag.specs.Calls.{Call, gives_frame, drops_streams, returns_buffer, Kept, accepted_in, kept_of, kept_by, kept_with, kept_after, kept_after_all, concerns, calls_of, table_after, Answer, answer_unless, answer_with, answer_to, answers_after, answers_to, accepted_at, IfHandedOut}
+use Rattle.ep_defrag.specs.Calls.{Call, gives_frame, drops_streams, returns_buffer, Kept, accepted_in, kept_of, kept_by}
+use Rattle.ep_defrag.specs.Calls.{kept_with, kept_after, kept_after_all, concerns, calls_of, table_after, Answer}
+use Rattle.ep_defrag.specs.Calls.{answer_unless, answer_with, answer_to, answers_after, answers_to, accepted_at}
+use Rattle.ep_defrag.specs.Calls.{IfHandedOut}
 use Rattle.ep_defrag.specs.Isolation.{answers_of, fragments_of, GivesCut, StaysOpen, HandsOut, HandsOutAtMost}
 use Rattle.ep_defrag.proofs.StreamLemmas.{same_stream_laws}
 use Rattle.ep_defrag.proofs.CutLemmas.{cut_fits_after, assembled-cuts}
@@ -177,8 +181,11 @@ module _ {T C V : Type 0} (limit : ℕ) (eq : C → C → Bool) (keep : V → T 
           only_alone calls (kept_with limit kept carried.fragment timestamp)
               (rw fits (kept_cuts (accepted_in kept ++ carried.fragment ∷ []) timestamp more)) gives.1 stays,
         )
-    only_alone (drops_streams value ∷ calls) kept cuts gives stays =
-        (tt, only_alone calls (kept_by (keep value) kept) (rw (drop_keeps (keep value) kept stays.0) cuts) gives.1 stays.1)
+    only_alone (drops_streams value ∷ calls) kept cuts gives stays = (
+      tt,
+      only_alone calls (kept_by (keep value) kept) (rw (drop_keeps (keep value) kept stays.0) cuts) gives.1
+          stays.1,
+    )
     only_alone (returns_buffer ∷ calls) kept cuts gives stays = (tt, only_alone calls kept cuts gives.1 stays)
 
     comes_alone : (calls : List (Call T C V)) (kept : Option (Kept T))

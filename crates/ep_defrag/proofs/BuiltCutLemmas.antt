@@ -1,5 +1,6 @@
 -- Frames that are built of cuts of a payload put the payload together.
-use Rattle.std.proofs.Common.{◌≡◌, ℕ, zero, suc, ◌^◌, ◌<◌, ◌≤◌, Bool, true, false, cond, List, [], ◌∷◌, ◌++◌, length, map, Option, Some, None, option_map, slice_get, refl, ap, ◌∙◌, inl, inr}
+use Rattle.std.proofs.Common.{◌≡◌, ℕ, zero, suc, ◌^◌, ◌<◌, ◌≤◌, Bool, true, false, cond, List, [], ◌∷◌, ◌++◌, length}
+use Rattle.std.proofs.Common.{map, Option, Some, None, option_map, slice_get, refl, ap, ◌∙◌, inl, inr}
 use Rattle.std.specs.List.{AllByRecursion}
 use Rattle.std.specs.Cmp.{IsEquivalence}
 use Rattle.std.proofs.lemmas.Bool.{cases_Bool, and_parts, eqb-true, false≢true}
@@ -26,8 +27,11 @@ use Rattle.ep_defrag.specs.IpFragments.{IpFragment, assembled, is_complete}
 use Rattle.ep_defrag.specs.FragmentRefusals.{refusal_within}
 use Rattle.ep_defrag.specs.PayloadCuts.{IsCut}
 use Rattle.ep_defrag.specs.Streams.{PacketFragment, name_of, packet_fragment, same_stream, same_version, source_of}
-use Rattle.ep_defrag.specs.Calls.{Call, gives_frame, drops_streams, returns_buffer, Kept, accepted_in, kept_of, kept_unless, table_after, Payload, payload_of, payload_handed_out, nothing_handed_out, Answer, answer_unless, answer_to, answers_after}
-use Rattle.ep_defrag.specs.BuiltCuts.{BuiltCut, IsBuiltCut, IsUnder, answers_to_frames, cut_answers, cut_call, cut_fragment, cut_frame, frames_to, gives_to, whole_of}
+use Rattle.ep_defrag.specs.Calls.{Call, gives_frame, drops_streams, returns_buffer, Kept, accepted_in, kept_of}
+use Rattle.ep_defrag.specs.Calls.{kept_unless, table_after, Payload, payload_of, payload_handed_out, nothing_handed_out}
+use Rattle.ep_defrag.specs.Calls.{Answer, answer_unless, answer_to, answers_after}
+use Rattle.ep_defrag.specs.BuiltCuts.{BuiltCut, IsBuiltCut, IsUnder, answers_to_frames, cut_answers, cut_call}
+use Rattle.ep_defrag.specs.BuiltCuts.{cut_fragment, cut_frame, frames_to, gives_to, whole_of}
 use Rattle.ep_defrag.proofs.CutLemmas.{cut_fits_after, assembled-cuts}
 use Rattle.ep_defrag.proofs.CallLemmas.{after_one_more}
 use Rattle.ep_defrag.proofs.AloneLemmas.{answer_alone, all_more, kept_cuts}
@@ -157,19 +161,22 @@ module _ (read_back : AreReadBack) (have_bytes : HaveBytes) (decided : AreDecide
       come earlier (gives_frame None timestamp channel ∷ calls) cuts kept built stays same =
           let call : Call T C V = gives_frame None timestamp channel in
           let unchanged = after_one_more limit eq keep earlier call name false refl in
-          come (earlier ++ call ∷ []) calls cuts (rw unchanged kept) built (stays_later limit eq keep name earlier calls call stays) same
+          come (earlier ++ call ∷ []) calls cuts (rw unchanged kept) built
+          (stays_later limit eq keep name earlier calls call stays) same
           ∙ ap (λ (k : Option (Kept T)). expected k cuts) unchanged
       come earlier (drops_streams value ∷ calls) cuts kept built stays same =
           let call : Call T C V = drops_streams value in
           let unchanged = after_one_more limit eq keep earlier call name true refl
           ∙ drop_keeps (keep value) (table_after limit eq keep earlier name)
           (stays_here limit eq keep name earlier calls value stays) in
-          come (earlier ++ call ∷ []) calls cuts (rw unchanged kept) built (stays_later limit eq keep name earlier calls call stays) same
+          come (earlier ++ call ∷ []) calls cuts (rw unchanged kept) built
+          (stays_later limit eq keep name earlier calls call stays) same
           ∙ ap (λ (k : Option (Kept T)). expected k cuts) unchanged
       come earlier (returns_buffer ∷ calls) cuts kept built stays same =
           let call : Call T C V = returns_buffer in
           let unchanged = after_one_more limit eq keep earlier call name false refl in
-          come (earlier ++ call ∷ []) calls cuts (rw unchanged kept) built (stays_later limit eq keep name earlier calls call stays) same
+          come (earlier ++ call ∷ []) calls cuts (rw unchanged kept) built
+          (stays_later limit eq keep name earlier calls call stays) same
           ∙ ap (λ (k : Option (Kept T)). expected k cuts) unchanged
       come earlier (gives_frame (Some carried) timestamp channel ∷ calls) [] kept built stays same =
           let call : Call T C V = gives_frame (Some carried) timestamp channel in
@@ -179,7 +186,8 @@ module _ (read_back : AreReadBack) (have_bytes : HaveBytes) (decided : AreDecide
             | inr not ↦
                 let unchanged = after_one_more limit eq keep earlier call name false not in
                 rw not
-                (come (earlier ++ call ∷ []) calls [] (rw unchanged kept) built (stays_later limit eq keep name earlier calls call stays) (rw not at same)
+                (come (earlier ++ call ∷ []) calls [] (rw unchanged kept) built
+                (stays_later limit eq keep name earlier calls call stays) (rw not at same)
                 ∙ ap (λ (k : Option (Kept T)). expected k []) unchanged)
           ]
       come earlier (gives_frame (Some carried) timestamp channel ∷ calls) (cut ∷ cuts) kept built stays same =
@@ -209,7 +217,8 @@ module _ (read_back : AreReadBack) (have_bytes : HaveBytes) (decided : AreDecide
                 ∙ ap (λ (r : Option IpDefragError). answer_unless r (name_of carried channel) after) fits
                 ∙ answer_cut eq name payload (name_of carried channel) after does more in
                 let rest = come (earlier ++ call ∷ []) calls cuts
-                (rw table (kept_cuts limit eq keep payload short after timestamp more)) built.1 (stays_later limit eq keep name earlier calls call stays) later
+                (rw table (kept_cuts limit eq keep payload short after timestamp more)) built.1
+                (stays_later limit eq keep name earlier calls call stays) later
                 ∙ ap (λ (k : Option (Kept T)). expected k cuts) table in
                 let goal : answers_to_frames eq name (call ∷ calls) (answers_after limit eq keep earlier (call ∷ calls))
                 ≡ cut_answers (whole_of name payload) (accepted_in before) (part ∷ map cut_fragment cuts) =
@@ -224,6 +233,7 @@ module _ (read_back : AreReadBack) (have_bytes : HaveBytes) (decided : AreDecide
             | inr not ↦
                 let unchanged = after_one_more limit eq keep earlier call name false not in
                 rw not
-                (come (earlier ++ call ∷ []) calls (cut ∷ cuts) (rw unchanged kept) built (stays_later limit eq keep name earlier calls call stays) (rw not at same)
+                (come (earlier ++ call ∷ []) calls (cut ∷ cuts) (rw unchanged kept) built
+                (stays_later limit eq keep name earlier calls call stays) (rw not at same)
                 ∙ ap (λ (k : Option (Kept T)). expected k (cut ∷ cuts)) unchanged)
           ]

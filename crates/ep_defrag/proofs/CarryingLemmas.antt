@@ -1,8 +1,9 @@
 -- Of each stream of which some frame carries a fragment, frames that carry others.
-use Rattle.std.proofs.Common.{◌≡◌, ℕ, zero, suc, ◌+◌, ◌*◌, ◌/◌, ◌^◌, ◌<◌, ◌≤◌, Bool, true, false, cond, ◌||◌, eqb, ltb, List, [], ◌∷◌, ◌++◌, append_assoc, length, Option, Some, None, sym, refl, ap, ◌∙◌, subst, inl, inr, arith}
+use Rattle.std.proofs.Common.{◌≡◌, ℕ, zero, suc, ◌+◌, ◌*◌, ◌/◌, ◌^◌, ◌<◌, ◌≤◌, Bool, true, false, cond, ◌||◌, eqb, ltb}
+use Rattle.std.proofs.Common.{List, [], ◌∷◌, ◌++◌, append_assoc, length, Option, Some, None, sym, refl, ap, ◌∙◌, subst}
+use Rattle.std.proofs.Common.{inl, inr, arith}
 use Rattle.std.specs.List.{AllByRecursion}
 use Rattle.std.specs.Option.{option_and_then}
-use Rattle.std.specs.Int.{w16, w32, to_be_bytes}
 use Rattle.std.proofs.lemmas.Bool.{cases_Bool}
 use Rattle.std.proofs.lemmas.Bool.Decides.{nat_tests}
 use Rattle.std.proofs.lemmas.List.{append-nil, length-append}
@@ -14,13 +15,16 @@ use Rattle.ep_base.specs.declared.ether_type.EtherType.{EtherType}
 use Rattle.ep_base.specs.declared.len_source.LenSource.TheVariants as by_source
 use Rattle.ep_ext.specs.declared.ip_auth_header.IpAuthHeader.{IpAuthHeader}
 use Rattle.ep_ext.specs.declared.ipv6_fragment_header.Ipv6FragmentHeader.{Ipv6FragmentHeader}
-use Rattle.ep_ext.specs.Chains.{IpVersion, ipv4, ipv6, chain_of, demand_of, ends, takes, misplaced, is_first, IsChainBehind, IsExtensionChain}
-use Rattle.ep_ext.specs.ExtensionParts.{ExtensionPart, hop_by_hop, destination_options, routing, fragment, authentication, part_next, IsExtensionPart}
+use Rattle.ep_ext.specs.Chains.{IpVersion, ipv4, ipv6, chain_of, demand_of, ends, takes, misplaced, is_first}
+use Rattle.ep_ext.specs.Chains.{IsChainBehind, IsExtensionChain}
+use Rattle.ep_ext.specs.ExtensionParts.{ExtensionPart, hop_by_hop, destination_options, routing, fragment}
+use Rattle.ep_ext.specs.ExtensionParts.{authentication, part_next, IsExtensionPart}
 use Rattle.ep_ext.specs.FragmentHeader.{FitsFragmentHeader, fragment_header_bytes}
 use Rattle.ep_ext.specs.IpAuth.{ip_auth_with, ip_auth_bytes}
 use Rattle.ep_ip.specs.declared.ipv4_header.Ipv4Header.{Ipv4Header}
 use Rattle.ep_ip.specs.declared.ipv6_header.Ipv6Header.{Ipv6Header}
-use Rattle.ep_ip.specs.Ipv4.{FitsIpv4, ipv4_header_len, ipv4_flags_with, ipv4_bytes, default_ipv4_header, is_ipv4_fragment}
+use Rattle.ep_ip.specs.Ipv4.{FitsIpv4, ipv4_header_len, ipv4_flags_with, ipv4_bytes, default_ipv4_header}
+use Rattle.ep_ip.specs.Ipv4.{is_ipv4_fragment}
 use Rattle.ep_ip.specs.Ipv6.{ipv6_bytes}
 use Rattle.ep_ip.specs.IpPackets.{IpPacket, ipv4_part, ipv6_part, IsIpv4, IsIpv6}
 use Rattle.ep_link.specs.declared.link_ext.single_vlan_header.SingleVlanHeader.{SingleVlanHeader}
@@ -30,13 +34,16 @@ use Rattle.ep_link.specs.LinuxSll.{protocol_ether_type}
 use Rattle.ep_link.specs.Vlan.{vlan_bytes}
 use Rattle.ep_packet.specs.declared.entry.Entry.{Entry}
 use Rattle.ep_packet.specs.declared.entry.Entry.TheVariants as at_entry
-use Rattle.ep_packet.specs.FrameFragments.{FragmentId, ipv4_id, ipv6_id, FrameFragment, first_fragment, ipv6_fragment, net_fragment}
-use Rattle.ep_packet.specs.Frame.{NetKind, only_ipv4, only_ipv6, only_arp, any_ip, net_kind, IsNetLayer, IsNetPart, IsInside, IsFrame}
+use Rattle.ep_packet.specs.FrameFragments.{FragmentId, ipv4_id, ipv6_id, FrameFragment, first_fragment, ipv6_fragment}
+use Rattle.ep_packet.specs.FrameFragments.{net_fragment}
+use Rattle.ep_packet.specs.Frame.{NetKind, only_ipv4, only_ipv6, only_arp, any_ip, net_kind, IsNetLayer, IsNetPart}
+use Rattle.ep_packet.specs.Frame.{IsInside, IsFrame}
 use Rattle.ep_packet.specs.Layers.{Layers, NetLayer, ipv4_layer, ipv6_layer}
 use Rattle.ep_packet.specs.VlanTags.{vlan_ids_in}
 use Rattle.ep_transport.specs.TransportParts.{TransportLayer}
 use Rattle.ep_defrag.specs.IpFragments.{IpFragment}
 use Rattle.ep_defrag.specs.Completing.{CarryingFrame, is_part, CarriesOf}
+use Rattle.ep_build.proofs.ByteListLemmas.{AllBytes, all, none, more, both, both_bytes, word, long}
 
 -- ---- what the name of a stream says, of which a frame carries a fragment
 
@@ -242,40 +249,6 @@ named seen =
       fit = rw (says.0) within.fit;
       id = says.1;
     }
-
--- ---- lists of bytes
-
--- each number is a byte, as a fact whose list is known from it
-record AllBytes (bytes : List ℕ) : Type 0 where
-  pub fits : AreBytes bytes
-
-all : (bytes : List ℕ) → AreBytes bytes → AllBytes bytes
-all bytes fits = record { fits = fits }
-
-none : AllBytes []
-none = record { fits = λ i. omega arith }
-
-more_bytes : (byte : ℕ) (bytes : List ℕ) → byte < 256 → AreBytes bytes → AreBytes (byte ∷ bytes)
-more_bytes byte bytes small fits zero = small
-more_bytes byte bytes small fits (suc i) = fits i
-
-more : (byte : ℕ) (bytes : List ℕ) → byte < 256 → AllBytes bytes → AllBytes (byte ∷ bytes)
-more byte bytes small all = record { fits = more_bytes byte bytes small all.fits }
-
-both_bytes : (bytes behind : List ℕ) → AreBytes bytes → AreBytes behind → AreBytes (bytes ++ behind)
-both_bytes [] behind fits other = other
-both_bytes (byte ∷ bytes) behind fits other =
-    more_bytes byte (bytes ++ behind) (fits 0) (both_bytes bytes behind (λ i. fits (suc i)) other)
-
-both : (bytes behind : List ℕ) → AreBytes bytes → AllBytes behind → AllBytes (bytes ++ behind)
-both bytes behind fits other = record { fits = both_bytes bytes behind fits other.fits }
-
-word : (n : ℕ) (behind : List ℕ) → AllBytes behind → AllBytes (to_be_bytes w16 n ++ behind)
-word n behind all = more _ _ (omega arith) (more _ _ (omega arith) all)
-
-long : (n : ℕ) (behind : List ℕ) → AllBytes behind → AllBytes (to_be_bytes w32 n ++ behind)
-long n behind all =
-    more _ _ (omega arith) (more _ _ (omega arith) (more _ _ (omega arith) (more _ _ (omega arith) all)))
 
 -- ---- tags
 abbrev type_of : ℕ → EtherType

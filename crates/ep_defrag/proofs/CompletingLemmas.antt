@@ -1,15 +1,19 @@
 -- Fragments that complete what came.
-use Rattle.std.proofs.Common.{◌≡◌, ℕ, ◌^◌, ◌<◌, ◌≤◌, max, true, false, ltb, List, [], ◌∷◌, ◌++◌, append_assoc, length, Option, Some, None, refl, ap, ◌∙◌, inl, inr, arith}
+use Rattle.std.proofs.Common.{◌≡◌, ℕ, ◌^◌, ◌<◌, ◌≤◌, max, true, false, ltb, List, [], ◌∷◌, ◌++◌, append_assoc, length}
+use Rattle.std.proofs.Common.{Option, Some, None, refl, ap, ◌∙◌, inl, inr, arith}
 use Rattle.std.specs.List.{AllByRecursion}
 use Rattle.std.specs.Option.{option_or, unwrap_or}
 use Rattle.std.proofs.lemmas.Bool.{cases_Bool, cases_lt, or_left, or_right, lt-ltb, ltb-true}
 use Rattle.std.proofs.lemmas.Bool.Decides.{nat_tests}
 use Rattle.std.proofs.lemmas.List.{append-nil}
-use Rattle.ep_defrag.specs.IpFragments.{IpFragment, fragment_with, fragment_end, covers, is_covered, reach_of, end_of, is_complete, IsComplete}
+use Rattle.ep_defrag.specs.IpFragments.{IpFragment, fragment_with, fragment_end, covers, is_covered, reach_of, end_of}
+use Rattle.ep_defrag.specs.IpFragments.{is_complete, IsComplete}
 use Rattle.ep_defrag.specs.FragmentRefusals.{end_row, FitsWithin, FitAfterWithin, FitInTurnWithin, is_unaligned}
-use Rattle.ep_defrag.specs.Completing.{whole_end, meeting_at, FillBoth, front_fragment, back_fragment, is_part, CompleteInTurn}
+use Rattle.ep_defrag.specs.Completing.{whole_end, meeting_at, FillBoth, front_fragment, back_fragment, is_part}
+use Rattle.ep_defrag.specs.Completing.{CompleteInTurn}
 use Rattle.ep_defrag.proofs.ListLemmas.{list_all-range}
-use Rattle.ep_defrag.proofs.DataLemmas.{reach_of-push, end_of-push, is_covered-push, fits_at, refusal_at-fits, end_is_greatest}
+use Rattle.ep_defrag.proofs.DataLemmas.{reach_of-push, end_of-push, is_covered-push, fits_at, refusal_at-fits}
+use Rattle.ep_defrag.proofs.DataLemmas.{end_is_greatest}
 
 -- ---- how far a list reaches
 reach_after : (limit : ℕ) (earlier later : List IpFragment) → reach_of earlier ≤ limit

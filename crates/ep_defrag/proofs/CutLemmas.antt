@@ -1,13 +1,16 @@
 -- Fragments that a payload was cut into.
-use Rattle.std.proofs.Common.{◌≡◌, ℕ, ◌+◌, ◌-◌, ◌%◌, ◌<◌, ◌≤◌, true, false, ◌↔◌, eqb, Option, List, [], ◌∷◌, length, get_or, Some, None, is_some, IsTrue, sym, refl, ap, ◌∙◌, ◌⊎◌, inl, inr, arith}
+use Rattle.std.proofs.Common.{◌≡◌, ℕ, ◌+◌, ◌-◌, ◌%◌, ◌<◌, ◌≤◌, true, false, ◌↔◌, eqb, Option, List, [], ◌∷◌, length}
+use Rattle.std.proofs.Common.{get_or, Some, None, is_some, IsTrue, sym, refl, ap, ◌∙◌, ◌⊎◌, inl, inr, arith}
 use Rattle.std.specs.List.{AllByRecursion, Any, list_any}
 use Rattle.std.specs.Option.{unwrap_or}
-use Rattle.std.proofs.lemmas.Bool.{cases_Bool, false≢true, or_cases, and_parts, and_from, le-ltb, eq-eqb, and_left, and_right, not_from_true, not_from_false, not-true, or_from}
+use Rattle.std.proofs.lemmas.Bool.{cases_Bool, false≢true, or_cases, and_parts, and_from, le-ltb, eq-eqb, and_left}
+use Rattle.std.proofs.lemmas.Bool.{and_right, not_from_true, not_from_false, not-true, or_from}
 use Rattle.std.proofs.lemmas.Bool.Decides.{nat_tests}
 use Rattle.std.proofs.lemmas.List.Edits.{get_or-between}
 use Rattle.std.proofs.lemmas.List.Folds.{Any-from_list_any, list_any-from_Any}
 use Rattle.std.proofs.lemmas.List.FromFn.{fill_by_all}
-use Rattle.ep_defrag.specs.IpFragments.{IpFragment, is_final, fragment_start, fragment_end, covers, is_covered, IsCovered, reach_of, end_of, byte_at, assembled, IsComplete}
+use Rattle.ep_defrag.specs.IpFragments.{IpFragment, is_final, fragment_start, fragment_end, covers, is_covered}
+use Rattle.ep_defrag.specs.IpFragments.{IsCovered, reach_of, end_of, byte_at, assembled, IsComplete}
 use Rattle.ep_defrag.specs.FragmentRefusals.{is_unaligned, conflicts_with, ends_too_early, FitsWithin}
 use Rattle.ep_defrag.specs.PayloadCuts.{IsCut}
 use Rattle.ep_defrag.proofs.ListLemmas.{list_all-range, each_of_range}

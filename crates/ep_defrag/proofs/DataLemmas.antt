@@ -1,14 +1,21 @@
 -- One more fragment: what a list of fragments covers, how far it reaches, where it ends, and its bytes.
-use Rattle.std.proofs.Common.{◌≡◌, ℕ, suc, zero, ◌+◌, ◌-◌, ◌<◌, ◌≤◌, max, Bool, true, false, cond, ◌||◌, ◌&&◌, ltb, leb, List, [], ◌∷◌, ◌++◌, length, get_or, take, drop, replicate, Option, Some, None, sym, refl, ap, ◌∙◌, inl, inr, arith}
+use Rattle.std.proofs.Common.{◌≡◌, ℕ, suc, zero, ◌+◌, ◌-◌, ◌<◌, ◌≤◌, max, Bool, true, false, cond, ◌||◌, ◌&&◌, ltb, leb}
+use Rattle.std.proofs.Common.{List, [], ◌∷◌, ◌++◌, length, get_or, take, drop, replicate, Option, Some, None, sym, refl}
+use Rattle.std.proofs.Common.{ap, ◌∙◌, inl, inr, arith}
 use Rattle.std.specs.Option.{option_or, unwrap_or}
-use Rattle.std.proofs.lemmas.Bool.{cases_Bool, cases_lt, false≢true, or_cases, ltb-false, lt-ltb, le-ltb, le-leb, lt-leb}
+use Rattle.std.proofs.lemmas.Bool.{cases_Bool, cases_lt, false≢true, or_cases, ltb-false, lt-ltb, le-ltb, le-leb}
+use Rattle.std.proofs.lemmas.Bool.{lt-leb}
 use Rattle.std.proofs.lemmas.Bool.Decides.{nat_tests}
-use Rattle.std.proofs.lemmas.List.{get_or_past, append-nil, append_assoc, get_or-replicate, length-replicate, length-append, length-take-le, length-drop, get_or_append_left, get_or-append_right, get_or-take, get_or-drop}
+use Rattle.std.proofs.lemmas.List.{get_or_past, append-nil, append_assoc, get_or-replicate, length-replicate}
+use Rattle.std.proofs.lemmas.List.{length-append, length-take-le, length-drop, get_or_append_left, get_or-append_right}
+use Rattle.std.proofs.lemmas.List.{get_or-take, get_or-drop}
 use Rattle.std.proofs.lemmas.List.Folds.{list_any-append}
 use Rattle.std.proofs.lemmas.List.FromFn.{length-map-range_with_len, get_or-map-range_with_len, fill_by_all}
 use Rattle.ep_defrag.specs.Ranges.{touches}
-use Rattle.ep_defrag.specs.IpFragments.{IpFragment, fragment_start, fragment_end, range_of, covers, is_covered, is_touched, reach_of, end_of, byte_at, assembled}
-use Rattle.ep_defrag.specs.FragmentRefusals.{is_unaligned, conflicts_with, ends_too_early, end_row, refusal_at_within, FitsWithin, FitAfterWithin, FitInTurnWithin}
+use Rattle.ep_defrag.specs.IpFragments.{IpFragment, fragment_start, fragment_end, range_of, covers, is_covered}
+use Rattle.ep_defrag.specs.IpFragments.{is_touched, reach_of, end_of, byte_at, assembled}
+use Rattle.ep_defrag.specs.FragmentRefusals.{is_unaligned, conflicts_with, ends_too_early, end_row, refusal_at_within}
+use Rattle.ep_defrag.specs.FragmentRefusals.{FitsWithin, FitAfterWithin, FitInTurnWithin}
 use Rattle.ep_defrag.specs.Buffers.{extended, overwritten, data_after}
 
 or_false : (a : Bool) → (a || false) ≡ a

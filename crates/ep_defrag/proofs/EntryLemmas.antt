@@ -1,5 +1,6 @@
 -- The streams that a map's entries are, by name: what a name finds, and what it finds after a change of the map.
-use Rattle.std.proofs.Common.{◌≡◌, ℕ, ◌+◌, Bool, true, false, cond, Bor, List, [], ◌∷◌, map, length, Option, Some, None, refl, ap, sym, ◌∙◌, subst, arith, inl, inr}
+use Rattle.std.proofs.Common.{◌≡◌, ℕ, ◌+◌, Bool, true, false, cond, Bor, List, [], ◌∷◌, map, length, Option, Some, None}
+use Rattle.std.proofs.Common.{refl, ap, sym, ◌∙◌, subst, arith, inl, inr}
 use Rattle.std.specs.Cmp.{IsEquivalence}
 use Rattle.std.specs.Option.{MatchOption}
 use Rattle.std.specs.List.{find, count_by, sum_by, AllByRecursion, IsDistinct}
@@ -202,6 +203,18 @@ module _ {T C : Type 0} (eq : C → C → Bool) (laws : IsEquivalence eq) where
             apart = differ;
             limit = refl;
           }
+
+      -- what a name found, and that it finds another stream under the same key
+      pub record Rewritten (value next : OpenStream T) : Type 0 where
+        pub key : IpFragId C
+        pub named : stream_named eq id (limit, old) ≡ Some (stream_at (key, value))
+        pub now : ChangesStream eq (limit, old) (limit, new) id (Some (stream_at (key, next)))
+
+      pub rewritten_stream : (value next : OpenStream T) → lookup (key_eq id) old ≡ Some value
+          → new ≡ set_value (key_eq id) old next → Rewritten value next
+      rewritten_stream value next found now =
+          let of = present_stream limit old id value found in
+          record { key = of.key; named = of.named; now = written_stream value next of now }
 
       -- where the name had none, what the map says of the entries is that the pair has come
       pub put_stream : (value : OpenStream T) (had : Option (OpenStream T)) (Kept : OpenStream T → Type 0)

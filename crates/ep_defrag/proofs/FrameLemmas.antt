@@ -1,5 +1,6 @@
 -- What calls with frames of bytes are read as, and what lists of them are answered.
-use Rattle.std.proofs.Common.{◌≡◌, ℕ, zero, suc, Bool, List, [], ◌∷◌, ◌++◌, append_assoc, take, map, Some, slice_get, Bor, inl, inr, refl, sym, ap, ◌∙◌}
+use Rattle.std.proofs.Common.{◌≡◌, ℕ, zero, suc, Bool, List, [], ◌∷◌, ◌++◌, append_assoc, take, map, Some, slice_get}
+use Rattle.std.proofs.Common.{Bor, inl, inr, refl, sym, ap, ◌∙◌}
 use Rattle.std.specs.List.{All, AllZip}
 use Rattle.std.specs.Option.{option_map}
 use Rattle.std.proofs.lemmas.List.{append-nil}
@@ -21,9 +22,13 @@ use Rattle.ep_defrag.specs.declared.pool_run.PoolAnswer.{PoolAnswer}
 use Rattle.ep_defrag.specs.declared.pool_run.PoolCall.{PoolCall}
 use Rattle.ep_defrag.specs.Streams.{packet_fragment}
 use Rattle.ep_defrag.specs.PayloadCuts.{IsCut}
-use Rattle.ep_defrag.specs.Calls.{Call, gives_frame, drops_streams, returns_buffer, table_after, answers_after, answers_to, answer_to, accepted_at}
+use Rattle.ep_defrag.specs.Calls.{Call, gives_frame, drops_streams, returns_buffer, table_after, answers_after}
+use Rattle.ep_defrag.specs.Calls.{answers_to, answer_to, accepted_at}
 use Rattle.ep_defrag.specs.Pools.{plain_call, plain_answer}
-use Rattle.ep_defrag.specs.FrameCalls.{ReadCall, calls_pool, refuses_frame, IsReadAs, IsOnlyRead, HasBytes, AreReadAs, pool_calls, ReadAnswer, not_sliced, pool_answers, read_answer_to, frame_answers_after, frame_answers_to, pool_answers_in, IfPoolHandsOut, read_answer, table_with_read}
+use Rattle.ep_defrag.specs.FrameCalls.{ReadCall, calls_pool, refuses_frame, IsReadAs, IsOnlyRead, HasBytes, AreReadAs}
+use Rattle.ep_defrag.specs.FrameCalls.{pool_calls, ReadAnswer, not_sliced, pool_answers, read_answer_to}
+use Rattle.ep_defrag.specs.FrameCalls.{frame_answers_after, frame_answers_to, pool_answers_in, IfPoolHandsOut}
+use Rattle.ep_defrag.specs.FrameCalls.{read_answer, table_with_read}
 use Rattle.ep_defrag.proofs.CallLemmas.{table_after-push}
 use Rattle.ep_defrag.proofs.AloneLemmas.{handed_at}
 

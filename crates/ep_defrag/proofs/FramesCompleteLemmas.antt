@@ -1,5 +1,6 @@
 -- Frames that complete a stream, with what a pool answers them.
-use Rattle.std.proofs.Common.{◌≡◌, ◌≤◌, ℕ, Bool, true, false, List, [], ◌∷◌, ◌++◌, append_assoc, length, Option, Some, None, sym, ◌∙◌, inl, inr, arith}
+use Rattle.std.proofs.Common.{◌≡◌, ◌≤◌, ℕ, Bool, true, false, List, [], ◌∷◌, ◌++◌, append_assoc, length, Option, Some}
+use Rattle.std.proofs.Common.{None, sym, ◌∙◌, inl, inr, arith}
 use Rattle.std.specs.Prelude.{IfSome}
 use Rattle.std.specs.Cmp.{IsEquivalence}
 use Rattle.std.proofs.lemmas.Bool.{cases_Bool, false≢true}
@@ -10,7 +11,8 @@ use Rattle.ep_defrag.specs.FragmentRefusals.{FitsWithin, FitInTurn, FitInTurnWit
 use Rattle.ep_defrag.specs.Buffers.{data_of}
 use Rattle.ep_defrag.specs.Calls.{Kept, accepted_in, nothing_handed_out, answer_to_frame, table_with_frame}
 use Rattle.ep_defrag.specs.Pools.{Stream, HoldsEntry}
-use Rattle.ep_defrag.specs.Completing.{FillBoth, front_fragment, back_fragment, is_part, CarryingFrame, given_by, name_in, CarriesOf, HandsOutAll, FramesComplete}
+use Rattle.ep_defrag.specs.Completing.{FillBoth, front_fragment, back_fragment, is_part, CarryingFrame, given_by}
+use Rattle.ep_defrag.specs.Completing.{name_in, CarriesOf, HandsOutAll, FramesComplete}
 use Rattle.ep_defrag.proofs.StreamLemmas.{same_stream_laws}
 use Rattle.ep_defrag.proofs.OneFragmentLemmas.{kept_more, answer_complete, answer_nothing}
 use Rattle.ep_defrag.proofs.CompletingLemmas.{reach_short, two_complete, parts_short}

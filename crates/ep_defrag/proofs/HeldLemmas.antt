@@ -1,5 +1,6 @@
 -- What a buffer holds, before and after a fragment.
-use Rattle.std.proofs.Common.{◌≡◌, ℕ, ◌≤◌, length, List, ◌∷◌, [], ◌++◌, Bool, true, false, ◌||◌, ◌&&◌, ◌↔◌, Option, Some, None, is_some, sym, ◌∙◌, subst, ap, refl, arith, inl, inr}
+use Rattle.std.proofs.Common.{◌≡◌, ℕ, ◌≤◌, length, List, ◌∷◌, [], ◌++◌, Bool, true, false, ◌||◌, ◌&&◌, ◌↔◌, Option}
+use Rattle.std.proofs.Common.{Some, None, is_some, sym, ◌∙◌, subst, ap, refl, arith, inl, inr}
 use Rattle.std.specs.List.{All, list_any}
 use Rattle.std.specs.List.Sorted.{IsPermutation}
 use Rattle.std.specs.Option.{option_or}
@@ -11,10 +12,13 @@ use Rattle.ep_defrag.specs.declared.ip_frag_range.IpFragRange.{IpFragRange}
 use Rattle.ep_defrag.specs.Ranges.{has_byte, touches, merges}
 use Rattle.ep_defrag.specs.IpFragments.{IpFragment, fragment_end, range_of, covers, reach_of, end_of, IsComplete}
 use Rattle.ep_defrag.specs.FragmentRefusals.{Fits, IsInPlace}
-use Rattle.ep_defrag.specs.Buffers.{HoldsFragments, data_of, sections_of, known_end_of, data_after, end_after, sections_after, is_whole}
-use Rattle.ep_defrag.proofs.SectionLemmas.{IsOrdered, merges-from_point, touches-hull, has_byte-hull, test-sections_after}
+use Rattle.ep_defrag.specs.Buffers.{HoldsFragments, data_of, sections_of, known_end_of, data_after, end_after}
+use Rattle.ep_defrag.specs.Buffers.{sections_after, is_whole}
+use Rattle.ep_defrag.proofs.SectionLemmas.{IsOrdered, merges-from_point, touches-hull, has_byte-hull}
+use Rattle.ep_defrag.proofs.SectionLemmas.{test-sections_after}
 use Rattle.ep_defrag.proofs.ApartLemmas.{from_apart, ordered_from, at_most_one}
-use Rattle.ep_defrag.proofs.DataLemmas.{FitAfter-push, FitsAt, fits_at, agrees_with, end_is_greatest, length-assembled, assembled-push, is_covered-push, is_touched-push, end_of-push, own_end}
+use Rattle.ep_defrag.proofs.DataLemmas.{FitAfter-push, FitsAt, fits_at, agrees_with, end_is_greatest, length-assembled}
+use Rattle.ep_defrag.proofs.DataLemmas.{assembled-push, is_covered-push, is_touched-push, end_of-push, own_end}
 use Rattle.ep_defrag.proofs.CompleteLemmas.{complete_by_sections}
 
 -- a buffer that shows the same holds the same

@@ -1,5 +1,6 @@
 -- What a pool holds, after one stream changed, went or began, and after a drop.
-use Rattle.std.proofs.Common.{◌≡◌, ℕ, ◌≤◌, Bool, true, false, List, [], ◌∷◌, map, Bor, Option, Some, None, is_some, cond, if◌then◌else◌, sym, refl, ap, ◌∙◌, subst, arith, inl, inr}
+use Rattle.std.proofs.Common.{◌≡◌, ℕ, ◌≤◌, Bool, true, false, List, [], ◌∷◌, map, Bor, Option, Some, None, is_some}
+use Rattle.std.proofs.Common.{cond, if◌then◌else◌, sym, refl, ap, ◌∙◌, subst, arith, inl, inr}
 use Rattle.std.specs.List.{filter, find, count_by, items_where_true}
 use Rattle.std.specs.Cmp.{IsEquivalence}
 use Rattle.std.specs.Fn.{Shared, FnReturnsAt}
@@ -11,7 +12,8 @@ use Rattle.ep_defrag.specs.declared.ip_defrag_pool.OpenStream.{OpenStream}
 use Rattle.ep_defrag.specs.declared.ip_defrag_pool.IpDefragPool.{IpDefragPool}
 use Rattle.ep_defrag.specs.Streams.{same_stream}
 use Rattle.ep_defrag.specs.Calls.{Kept, kept_by}
-use Rattle.ep_defrag.specs.Pools.{Stream, stream_at, limit_of, streams_of, stream_named, HoldsEntry, HoldsTable, ChangesStream, AnswersEach, LeavesAnswered, HoldsAnswered, IsAnsweredBy}
+use Rattle.ep_defrag.specs.Pools.{Stream, stream_at, limit_of, streams_of, stream_named, HoldsEntry, HoldsTable}
+use Rattle.ep_defrag.specs.Pools.{ChangesStream, AnswersEach, LeavesAnswered, HoldsAnswered, IsAnsweredBy}
 use Rattle.ep_defrag.proofs.LookupLemmas.{counted, find_none, count_filter, stays_if, find_filter}
 use Rattle.ep_defrag.proofs.EntryLemmas.{same_name}
 

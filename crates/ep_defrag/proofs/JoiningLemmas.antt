@@ -1,11 +1,13 @@
 -- A range joins sections that stand apart in order: those that share a point with it are neighbours of one another, and
 -- with their union at their place the sections stand apart in order again.
-use Rattle.std.proofs.Common.{◌≡◌, ℕ, suc, ◌+◌, ◌-◌, ◌<◌, ◌≤◌, nat_le, nat_lt, true, false, not, List, [], ◌∷◌, ◌++◌, length, get_or, set, take, drop, sym, refl, ap, subst, ◌∙◌, inl, inr, arith}
+use Rattle.std.proofs.Common.{◌≡◌, ℕ, suc, ◌+◌, ◌-◌, ◌<◌, ◌≤◌, nat_le, nat_lt, true, false, not, List, [], ◌∷◌, ◌++◌}
+use Rattle.std.proofs.Common.{length, get_or, set, take, drop, sym, refl, ap, subst, ◌∙◌, inl, inr, arith}
 use Rattle.std.specs.List.{All, AllWithin, AllByRecursion, list_any, filter, fold, insert, remove_range}
 use Rattle.std.specs.List.Sorted.{IsPermutation, IsPartitionPoint}
 use Rattle.std.proofs.lemmas.Bool.{cases_lt, false≢true, ltb-true, ltb-false, leb-true, leb-false}
 use Rattle.std.proofs.lemmas.Bool.Decides.{nat_tests}
-use Rattle.std.proofs.lemmas.List.{append-nil, length-take-le, length-drop, get_or-take, get_or-drop, get_or_default, take-append-drop, drop-drop, drop_more, take_more_set, drop-set-lt, append_assoc}
+use Rattle.std.proofs.lemmas.List.{append-nil, length-take-le, length-drop, get_or-take, get_or-drop, get_or_default}
+use Rattle.std.proofs.lemmas.List.{take-append-drop, drop-drop, drop_more, take_more_set, drop-set-lt, append_assoc}
 use Rattle.std.proofs.lemmas.List.Elements.{filter-append, recursion_from_All}
 use Rattle.std.proofs.lemmas.List.Sorted.{IsPermutation-middle}
 use Rattle.ep_defrag.specs.declared.ip_frag_range.IpFragRange.{IpFragRange}
@@ -13,7 +15,8 @@ use Rattle.ep_defrag.specs.Ranges.{merges, hull, AreApart}
 use Rattle.ep_defrag.specs.Buffers.{sections_after, AreNeighbours}
 use Rattle.ep_defrag.proofs.ListLemmas.{none_from_filter}
 use Rattle.ep_defrag.proofs.SectionLemmas.{IsOrdered}
-use Rattle.ep_defrag.proofs.ApartLemmas.{AreApartFrom, from_apart, to_apart, ordered_from, from_at, raised, least_behind, least_behind-le, apart_parts, apart_append}
+use Rattle.ep_defrag.proofs.ApartLemmas.{AreApartFrom, from_apart, to_apart, ordered_from, from_at, raised}
+use Rattle.ep_defrag.proofs.ApartLemmas.{least_behind, least_behind-le, apart_parts, apart_append}
 
 -- ---- a fact of places, of a part
 module _ {X : Type 0} (P : X → Type 0) (xs : List X) where

@@ -1,5 +1,6 @@
 -- Calls answered in turn, whatever they are given as: what is known after some of them, and after one more.
-use Rattle.std.proofs.Common.{◌≡◌, ℕ, ◌<◌, ◌≤◌, Bool, Bor, List, [], ◌∷◌, ◌++◌, append_assoc, Option, map, length, take, get_or, IsFalse, sym, ap, ◌∙◌, arith}
+use Rattle.std.proofs.Common.{rules, ◌≡◌, ℕ, ◌<◌, ◌≤◌, Bool, Bor, List, [], ◌∷◌, ◌++◌, append_assoc, Option, None, map}
+use Rattle.std.proofs.Common.{length, take, get_or, IsFalse, sym, ap, ◌∙◌, arith}
 use Rattle.std.specs.Fn.{Shared}
 use Rattle.std.specs.List.{All, AllZip}
 use Rattle.std.proofs.lemmas.List.{map-append, length_push, length-append}
@@ -8,7 +9,8 @@ use Rattle.ep_defrag.specs.declared.ip_frag_id.IpFragId.{IpFragId}
 use Rattle.ep_defrag.specs.declared.ip_defrag_pool.IpDefragPool.{IpDefragPool}
 use Rattle.ep_defrag.specs.Calls.{Kept, table_after}
 use Rattle.ep_defrag.specs.Pools.{limit_of, HoldsTable, IsDecidedBy}
-use Rattle.ep_defrag.specs.FrameCalls.{ReadCall, pool_calls, ReadAnswer, frame_answers_to, read_answer_to, table_with_read}
+use Rattle.ep_defrag.specs.FrameCalls.{ReadCall, pool_calls, ReadAnswer, frame_answers_to, read_answer_to}
+use Rattle.ep_defrag.specs.FrameCalls.{table_with_read}
 use Rattle.ep_defrag.proofs.FrameLemmas.{AllZip-more, table_after_read, frame_answers-push}
 use Rattle.ep_defrag.proofs.HeldStreamLemmas.{HoldsTable-same}
 use Rattle.ep_defrag.proofs.ListLemmas.{all_taken, before_and_at}
@@ -42,6 +44,24 @@ module _ {F T C V X Y : Type 0} (asks : Shared F (Bor V × (Bor T × Unit {0})) 
     pub no_memory : IsFalse (wants answer)
 
 module _ {F T C V X Y : Type 0} {asks : Shared F (Bor V × (Bor T × Unit {0})) Bool} {keep : F} {eq : C → C → Bool}
+    {max : ℕ} {IsRead : X → ReadCall T C V → Type 0} {said : Y → ReadAnswer} {wants : Y → Bool} where
+  -- before the first call
+  pub answered_none : {calls left : List X} {answers : List Y} {room : ℕ} {pool : IpDefragPool T C} → answers ≡ []
+      → left ≡ calls → length calls ≤ room → HoldsTable eq pool (λ name. None) → limit_of pool ≡ max
+      → Answered asks keep eq max IsRead said wants calls [] left answers room pool
+  answered_none none all enough held limit = record {
+    reads = [];
+    each = tt;
+    answered = λ decide decided. ap (map said) none;
+    held = λ decide decided. held;
+    limit = limit;
+    no_memory = rw none (search rules);
+    whole = all;
+    counted = ap length none;
+    enough = enough;
+  }
+
+module _ {F T C V X Y : Type 0} {asks : Shared F (Bor V × (Bor T × Unit {0})) Bool} {keep : F} {eq : C → C → Bool}
     {max : ℕ} {IsRead : X → ReadCall T C V → Type 0} {said : Y → ReadAnswer} {wants : Y → Bool}
     {calls taken left : List X} {answers : List Y} {room : ℕ} {pool : IpDefragPool T C}
     (known : Answered asks keep eq max IsRead said wants calls taken left answers room pool) where
@@ -56,6 +76,10 @@ module _ {F T C V X Y : Type 0} {asks : Shared F (Bor V × (Bor T × Unit {0})) 
     -- fewer are answered than there are
     pub some_left : length answers < length calls
     some_left = omega (arith, known.counted, ap length all_are, length-append taken (call ∷ later))
+
+    -- so there is room for the answer to the next call
+    pub has_room : length answers < room
+    has_room = omega (arith, known.enough, some_left)
 
     -- the next call stands behind those that were answered
     pub next_at : (d : X) → (take (length answers) calls ≡ taken) × (get_or calls (length answers) d ≡ call)

@@ -1,15 +1,18 @@
 -- One fragment of a stream, by what is kept of the stream.
-use Rattle.std.proofs.Common.{◌≡◌, ℕ, Bool, true, false, ◌↔◌, List, [], ◌∷◌, ◌++◌, Option, Some, None, sym, refl, ap, ◌∙◌, ◌⊎◌, inl, inr, arith}
+use Rattle.std.proofs.Common.{◌≡◌, ℕ, Bool, true, false, ◌↔◌, List, [], ◌∷◌, ◌++◌, Option, Some, None, sym, refl, ap}
+use Rattle.std.proofs.Common.{◌∙◌, ◌⊎◌, inl, inr, arith}
 use Rattle.std.proofs.lemmas.Bool.{false≢true}
 use Rattle.std.proofs.lemmas.List.{length_push}
 use Rattle.ep_defrag.specs.declared.ip_defrag_error.IpDefragError.{IpDefragError}
 use Rattle.ep_defrag.specs.declared.ip_defrag_error.IpDefragError.TheVariants.{AllocationFailure}
 use Rattle.ep_defrag.specs.declared.ip_frag_id.IpFragId.{IpFragId}
 use Rattle.ep_defrag.specs.IpFragments.{IpFragment, fragment_end, reach_of, end_of, is_complete}
-use Rattle.ep_defrag.specs.FragmentRefusals.{refusal_within, RefusesWithin, FitsWithin, MayNeedMemoryWithin, is_want_of_memory}
+use Rattle.ep_defrag.specs.FragmentRefusals.{refusal_within, RefusesWithin, FitsWithin, MayNeedMemoryWithin}
+use Rattle.ep_defrag.specs.FragmentRefusals.{is_want_of_memory}
 use Rattle.ep_defrag.specs.Buffers.{HoldsFragments, ip_number_of, data_of}
 use Rattle.ep_defrag.specs.Streams.{source_of}
-use Rattle.ep_defrag.specs.Calls.{Kept, accepted_in, kept_with, answer_with, Payload, payload_of, fragment_refused, payload_handed_out, nothing_handed_out}
+use Rattle.ep_defrag.specs.Calls.{Kept, accepted_in, kept_with, answer_with, Payload, payload_of, fragment_refused}
+use Rattle.ep_defrag.specs.Calls.{payload_handed_out, nothing_handed_out}
 use Rattle.ep_defrag.specs.Pools.{Stream, HoldsEntry, BufferTakes, IsWhole}
 use Rattle.ep_defrag.proofs.DataLemmas.{FitAfter-push}
 use Rattle.ep_defrag.proofs.RunLemmas.{no_memory}

@@ -1,5 +1,6 @@
 -- A stream that no drop drops where it stands.
-use Rattle.std.proofs.Common.{◌≡◌, ℕ, suc, Bool, true, false, List, [], ◌∷◌, ◌++◌, append_assoc, take, drop, Option, Some, None, IfSome, slice_get, sym, refl, ap, ◌∙◌, inl, inr}
+use Rattle.std.proofs.Common.{◌≡◌, ℕ, suc, Bool, true, false, List, [], ◌∷◌, ◌++◌, append_assoc, take, drop, Option}
+use Rattle.std.proofs.Common.{Some, None, IfSome, slice_get, sym, refl, ap, ◌∙◌, inl, inr}
 use Rattle.std.specs.List.{filter_map, AllByRecursion, All}
 use Rattle.std.proofs.lemmas.Bool.{cases_Bool}
 use Rattle.std.proofs.lemmas.List.{append-nil, take-append-drop}
@@ -10,7 +11,8 @@ use Rattle.ep_defrag.specs.declared.ip_frag_id.IpFragId.{IpFragId}
 use Rattle.ep_defrag.specs.IpFragments.{IpFragment, is_complete}
 use Rattle.ep_defrag.specs.FragmentRefusals.{refusal_within}
 use Rattle.ep_defrag.specs.Streams.{name_of, same_stream}
-use Rattle.ep_defrag.specs.Calls.{Call, gives_frame, drops_streams, returns_buffer, Kept, accepted_in, kept_of, kept_unless, kept_by, kept_after, kept_after_all, concerns, calls_of, table_after}
+use Rattle.ep_defrag.specs.Calls.{Call, gives_frame, drops_streams, returns_buffer, Kept, accepted_in, kept_of}
+use Rattle.ep_defrag.specs.Calls.{kept_unless, kept_by, kept_after, kept_after_all, concerns, calls_of, table_after}
 use Rattle.ep_defrag.specs.Isolation.{StaysOpen, time_of_call, KeepsTimes, KeepsOwn}
 use Rattle.ep_defrag.proofs.CallLemmas.{after_one_more}
 

@@ -1,5 +1,6 @@
 -- What a fragment does to a pool, in each case of its processing.
-use Rattle.std.proofs.Common.{◌≡◌, ℕ, Bool, true, false, cond, [], ◌∷◌, Option, Some, None, Result, Ok, Err, sym, refl, ap, ◌∙◌, subst, arith, ◌⊎◌}
+use Rattle.std.proofs.Common.{◌≡◌, ℕ, Bool, true, false, cond, [], ◌∷◌, Option, Some, None, Result, Ok, Err, sym, refl}
+use Rattle.std.proofs.Common.{ap, ◌∙◌, subst, arith, ◌⊎◌}
 use Rattle.std.specs.Option.{option_map}
 use Rattle.std.specs.Cmp.{IsEquivalence}
 use Rattle.std.proofs.lemmas.Bool.{false≢true}
@@ -11,13 +12,20 @@ use Rattle.ep_defrag.specs.declared.ip_frag_id.IpFragId.{IpFragId}
 use Rattle.ep_defrag.specs.declared.ip_defrag_pool.IpDefragPool.{IpDefragPool}
 use Rattle.ep_defrag.specs.IpFragments.{IpFragment, fragment_end}
 use Rattle.ep_defrag.specs.FragmentRefusals.{RefusesWithin, MayNeedMemoryWithin}
-use Rattle.ep_defrag.specs.Buffers.{HoldsFragments, ip_number_of, data_of, sections_of, known_end_of, data_after, end_after}
+use Rattle.ep_defrag.specs.Buffers.{HoldsFragments, ip_number_of, data_of, sections_of, known_end_of, data_after}
+use Rattle.ep_defrag.specs.Buffers.{end_after}
 use Rattle.ep_defrag.specs.Streams.{PacketFragment, same_stream, source_of}
-use Rattle.ep_defrag.specs.Calls.{Kept, Payload, accepted_in, kept_with, payload_handed_out, answer_to_frame, table_with_fragment, table_with_frame, FrameMayNeedMemory}
-use Rattle.ep_defrag.specs.Pools.{Stream, limit_of, stream_named, HoldsEntry, HoldsTable, TakesFragment, TakesFrame, ChangesStream, BufferTakes, BufferRefuses, IsWhole, plain_payload, plain_frame_answer, payload_in, wants_memory}
+use Rattle.ep_defrag.specs.Calls.{Kept, Payload, accepted_in, kept_with, payload_handed_out, answer_to_frame}
+use Rattle.ep_defrag.specs.Calls.{table_with_fragment, table_with_frame, FrameMayNeedMemory}
+use Rattle.ep_defrag.specs.Pools.{Stream, limit_of, stream_named, HoldsEntry, HoldsTable, TakesFragment, TakesFrame}
+use Rattle.ep_defrag.specs.Pools.{ChangesStream, BufferTakes, BufferRefuses, IsWhole, plain_payload, plain_frame_answer}
+use Rattle.ep_defrag.specs.Pools.{payload_in, wants_memory}
 use Rattle.ep_defrag.proofs.StreamLemmas.{same_stream_laws}
 use Rattle.ep_defrag.proofs.HeldStreamLemmas.{HoldsTable-same, HoldsTable-changed, none_kept, entry_at}
-use Rattle.ep_defrag.proofs.OneFragmentLemmas.{refused_only, wanting_only, kept_refused, kept_complete, kept_more, answer_refused, answer_complete, answer_nothing, holds_in, entry_keeps, entry_more, entry_whole, entry_refused, answered_nothing, answered_payload, answered_refused}
+use Rattle.ep_defrag.proofs.OneFragmentLemmas.{refused_only, wanting_only, kept_refused, kept_complete, kept_more}
+use Rattle.ep_defrag.proofs.OneFragmentLemmas.{answer_refused, answer_complete, answer_nothing, holds_in, entry_keeps}
+use Rattle.ep_defrag.proofs.OneFragmentLemmas.{entry_more, entry_whole, entry_refused, answered_nothing}
+use Rattle.ep_defrag.proofs.OneFragmentLemmas.{answered_payload, answered_refused}
 
 -- a test, and what a table has for it
 chosen : {T : Type 0} (alike : Bool) (kept next : Option (Kept T)) (P : Option (Kept T) → Type 0)

@@ -1,8 +1,10 @@
 -- A fragment's bytes, put on data in parts: what lies within the data is overwritten, and what lies behind is appended.
-use Rattle.std.proofs.Common.{◌≡◌, ℕ, ◌+◌, ◌-◌, ◌≤◌, min, List, [], ◌++◌, append_assoc, length, take, drop, replicate, sym, ap, ◌∙◌, refl, arith, inl, inr}
+use Rattle.std.proofs.Common.{◌≡◌, ℕ, ◌+◌, ◌-◌, ◌≤◌, min, List, [], ◌++◌, append_assoc, length, take, drop, replicate}
+use Rattle.std.proofs.Common.{sym, ap, ◌∙◌, refl, arith, inl, inr}
 use Rattle.std.proofs.lemmas.Bool.{cases_lt}
 use Rattle.std.proofs.Math.Seq.{take-append-add, drop-append_seam}
-use Rattle.std.proofs.lemmas.List.{append-nil, take-append-drop, take-append-le, drop_all, take_all, take-replicate, length-take-le}
+use Rattle.std.proofs.lemmas.List.{append-nil, take-append-drop, take-append-le, drop_all, take_all, take-replicate}
+use Rattle.std.proofs.lemmas.List.{length-take-le}
 use Rattle.ep_defrag.specs.Buffers.{extended, overwritten}
 use Rattle.ep_defrag.proofs.DataLemmas.{length-extended}
 

@@ -1,5 +1,6 @@
 -- Frames that are built of cuts of a payload, and what a pool that is given them answers.
-use Rattle.std.specs.Prelude.{◌≡◌, ◌⊎◌, ℕ, ◌%◌, ◌<◌, ◌^◌, Bool, false, IsTrue, if◌then◌else◌, Some, None, option_map, List, [], ◌∷◌, ◌++◌, length, map}
+use Rattle.std.specs.Prelude.{◌≡◌, ◌⊎◌, ℕ, ◌%◌, ◌<◌, ◌^◌, Bool, false, IsTrue, if◌then◌else◌, Some, None, option_map}
+use Rattle.std.specs.Prelude.{List, [], ◌∷◌, ◌++◌, length, map}
 use Rattle.std.specs.List.{filter, items_where_true}
 use Rattle.ep_base.specs.Bytes.{AreBytes}
 use Rattle.ep_base.specs.declared.ip_number.IpNumber.{IpNumber}
@@ -19,7 +20,8 @@ use Rattle.ep_defrag.specs.declared.ip_frag_id.IpFragId.{IpFragId}
 use Rattle.ep_defrag.specs.IpFragments.{IpFragment, is_final, is_complete}
 use Rattle.ep_defrag.specs.PayloadCuts.{IsCut}
 use Rattle.ep_defrag.specs.Streams.{name_of, packet_fragment, same_stream, source_of}
-use Rattle.ep_defrag.specs.Calls.{Call, gives_frame, drops_streams, returns_buffer, Payload, Answer, payload_handed_out, nothing_handed_out}
+use Rattle.ep_defrag.specs.Calls.{Call, gives_frame, drops_streams, returns_buffer, Payload, Answer, payload_handed_out}
+use Rattle.ep_defrag.specs.Calls.{nothing_handed_out}
 
 -- ---- a frame that is built of a cut
 

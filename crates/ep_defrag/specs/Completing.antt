@@ -1,5 +1,6 @@
 -- Fragments that complete what came, and frames that carry them: no stream gets stuck.
-use Rattle.std.specs.Prelude.{◌≡◌, ◌⊎◌, ℕ, ◌+◌, ◌*◌, ◌/◌, ◌≤◌, min, max, Bool, true, false, ◌||◌, nat_lt, IsTrue, unwrap_or, Option, Some, List, [], ◌∷◌, ◌++◌, length}
+use Rattle.std.specs.Prelude.{◌≡◌, ◌⊎◌, ℕ, ◌+◌, ◌*◌, ◌/◌, ◌≤◌, min, max, Bool, true, false, ◌||◌, nat_lt, IsTrue}
+use Rattle.std.specs.Prelude.{unwrap_or, Option, Some, List, [], ◌∷◌, ◌++◌, length}
 use Rattle.std.specs.Option.{option_map}
 use Rattle.ep_base.specs.Bytes.{AreBytes}
 use Rattle.ep_packet.specs.declared.entry.Entry.{Entry}
@@ -10,7 +11,8 @@ use Rattle.ep_defrag.specs.declared.ip_frag_id.IpFragId.{IpFragId}
 use Rattle.ep_defrag.specs.IpFragments.{IpFragment, fragment_with, reach_of, end_of, is_complete, IsComplete}
 use Rattle.ep_defrag.specs.FragmentRefusals.{FitsWithin}
 use Rattle.ep_defrag.specs.Streams.{PacketFragment, packet_fragment, name_of}
-use Rattle.ep_defrag.specs.Calls.{Kept, payload_of, payload_handed_out, nothing_handed_out, answer_to_frame, table_with_frame}
+use Rattle.ep_defrag.specs.Calls.{Kept, payload_of, payload_handed_out, nothing_handed_out, answer_to_frame}
+use Rattle.ep_defrag.specs.Calls.{table_with_frame}
 
 -- ---- two fragments
 

@@ -1,11 +1,15 @@
 -- When a fragment is accepted after others, with which error it is refused, and when it needs no memory. No fragment
 -- ends behind a limit. The words with `within` take it; the others are the same for 65535, the limit of a buffer.
-use Rattle.std.specs.Prelude.{◌≡◌, ℕ, ◌%◌, ◌≤◌, Bool, true, false, not, ◌&&◌, ◌||◌, ◌==◌, nat_lt, Option, Some, None, List, [], ◌∷◌, ◌++◌, length, IsTrue}
+use Rattle.std.specs.Prelude.{◌≡◌, ℕ, ◌%◌, ◌≤◌, Bool, true, false, not, ◌&&◌, ◌||◌, ◌==◌, nat_lt, Option, Some, None}
+use Rattle.std.specs.Prelude.{List, [], ◌∷◌, ◌++◌, length, IsTrue}
 use Rattle.ep_base.specs.Tables.{first_row}
 use Rattle.ep_defrag.specs.declared.ip_defrag_error.IpDefragError.{IpDefragError}
-use Rattle.ep_defrag.specs.declared.ip_defrag_error.IpDefragError.TheVariants.{UnalignedFragmentPayloadLen, SegmentTooBig, ConflictingEnd, AllocationFailure}
+use Rattle.ep_defrag.specs.declared.ip_defrag_error.IpDefragError.TheVariants.{UnalignedFragmentPayloadLen}
+use Rattle.ep_defrag.specs.declared.ip_defrag_error.IpDefragError.TheVariants.{SegmentTooBig, ConflictingEnd}
+use Rattle.ep_defrag.specs.declared.ip_defrag_error.IpDefragError.TheVariants.{AllocationFailure}
 use Rattle.ep_defrag.specs.Ranges.{touches}
-use Rattle.ep_defrag.specs.IpFragments.{IpFragment, is_final, fragment_end, range_of, is_touched, reach_of, end_of, assembled}
+use Rattle.ep_defrag.specs.IpFragments.{IpFragment, is_final, fragment_end, range_of, is_touched, reach_of, end_of}
+use Rattle.ep_defrag.specs.IpFragments.{assembled}
 
 -- more fragments follow, and the length is no multiple of 8
 abbrev pub is_unaligned : IpFragment → Bool

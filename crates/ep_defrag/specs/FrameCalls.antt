@@ -16,7 +16,8 @@ use Rattle.ep_defrag.specs.declared.frame_run.FrameCall.TheVariants as call
 use Rattle.ep_defrag.specs.declared.frame_run.FrameAnswer.{FrameAnswer}
 use Rattle.ep_defrag.specs.declared.frame_run.FrameAnswer.TheVariants as answer
 use Rattle.ep_defrag.specs.Streams.{packet_fragment}
-use Rattle.ep_defrag.specs.Calls.{Call, gives_frame, drops_streams, returns_buffer, Kept, table_after, table_with, Answer, answer_to, CallMayNeedMemory, Payload, IfHandedOut}
+use Rattle.ep_defrag.specs.Calls.{Call, gives_frame, drops_streams, returns_buffer, Kept, table_after, table_with}
+use Rattle.ep_defrag.specs.Calls.{Answer, answer_to, CallMayNeedMemory, Payload, IfHandedOut}
 use Rattle.ep_defrag.specs.Pools.{plain_call, plain_answer, answer_wants_memory}
 
 -- What a call is read as: a call on the pool, or a frame whose bytes are refused with this error.

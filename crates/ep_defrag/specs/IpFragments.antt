@@ -1,5 +1,6 @@
 -- Fragments of one IP payload, and what a list of accepted ones says of it. A list is in the order of acceptance.
-use Rattle.std.specs.Prelude.{◌≡◌, ℕ, ◌+◌, ◌-◌, ◌*◌, max, Bool, not, ◌&&◌, IsTrue, if◌then◌else◌, Option, Some, None, is_some, unwrap_or, List, [], ◌∷◌, length, map, slice_index}
+use Rattle.std.specs.Prelude.{◌≡◌, ℕ, ◌+◌, ◌-◌, ◌*◌, max, Bool, not, ◌&&◌, IsTrue, if◌then◌else◌, Option, Some, None}
+use Rattle.std.specs.Prelude.{is_some, unwrap_or, List, [], ◌∷◌, length, map, slice_index}
 use Rattle.std.specs.List.{list_any, list_all, range_with_len}
 use Rattle.ep_defrag.specs.declared.ip_frag_range.IpFragRange.{IpFragRange}
 use Rattle.ep_defrag.specs.Ranges.{has_byte, touches}

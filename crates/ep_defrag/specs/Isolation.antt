@@ -1,10 +1,13 @@
 -- The answers of one stream among others, and payloads that are given in cuts.
-use Rattle.std.specs.Prelude.{◌≡◌, ℕ, ◌%◌, IsTrue, ◌⊎◌, Bool, Option, Some, None, IfSome, List, length, map, slice_get, take}
+use Rattle.std.specs.Prelude.{◌≡◌, ℕ, ◌%◌, IsTrue, ◌⊎◌, Bool, Option, Some, None, IfSome, List, length, map, slice_get}
+use Rattle.std.specs.Prelude.{take}
 use Rattle.std.specs.List.{All, filter_map, items_where_true}
 use Rattle.ep_defrag.specs.declared.ip_frag_id.IpFragId.{IpFragId}
 use Rattle.ep_defrag.specs.IpFragments.{IpFragment, is_final}
 use Rattle.ep_defrag.specs.PayloadCuts.{IsCut}
-use Rattle.ep_defrag.specs.Calls.{Call, gives_frame, drops_streams, returns_buffer, Answer, fragment_refused, payload_handed_out, nothing_handed_out, streams_dropped, buffer_returned, concerns, calls_of, table_after}
+use Rattle.ep_defrag.specs.Calls.{Call, gives_frame, drops_streams, returns_buffer, Answer, fragment_refused}
+use Rattle.ep_defrag.specs.Calls.{payload_handed_out, nothing_handed_out, streams_dropped, buffer_returned, concerns}
+use Rattle.ep_defrag.specs.Calls.{calls_of, table_after}
 
 -- of the answers to a list of calls, those to the calls that concern a stream
 abbrev pub answers_of : {T C V : Type 0} → (C → C → Bool) → IpFragId C → List (Call T C V) → List Answer → List Answer

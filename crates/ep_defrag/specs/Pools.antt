@@ -1,5 +1,6 @@
 -- What a pool holds of each stream, and what its calls bring and are answered, as plain data.
-use Rattle.std.specs.Prelude.{◌≡◌, ◌⊎◌, ℕ, ◌≤◌, ◌<◌, Bool, false, IsTrue, IsFalse, if◌then◌else◌, Option, Some, None, Result, Ok, Err, IfOk, IfErr, Vec, List, [], ◌∷◌, ◌++◌, length, take, map, slice_get}
+use Rattle.std.specs.Prelude.{◌≡◌, ◌⊎◌, ℕ, ◌≤◌, ◌<◌, Bool, false, IsTrue, IsFalse, if◌then◌else◌, Option, Some, None}
+use Rattle.std.specs.Prelude.{Result, Ok, Err, IfOk, IfErr, Vec, List, [], ◌∷◌, ◌++◌, length, take, map, slice_get}
 use Rattle.std.specs.Option.{option_map}
 use Rattle.std.specs.List.{All, HoldsAt, find, count_by, sum_by, items_where_true}
 use Rattle.std.specs.List.Sorted.{IsPermutation}
@@ -23,12 +24,17 @@ use Rattle.ep_defrag.specs.declared.pool_run.PoolAnswer.{PoolAnswer}
 use Rattle.ep_defrag.specs.declared.pool_run.PoolAnswer.TheVariants as answer
 use Rattle.ep_defrag.specs.declared.run.RunStop.{RunStop}
 use Rattle.ep_defrag.specs.IpFragments.{IpFragment, fragment_end, range_of, is_complete}
-use Rattle.ep_defrag.specs.FragmentRefusals.{FitsWithin, FitInTurnWithin, RefusesWithin, MayNeedMemoryWithin, is_want_of_memory}
-use Rattle.ep_defrag.specs.Buffers.{HoldsFragments, IsUnchanged, ip_number_of, data_of, sections_of, known_end_of, data_after, sections_after, end_after}
+use Rattle.ep_defrag.specs.FragmentRefusals.{FitsWithin, FitInTurnWithin, RefusesWithin, MayNeedMemoryWithin}
+use Rattle.ep_defrag.specs.FragmentRefusals.{is_want_of_memory}
+use Rattle.ep_defrag.specs.Buffers.{HoldsFragments, IsUnchanged, ip_number_of, data_of, sections_of, known_end_of}
+use Rattle.ep_defrag.specs.Buffers.{data_after, sections_after, end_after}
 use Rattle.ep_defrag.specs.Rooms.{LacksRoom}
 use Rattle.ep_defrag.specs.Streams.{PacketFragment, packet_fragment, name_of, same_stream, source_of}
 use Rattle.ep_defrag.specs.PayloadCuts.{IsCut}
-use Rattle.ep_defrag.specs.Calls.{Kept, accepted_in, accepted_at, answer_with, answers_to, table_after, table_with_fragment, CallMayNeedMemory, IfHandedOut, Call, gives_frame, drops_streams, returns_buffer, Payload, Answer, fragment_refused, payload_handed_out, nothing_handed_out, streams_dropped, buffer_returned}
+use Rattle.ep_defrag.specs.Calls.{Kept, accepted_in, accepted_at, answer_with, answers_to, table_after}
+use Rattle.ep_defrag.specs.Calls.{table_with_fragment, CallMayNeedMemory, IfHandedOut, Call, gives_frame, drops_streams}
+use Rattle.ep_defrag.specs.Calls.{returns_buffer, Payload, Answer, fragment_refused, payload_handed_out}
+use Rattle.ep_defrag.specs.Calls.{nothing_handed_out, streams_dropped, buffer_returned}
 
 -- ---- what a pool holds
 

@@ -1,5 +1,6 @@
 -- Ranges of positions in a payload.
-use Rattle.std.specs.Prelude.{ℕ, min, max, Bool, true, ◌&&◌, ◌||◌, nat_le, nat_lt, IsTrue, if◌then◌else◌, Option, Some, None, List, [], ◌∷◌}
+use Rattle.std.specs.Prelude.{ℕ, min, max, Bool, true, ◌&&◌, ◌||◌, nat_le, nat_lt, IsTrue, if◌then◌else◌, Option, Some}
+use Rattle.std.specs.Prelude.{None, List, [], ◌∷◌}
 use Rattle.ep_defrag.specs.declared.ip_frag_range.IpFragRange.{IpFragRange}
 
 -- whether the position is one of the range, from its start on and below its end

@@ -101,8 +101,8 @@ impl<Timestamp: Drop, CustomChannelId: Eq + Hash + Drop> IpDefragPool<Timestamp,
         self.streams.len()
     }
 
-    /// How many bytes of payloads the open streams hold: of each those from 0 to its greatest end, where gaps count too.
-    /// It looks at each stream. A payload that was handed out is its caller's, and not counted.
+    /// How many bytes of payloads the open streams hold: of each those from 0 to its greatest end, where gaps count
+    /// too. It looks at each stream. A payload that was handed out is its caller's, and not counted.
     pub fn held_bytes(&self) -> usize
         ensures { result ≡ min (held_bytes_of self.now) usize.MAX }
     {

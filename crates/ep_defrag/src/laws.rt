@@ -272,9 +272,9 @@ pub fn names<CustomChannelId: Eq>()
 /// handed out are complete, and nothing at the others. Among other calls the frames of that stream are answered so too:
 /// frames without a fragment, frames of other streams, buffers that are given back and drops may stand between them. No
 /// drop may drop the stream where it stands, and it is enough that each keeps the timestamps of the stream's own
-/// fragments. The stream is given no other fragments. A built frame is what the builder's step of IP headers writes, and
-/// a pool is given the layers that its bytes have. No cut is refused: a final one ends where the payload does, and so not
-/// below what came.
+/// fragments. The stream is given no other fragments. A built frame is what the builder's step of IP headers writes,
+/// and a pool is given the layers that its bytes have. No cut is refused: a final one ends where the payload does, and
+/// so not below what came.
 pub fn built_cuts_come_out<Timestamp, CustomChannelId: Eq, V>()
     ensures alone { (limit : ℕ) (keep : V → Timestamp → Bool) (name : IpFragId CustomChannelId) (payload : List ℕ)
         (cuts : List (BuiltCut Timestamp CustomChannelId)) → length payload ≤ limit →

@@ -1,21 +1,11 @@
-use Rattle.std.proofs.Common.{rules, [], map, sym, ap, ◌∙◌, arith}
-use Rattle.ep_defrag.specs.FrameCalls.{read_answer}
+use Rattle.std.proofs.Common.{rules, sym, ◌∙◌, arith}
 use Rattle.ep_defrag.proofs.FrameLemmas.{only_read, one_reading, read_cuts_at}
-use Rattle.ep_defrag.proofs.LoopLemmas.{answered_all, some_left, next_at, answered_more}
+use Rattle.ep_defrag.proofs.LoopLemmas.{answered_all, answered_none, some_left, has_room, next_at, answered_more}
 use Rattle.ep_defrag.proofs.frame_run.run_frames.Goals as goal
 
 pub loop-call-init : goal.loop-call-init
-loop-call-init g c = record {
-  reads = [];
-  each = tt;
-  answered = λ decide decided. ap (map read_answer) c.in-Ok.ensures.items;
-  held = λ decide decided. c.new-pool.ensures.holds;
-  limit = c.new-pool.ensures.limit;
-  no_memory = search rules;
-  whole = search rules;
-  counted = search rules;
-  enough = search rules;
-}
+loop-call-init g c = answered_none c.in-Ok.ensures.items (search rules) (search rules) c.new-pool.ensures.holds
+    c.new-pool.ensures.limit
 
 pub loop-call-preserved : goal.loop-call-preserved
 loop-call-preserved g c =
@@ -29,11 +19,12 @@ loop-call-preserved g c =
       no_memory = step.no_memory;
     }) (rw c.unwrap.ensures at c.push.ensures.items) c.push.ensures.capacity
 
--- there is room for the answer to the call, since fewer are answered than there are
 pub unwrap-requires : goal.unwrap-requires
-unwrap-requires g c =
-    let fewer = some_left c.loop-call.invariant c.in-Some.call c.next.new.self.rest.items c.in-Some.ensures.steps.0 in
-    c.push.ensures.succeeds (omega (arith, c.loop-call.invariant.enough, fewer))
+unwrap-requires g c = c.push.ensures.succeeds (omega (
+  arith,
+  has_room c.loop-call.invariant _ _
+      c.in-Some.ensures.steps.0,
+))
 
 -- the calls before the one at which it stops are those that were made
 pub returns-in_default-answer_frame-clause-read : goal.returns-in_default-answer_frame-clause-read

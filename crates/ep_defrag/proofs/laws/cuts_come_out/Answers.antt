@@ -7,7 +7,8 @@ use Rattle.ep_defrag.proofs.laws.cuts_come_out.Goals as goal
 
 pub returns-clause-only : goal.returns-clause-only
 returns-clause-only g c limit keep name calls payload short stays gives =
-    cuts_only limit g.CustomChannelId.PartialEq.eq keep payload short g.met.CustomChannelId.Eq.laws name calls stays gives
+    cuts_only limit g.CustomChannelId.PartialEq.eq keep payload short g.met.CustomChannelId.Eq.laws name calls stays
+    gives
 
 pub returns-clause-comes : goal.returns-clause-comes
 returns-clause-comes g c limit keep name calls payload short stays gives final covers =

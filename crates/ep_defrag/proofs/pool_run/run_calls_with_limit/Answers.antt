@@ -1,24 +1,15 @@
-use Rattle.std.proofs.Common.{rules, Bool, [], map, sym, ap, ◌∙◌, refl, arith}
+use Rattle.std.proofs.Common.{rules, Bool, map, sym, ap, ◌∙◌, refl, arith}
 use Rattle.ep_defrag.specs.Calls.{answers_to}
 use Rattle.ep_defrag.specs.FrameCalls.{calls_pool, pool_answers}
 use Rattle.ep_defrag.specs.Pools.{IsDecidedBy, plain_call, plain_answer}
 use Rattle.ep_defrag.proofs.AloneLemmas.{cuts_at}
-use Rattle.ep_defrag.proofs.FrameLemmas.{pool_says, calls_read, calls_answered}
-use Rattle.ep_defrag.proofs.LoopLemmas.{answered_all, some_left, next_at, answered_more}
+use Rattle.ep_defrag.proofs.FrameLemmas.{calls_read, calls_answered}
+use Rattle.ep_defrag.proofs.LoopLemmas.{answered_all, answered_none, some_left, has_room, next_at, answered_more}
 use Rattle.ep_defrag.proofs.pool_run.run_calls_with_limit.Goals as goal
 
 pub loop-call-init : goal.loop-call-init
-loop-call-init g c = record {
-  reads = [];
-  each = tt;
-  answered = λ decide decided. ap (map pool_says) c.in-Ok.ensures.items;
-  held = λ decide decided. c.with_limit-pool.ensures.holds;
-  limit = c.with_limit-pool.ensures.limit;
-  no_memory = search rules;
-  whole = search rules;
-  counted = search rules;
-  enough = search rules;
-}
+loop-call-init g c = answered_none c.in-Ok.ensures.items (search rules) (search rules) c.with_limit-pool.ensures.holds
+    c.with_limit-pool.ensures.limit
 
 pub loop-call-preserved : goal.loop-call-preserved
 loop-call-preserved g c =
@@ -31,11 +22,12 @@ loop-call-preserved g c =
       no_memory = step.no_memory;
     }) (rw c.unwrap.ensures at c.push.ensures.items) c.push.ensures.capacity
 
--- there is room for the answer to the call, since fewer are answered than there are
 pub unwrap-requires : goal.unwrap-requires
-unwrap-requires g c =
-    let fewer = some_left c.loop-call.invariant c.in-Some.call c.next.new.self.rest.items c.in-Some.ensures.steps.0 in
-    c.push.ensures.succeeds (omega (arith, c.loop-call.invariant.enough, fewer))
+unwrap-requires g c = c.push.ensures.succeeds (omega (
+  arith,
+  has_room c.loop-call.invariant _ _
+      c.in-Some.ensures.steps.0,
+))
 
 pub returns-in_default-answer_next : goal.returns-in_default-answer_next
 returns-in_default-answer_next g c =

@@ -2,7 +2,7 @@ use Rattle.std.proofs.Common.{ap, sym, refl, subst, ◌∙◌}
 use Rattle.std.specs.Option.{option_map}
 use Rattle.ep_defrag.specs.declared.ip_defrag_pool.OpenStream.{OpenStream}
 use Rattle.ep_defrag.specs.Pools.{stream_at, payload_in, IsWhole}
-use Rattle.ep_defrag.proofs.EntryLemmas.{absent_stream, present_stream, written_stream, changed_again}
+use Rattle.ep_defrag.proofs.EntryLemmas.{absent_stream, changed_again, rewritten_stream}
 use Rattle.ep_defrag.proofs.TakingLemmas.{goes_on_refused, goes_on_more, goes_on_whole}
 use Rattle.ep_defrag.proofs.ip_defrag_pool.IpDefragPool.process_fragment.Goals as goal
 
@@ -14,60 +14,39 @@ begin-requires g c =
 
 pub returns-in-Err : goal.returns-in-Err
 returns-in-Err g c =
-    let was = c.in-Some.stream.now in
-    let next : OpenStream _ = record { buffer = c.add.new.buffer; timestamp = was.timestamp } in
-    let of =
-    present_stream g.CustomChannelId.PartialEq.eq g.met.CustomChannelId.Eq.laws _ (λ i a b. c.names.ensures a b i)
-    c.self.inside.limit c.self.inside.streams.entries c.args.id was
-    (sym c.in-Some.ensures.value) in
-    let written = c.get_mut.follows.holds next in
-    let now =
-    written_stream g.CustomChannelId.PartialEq.eq g.met.CustomChannelId.Eq.laws _ (λ i a b. c.names.ensures a b i)
-    c.self.inside.limit c.self.inside.streams.entries (c.get_mut.follows.lender next).entries c.args.id written.4 was
-    next of written.0 in
-    rw (← c.self.view_is)
-    (goes_on_refused g.CustomChannelId.PartialEq.eq g.met.CustomChannelId.Eq.laws _ _ c.args.id _ c.args.timestamp
-    (stream_at (of.key, was)) (stream_at (of.key, next))
-    of.named refl now refl c.in-Err.error c.in-Err.ensures.refuses)
+    let next : OpenStream _ = record { buffer = c.add.new.buffer; timestamp = c.in-Some.stream.now.timestamp } in
+    let of = rewritten_stream g.CustomChannelId.PartialEq.eq g.met.CustomChannelId.Eq.laws _
+    (λ i a b. c.names.ensures a b i) c.self.inside.limit c.self.inside.streams.entries
+    (c.get_mut.follows.lender next).entries c.args.id (c.get_mut.follows.holds next).4 c.in-Some.stream.now next
+    (sym c.in-Some.ensures.value) (c.get_mut.follows.holds next).0 in
+    rw (← c.self.view_is) (goes_on_refused g.CustomChannelId.PartialEq.eq g.met.CustomChannelId.Eq.laws _ _ c.args.id _
+    c.args.timestamp (stream_at (of.key, c.in-Some.stream.now)) (stream_at (of.key, next)) of.named refl of.now refl
+    c.in-Err.error
+    c.in-Err.ensures.refuses)
 
 pub returns-then-not-is_whole : goal.returns-then-not-is_whole
 returns-then-not-is_whole g c =
-    let was = c.in-Some.stream.now in
     let next : OpenStream _ = record { buffer = c.add.new.buffer; timestamp = c.args.timestamp } in
-    let of =
-    present_stream g.CustomChannelId.PartialEq.eq g.met.CustomChannelId.Eq.laws _ (λ i a b. c.names.ensures a b i)
-    c.self.inside.limit c.self.inside.streams.entries c.args.id was
-    (sym c.in-Some.ensures.value) in
-    let written = c.get_mut.follows.holds next in
-    let now =
-    written_stream g.CustomChannelId.PartialEq.eq g.met.CustomChannelId.Eq.laws _ (λ i a b. c.names.ensures a b i)
-    c.self.inside.limit c.self.inside.streams.entries (c.get_mut.follows.lender next).entries c.args.id written.4 was
-    next of written.0 in
-    rw (← c.self.view_is)
-    (goes_on_more g.CustomChannelId.PartialEq.eq g.met.CustomChannelId.Eq.laws _ _ c.args.id _ c.args.timestamp
-    (stream_at (of.key, was)) (stream_at (of.key, next))
-    of.named refl now refl c.in-Ok.ensures.takes (subst (IsWhole c.add.new.buffer) c.if-not-is_whole.true
+    let of = rewritten_stream g.CustomChannelId.PartialEq.eq g.met.CustomChannelId.Eq.laws _
+    (λ i a b. c.names.ensures a b i) c.self.inside.limit c.self.inside.streams.entries
+    (c.get_mut.follows.lender next).entries c.args.id (c.get_mut.follows.holds next).4 c.in-Some.stream.now next
+    (sym c.in-Some.ensures.value) (c.get_mut.follows.holds next).0 in
+    rw (← c.self.view_is) (goes_on_more g.CustomChannelId.PartialEq.eq g.met.CustomChannelId.Eq.laws _ _ c.args.id _
+    c.args.timestamp (stream_at (of.key, c.in-Some.stream.now)) (stream_at (of.key, next)) of.named refl of.now refl
+    c.in-Ok.ensures.takes (subst (IsWhole c.add.new.buffer) c.if-not-is_whole.true
     c.in-Ok.ensures.whole))
 
 pub returns : goal.returns
 returns g c =
-    let was = c.in-Some.stream.now in
     let next : OpenStream _ = record { buffer = c.add.new.buffer; timestamp = c.args.timestamp } in
-    let of =
-    present_stream g.CustomChannelId.PartialEq.eq g.met.CustomChannelId.Eq.laws _ (λ i a b. c.names.ensures a b i)
-    c.self.inside.limit c.self.inside.streams.entries c.args.id was
-    (sym c.in-Some.ensures.value) in
-    let written = c.get_mut.follows.holds next in
-    let now =
-    written_stream g.CustomChannelId.PartialEq.eq g.met.CustomChannelId.Eq.laws _ (λ i a b. c.names.ensures a b i)
-    c.self.inside.limit c.self.inside.streams.entries (c.get_mut.follows.lender next).entries c.args.id written.4 was
-    next of written.0 in
-    rw (← c.self.view_is)
-    (goes_on_whole g.CustomChannelId.PartialEq.eq g.met.CustomChannelId.Eq.laws _ _ c.args.id _ c.args.timestamp
-    (stream_at (of.key, was)) (stream_at (of.key, next))
-    of.named refl
-    (changed_again g.CustomChannelId.PartialEq.eq g.met.CustomChannelId.Eq.laws _ _ _ c.args.id _ _ now
+    let of = rewritten_stream g.CustomChannelId.PartialEq.eq g.met.CustomChannelId.Eq.laws _
+    (λ i a b. c.names.ensures a b i) c.self.inside.limit c.self.inside.streams.entries
+    (c.get_mut.follows.lender next).entries c.args.id (c.get_mut.follows.holds next).4 c.in-Some.stream.now next
+    (sym c.in-Some.ensures.value) (c.get_mut.follows.holds next).0 in
+    rw (← c.self.view_is) (goes_on_whole g.CustomChannelId.PartialEq.eq g.met.CustomChannelId.Eq.laws _ _ c.args.id _
+    c.args.timestamp (stream_at (of.key, c.in-Some.stream.now)) (stream_at (of.key, next)) of.named refl
+    (changed_again g.CustomChannelId.PartialEq.eq g.met.CustomChannelId.Eq.laws _ _ _ c.args.id _ _ of.now
     c.hand_out.ensures.ends)
     c.in-Ok.ensures.takes
     (subst (IsWhole c.add.new.buffer) c.if-not-is_whole.false c.in-Ok.ensures.whole) c.hand_out.result
-    (c.hand_out.ensures.payload ∙ ap (option_map (payload_in c.args.id)) now.here))
+    (c.hand_out.ensures.payload ∙ ap (option_map (payload_in c.args.id)) of.now.here))
