@@ -27,7 +27,6 @@ static struct etherparse_fragment_fields fragment = {.ip_number = 17, .more_frag
 
 /* ---- the calls */
 
-static void nothing(void) {}
 static void version(void) { status = etherparse_version(); }
 static void slice(void) { status = etherparse_slice(ETHERPARSE_ENTRY_ETHERNET, 0, frame, frame_len, &packet); }
 static void slice_cut(void) { status = etherparse_slice(ETHERPARSE_ENTRY_ETHERNET, 0, frame, 40, &packet); }
@@ -76,35 +75,48 @@ static void pool_free(void) { etherparse_pool_free(pool); }
 
 /* ---- a call on a painted stack */
 
-static void *run(void *call) {
-    void (*it)(void);
-    memcpy(&it, call, sizeof it);
-    it();
+enum { OWN = 128 }; /* at most so many bytes below its frame are those of the function that makes the call */
+
+struct painted {
+    void (*call)(void);
+    uint8_t *stack;
+    size_t taken;
+};
+
+/* Paints what lies below its own frame, makes the call, and looks for the deepest byte that this wrote: in the thread
+ * itself, since starting and ending one take stack too. */
+static void *run(void *argument) {
+    struct painted *painted = argument;
+    uint8_t *const top = __builtin_frame_address(0);
+    volatile uint8_t *at = painted->stack;
+    while (at < top - OWN) *at++ = PAINT;
+    painted->call();
+    at = painted->stack;
+    while (at < top - OWN && *at == PAINT) at++;
+    painted->taken = (size_t)(top - at);
     return NULL;
 }
 
-/* How many bytes of a stack of `len` the call writes, what the thread itself takes among them. */
-static size_t written_by(void (*call)(void), size_t len) {
+/* How many bytes of a stack of `len` the call needs, with the frame of the function that makes it. */
+static size_t needed_by(void (*call)(void), size_t len) {
     static uint8_t *stack;
     if (!stack && posix_memalign((void **)&stack, (size_t)sysconf(_SC_PAGESIZE), 1 << 17)) exit(2);
-    memset(stack, PAINT, len);
+    struct painted painted = {call, stack, 0};
     pthread_attr_t attributes;
     pthread_t thread;
     if (pthread_attr_init(&attributes) || pthread_attr_setstack(&attributes, stack, len)
-        || pthread_create(&thread, &attributes, run, &call) || pthread_join(thread, NULL))
+        || pthread_create(&thread, &attributes, run, &painted) || pthread_join(thread, NULL))
         exit(2);
     pthread_attr_destroy(&attributes);
-    size_t untouched = 0;
-    while (untouched < len && stack[untouched] == PAINT) untouched++;
-    return len - untouched;
+    return painted.taken;
 }
 
 static int failed;
 
-/* A call of this status needs at most so many bytes, beside those of a thread that does nothing. */
+/* A call of this status needs at most so many bytes. */
 static void needs(const char *name, void (*call)(void), uint32_t wanted, size_t most, size_t len) {
     status = wanted;
-    size_t own = written_by(nothing, len), taken = written_by(call, len) - own;
+    size_t taken = needed_by(call, len);
     if (getenv("ETHERPARSE_SHOW_STACK")) fprintf(stderr, "%-24s %6zu\n", name, taken);
     if (status != wanted) printf("%s: status %u\n", name, (unsigned)status), failed = 1;
     if (taken > most) printf("%s: %zu bytes of stack, above %zu\n", name, taken, most), failed = 1;
