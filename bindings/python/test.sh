@@ -16,4 +16,9 @@ tar -xzf "$work"/etherparse-c-*.tar.gz -C "$work"
 cd "$here"
 ETHERPARSE_C_LIBRARY=$(echo "$work"/etherparse-c-*-linux/lib/libetherparse_c.so) PYTHONDONTWRITEBYTECODE=1 \
     python3 -m unittest discover --quiet --start-directory tests > "$work/log" 2>&1 || { cat "$work/log"; exit 1; }
-echo "bindings: the Python module: $(grep '^Ran' "$work/log")"
+typed=
+if mypy --version > /dev/null 2>&1; then
+    mypy --strict --no-error-summary --cache-dir "$work/types" etherparse_c
+    typed=", and mypy has nothing to say of its types"
+fi
+echo "bindings: the Python module: $(grep '^Ran' "$work/log")$typed"

@@ -177,7 +177,7 @@ class _Struct(ctypes.Structure):
     """A struct of the header, printed with its fields."""
 
     def __repr__(self) -> str:
-        values = [(name, getattr(self, name)) for name, _ in self._fields_]  # type: ignore[misc]
+        values = [(field[0], getattr(self, field[0])) for field in self._fields_]
         fields = ", ".join(f"{name}={[*it] if isinstance(it, ctypes.Array) else it!r}" for name, it in values)
         return f"{type(self).__name__}({fields})"
 
@@ -332,6 +332,7 @@ class Refused(EtherparseError, ValueError):
 
     def __init__(self, refusal: Refusal) -> None:
         super().__init__(str(refusal))
+        self._refusal = refusal
         self.kind = RefusalKind(refusal.kind)
         self.layer: Optional[Layer] = Layer(refusal.layer) if refusal.layer else None
         self.len_source = LenSource(refusal.len_source)
@@ -340,6 +341,9 @@ class Refused(EtherparseError, ValueError):
         self.len: int = refusal.len
         self.layer_start_offset: int = refusal.layer_start_offset
 
+    def __reduce__(self) -> Tuple[Any, ...]:  # so that it comes from another process as what it is
+        return type(self), (self._refusal,)
+
 
 class FragmentRefused(EtherparseError, ValueError):
     """A fragment does not fit to those that came before; the pool is as it was."""
@@ -347,6 +351,9 @@ class FragmentRefused(EtherparseError, ValueError):
     def __init__(self, fragment_refusal: int) -> None:
         self.fragment_refusal = FragmentRefusal(fragment_refusal)
         super().__init__(self.fragment_refusal.name.lower().replace("_", " "))
+
+    def __reduce__(self) -> Tuple[Any, ...]:
+        return type(self), (int(self.fragment_refusal),)
 
 
 class TooLong(EtherparseError, ValueError):

@@ -1,8 +1,10 @@
 """Compares the module with the stored answers of the program (crates/frame_bench/cases), and calls with each other."""
 import array
+import copy
 import doctest
 import itertools
 import pathlib
+import pickle
 import re
 import struct
 import sys
@@ -196,6 +198,8 @@ class Slicing(unittest.TestCase):
         told = (error.kind, error.layer, error.required_len, error.len, error.len_source, error.layer_start_offset)
         self.assertEqual(told, (ep.RefusalKind.LEN, ep.Layer.IPV4_PACKET, 36, 26, ep.LenSource.SLICE, 14))
         self.assertEqual(str(error), "Ipv4Packet: 36 bytes needed, 26 there (limit Slice, offset 14)")
+        for again in (pickle.loads(pickle.dumps(error)), copy.copy(error)):
+            self.assertEqual((type(again), str(again), again.layer), (ep.Refused, str(error), error.layer))
         self.assertEqual(str(ep.Refusal()), "no refusal")
         with self.assertRaises(ep.UnknownChoice):
             ep.slice(FRAME, 4)
@@ -286,7 +290,9 @@ class Pools(unittest.TestCase):
             self.assertEqual(whole.data, self.payload)
             with self.assertRaises(ep.FragmentRefused) as raised:
                 pool.push(list(fragments(9, bytes(4104), 4096))[1], 5, entry=ep.Entry.IP)
-            self.assertEqual(raised.exception.fragment_refusal, ep.FragmentRefusal.TOO_BIG)
+            again = pickle.loads(pickle.dumps(raised.exception))
+            for error in (raised.exception, again):
+                self.assertEqual((error.fragment_refusal, str(error)), (ep.FragmentRefusal.TOO_BIG, "too big"))
             with self.assertRaises(ep.Refused):
                 pool.push(b"\x45", 5, entry=ep.Entry.IP)
             with self.assertRaises(ep.UnknownChoice):
