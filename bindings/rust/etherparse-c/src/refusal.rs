@@ -59,8 +59,9 @@ numbered! {
 /// assert_eq!((refusal.kind(), refusal.number()), (Some(RefusalKind::IpVersion), Some(5)));
 /// assert_eq!(refusal.len_error(), None);
 /// assert_eq!(refusal.to_string(), "UnsupportedIpVersion 5");
+/// assert_eq!(format!("{refusal:?}"), "Refusal(IpVersion, 5)");
 /// ```
-#[derive(Clone, Copy, Debug, PartialEq, Eq, Hash)]
+#[derive(Clone, Copy, PartialEq, Eq, Hash)]
 #[must_use]
 pub struct Refusal(sys::Refusal);
 
@@ -109,6 +110,22 @@ impl Refusal {
             layer: Layer::of(self.0.layer)?,
             layer_start_offset: self.0.layer_start_offset,
         })
+    }
+}
+
+impl fmt::Debug for Refusal {
+    /// Its kind, or its error of length, and its number.
+    fn fmt(&self, f: &mut fmt::Formatter<'_>) -> fmt::Result {
+        let mut told = f.debug_tuple("Refusal");
+        match (self.len_error(), self.kind()) {
+            (Some(error), _) => told.field(&error),
+            (None, Some(kind)) => told.field(&kind),
+            (None, None) => told.field(&self.0),
+        };
+        if let Some(number) = self.number() {
+            told.field(&number);
+        }
+        told.finish()
     }
 }
 
