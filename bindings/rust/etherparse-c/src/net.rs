@@ -342,8 +342,8 @@ impl<'a> Ipv6Slice<'a> {
         &self.headers[40..]
     }
 
-    /// What lies behind the headers, up to the end that the payload length says; where that is 0, up to the end of the last
-    /// layer's payload.
+    /// What lies behind the headers, up to the end that the payload length says; where that is 0, up to the end of the
+    /// frame, or to that of MACsec where its short length is not 0.
     #[must_use]
     #[inline]
     pub fn payload(&self) -> &'a [u8] {

@@ -194,6 +194,23 @@ fn fields_of_links_tags_and_arp() {
 }
 
 #[test]
+fn ipv6_without_a_length_ends_with_what_carries_it() {
+    let datagram = [&[0x60, 0, 0, 0, 0, 0, 17, 64][..], &[1; 32], &[0, 21, 4, 210, 0, 9, 0, 0], &[5, 6, 7]].concat();
+    let tagged = |short_len: u8| [&[0, short_len, 0, 0, 0, 5, 0x86, 0xdd][..], &datagram].concat();
+    for (entry, frame, len) in [(EtherType::IPV6, datagram.clone(), 11), (EtherType::MACSEC, tagged(0), 11)] {
+        let sliced = SlicedPacket::from_ether_type(entry, &frame).unwrap();
+        let Some(NetSlice::Ipv6(ip)) = sliced.net() else { panic!("{sliced:?}") };
+        assert_eq!((ip.payload().len(), sliced.payload()), (len, &[5][..]));
+    }
+    // a short length is below 48, so that a header of 40 bytes has 3 behind it
+    let mut none = [&tagged(2 + 40 + 3)[..8], &datagram[..40], &[5, 6, 7, 8]].concat();
+    none[14] = 59; // no next header
+    let sliced = SlicedPacket::from_ether_type(EtherType::MACSEC, &none).unwrap();
+    let Some(NetSlice::Ipv6(ip)) = sliced.net() else { panic!("{sliced:?}") };
+    assert_eq!((ip.payload(), sliced.payload()), (&[5, 6, 7][..], &[5, 6, 7][..]));
+}
+
+#[test]
 fn builders_build() {
     let ethernet = PacketBuilder::ethernet2(FROM, TO);
     let mut frame = b"before".to_vec();
