@@ -21,7 +21,7 @@ HERE = os.path.dirname(os.path.abspath(__file__))
 REPEATS = 5
 SHORT_REPEATS = 20
 FRAMES = ["udp64", "udp1400", "vlan2", "mix"]
-MEASUREMENTS = ["slicing", "slicing-apart", "filling", "decoding", "rereading", "ipv4-slice", "ip-headers"]
+MEASUREMENTS = ["slicing", "slicing-apart", "filling", "lax-filling", "decoding", "rereading", "ipv4-slice", "ip-headers"]
 BUILDING = ["building", "building-from-addresses"]
 # the fragments of a corpus, by how many rounds are made besides the first
 FRAGMENTS = dict.fromkeys(["streams", "interleaved", "queue", "crowd"], 5)

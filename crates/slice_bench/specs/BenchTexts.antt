@@ -20,6 +20,7 @@ abbrev pub measurement_name : Measurement → List ℕ
 measurement_name measurement.Slicing = codes "slicing"
 measurement_name measurement.SlicingApart = codes "slicing-apart"
 measurement_name measurement.Filling = codes "filling"
+measurement_name measurement.LaxFilling = codes "lax-filling"
 measurement_name measurement.Decoding = codes "decoding"
 measurement_name measurement.Rereading = codes "rereading"
 measurement_name measurement.SlicingIpv4 = codes "ipv4-slice"

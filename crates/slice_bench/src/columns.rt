@@ -2,8 +2,8 @@
 
 use etherparse::err::packet::SliceError;
 use etherparse::{
-    Entry, IpHeaders, Ipv4Slice, LinkHeader, LinkSlice, NetHeaders, NetSlice, PacketHeaders,
-    SlicedPacket, TransportHeader, TransportSlice,
+    Entry, IpHeaders, Ipv4Slice, LaxNetSlice, LaxSlicedPacket, LinkHeader, LinkSlice, NetHeaders,
+    NetSlice, PacketHeaders, SlicedPacket, TransportHeader, TransportSlice,
 };
 
 /// Something that is done with each frame, or with each IP packet, in turn.
@@ -81,6 +81,27 @@ impl<'a> Column<'a> for Filling<'a> {
     fn number(&mut self, bytes: &'a [u8]) -> u64 {
         match self.packet.slice_into(Entry::Ethernet, bytes) {
             Ok(()) => layers_number(&self.packet),
+            Err(_) => 0,
+        }
+    }
+}
+
+/// `LaxSlicedPacket::slice_into`, with one packet that is reused.
+#[derive(Drop)]
+pub struct LaxFilling<'a> {
+    packet: LaxSlicedPacket<'a>,
+}
+
+impl<'a> Column<'a> for LaxFilling<'a> {
+    fn new() -> LaxFilling<'a> {
+        LaxFilling {
+            packet: LaxSlicedPacket::new(),
+        }
+    }
+
+    fn number(&mut self, bytes: &'a [u8]) -> u64 {
+        match self.packet.slice_into(Entry::Ethernet, bytes) {
+            Ok(()) => lax_layers_number(&self.packet),
             Err(_) => 0,
         }
     }
@@ -177,6 +198,16 @@ fn layers_number(packet: &SlicedPacket<'_>) -> u64 {
     headers.wrapping_add(packet.payload().len() as u64)
 }
 
+/// The same of a packet that is sliced laxly.
+#[inline]
+fn lax_layers_number(packet: &LaxSlicedPacket<'_>) -> u64 {
+    let link = link_number(&packet.link);
+    let net = lax_net_number(&packet.net);
+    let transport = transport_number(&packet.transport);
+    let headers = u64::from(link) + u64::from(net) + u64::from(transport);
+    headers.wrapping_add(packet.payload().len() as u64)
+}
+
 /// What is summed of a link layer.
 #[inline]
 fn link_number(link: &Option<LinkSlice<'_>>) -> u16 {
@@ -200,6 +231,22 @@ fn net_number(net: &Option<NetSlice<'_>>) -> u32 {
             u32::from(header.next_header().0) + u32::from(header.payload_length())
         }
         Some(NetSlice::Arp(_)) | None => 0,
+    }
+}
+
+/// The same of one that is sliced laxly.
+#[inline]
+fn lax_net_number(net: &Option<LaxNetSlice<'_>>) -> u32 {
+    match net {
+        Some(LaxNetSlice::Ipv4(packet)) => {
+            let header = packet.header();
+            u32::from(header.protocol().0) + u32::from(header.total_len())
+        }
+        Some(LaxNetSlice::Ipv6(packet)) => {
+            let header = packet.header();
+            u32::from(header.next_header().0) + u32::from(header.payload_length())
+        }
+        Some(LaxNetSlice::Arp(_)) | None => 0,
     }
 }
 

@@ -6,7 +6,8 @@ ghost use Rattle.slice_bench.specs.BenchTexts.{measurement_name};
 use crate::bench_error::BenchError;
 use crate::building::{FrameParts, built, built_from_addresses, built_with_size};
 use crate::columns::{
-    Decoding, Filling, ReadingIpHeaders, Rereading, Slicing, SlicingApart, SlicingIpv4, total,
+    Decoding, Filling, LaxFilling, ReadingIpHeaders, Rereading, Slicing, SlicingApart, SlicingIpv4,
+    total,
 };
 use crate::reassembly::handed_out;
 use std::alloc::Global;
@@ -33,6 +34,8 @@ pub enum Measurement {
     SlicingApart,
     /// A frame is sliced into one packet that is reused.
     Filling,
+    /// The same laxly.
+    LaxFilling,
     /// The headers of a frame are decoded.
     Decoding,
     /// The headers of a frame are decoded into one value that is reused.
@@ -53,10 +56,11 @@ pub enum Measurement {
 
 impl Measurement {
     /// Each of them, in the order in which they are made.
-    pub const ALL: [Measurement; 11] = [
+    pub const ALL: [Measurement; 12] = [
         Measurement::Slicing,
         Measurement::SlicingApart,
         Measurement::Filling,
+        Measurement::LaxFilling,
         Measurement::Decoding,
         Measurement::Rereading,
         Measurement::SlicingIpv4,
@@ -75,6 +79,7 @@ impl Measurement {
             Measurement::Slicing => "slicing",
             Measurement::SlicingApart => "slicing-apart",
             Measurement::Filling => "filling",
+            Measurement::LaxFilling => "lax-filling",
             Measurement::Decoding => "decoding",
             Measurement::Rereading => "rereading",
             Measurement::SlicingIpv4 => "ipv4-slice",
@@ -92,6 +97,7 @@ impl Measurement {
             Measurement::Slicing
             | Measurement::SlicingApart
             | Measurement::Filling
+            | Measurement::LaxFilling
             | Measurement::Decoding
             | Measurement::Rereading
             | Measurement::Reassembly => corpus.frames.len(),
@@ -108,6 +114,7 @@ impl Measurement {
             Measurement::Slicing => Ok(total::<Slicing>(corpus.frames.as_slice())),
             Measurement::SlicingApart => Ok(total::<SlicingApart>(corpus.frames.as_slice())),
             Measurement::Filling => Ok(total::<Filling>(corpus.frames.as_slice())),
+            Measurement::LaxFilling => Ok(total::<LaxFilling>(corpus.frames.as_slice())),
             Measurement::Decoding => Ok(total::<Decoding>(corpus.frames.as_slice())),
             Measurement::Rereading => Ok(total::<Rereading>(corpus.frames.as_slice())),
             Measurement::SlicingIpv4 => Ok(total::<SlicingIpv4>(corpus.ip_packets.as_slice())),
