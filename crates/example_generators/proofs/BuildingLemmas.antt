@@ -1,9 +1,12 @@
 -- What a step of UDP holds, and one of TCP once its header was changed; what is appended where there may be no step.
-use Rattle.std.proofs.Common.{◌≡◌, List, ℕ, Option, Some, None, Result, Ok, ap, refl, ◌∙◌}
-use Rattle.std.specs.Prelude.{Vec, MatchResult}
+use Rattle.std.proofs.Common.{◌≡◌, List, ℕ, ◌+◌, ◌<◌, ◌++◌, length, Option, Some, None, Result, Ok, Err, ap, refl}
+use Rattle.std.proofs.Common.{subst, ◌∙◌}
+use Rattle.std.specs.Prelude.{Vec, MatchResult, OnOk, OnErr, IfErr, vec_len, vec_capacity}
 use Rattle.etherparse.specs.AppendedFrames.{AppendsFrame}
-use Rattle.etherparse.specs.BuiltFrames.{Held, Inside, held_transport, transport_packet}
+use Rattle.etherparse.specs.BuildErrors.{IsBuildable, IsBuildError}
+use Rattle.etherparse.specs.BuiltFrames.{Held, Inside, built_frame, built_size, held_transport, transport_packet}
 use Rattle.etherparse.specs.Types.BuildWriteError.{BuildWriteError}
+use Rattle.etherparse.specs.Types.BuildWriteError.TheVariants.{OutOfMemory}
 use Rattle.etherparse.specs.Types.IpHeaders.{IpHeaders}
 use Rattle.etherparse.specs.Types.LinkPart.{LinkPart}
 use Rattle.etherparse.specs.Types.TcpHeader.{TcpHeader}
@@ -18,6 +21,17 @@ pub same_transport : (link known_link : LinkPart) (headers known_headers : IpHea
 same_transport link known_link headers known_headers behind link_is headers_are =
     ap (λ (part : LinkPart). held_transport part headers behind) link_is
     ∙ ap (λ (ip : IpHeaders). held_transport known_link ip behind) headers_are
+
+-- what writing a step appends is the frame of the headers that the step is known to hold
+pub appends_known : {Z : Type 0} (held known : Held) (payload : List ℕ) (old new : Vec ℕ Z)
+    (result : Result (Unit {0}) BuildWriteError) → held ≡ known
+    → OnOk result (IsBuildable held (length payload) × (new.items ≡ old.items ++ built_frame held payload))
+    → OnErr result (new.items ≡ old.items) → IfErr result (IsBuildError held (length payload))
+    → (result ≡ Err OutOfMemory → vec_capacity old < vec_len old + built_size held (length payload))
+    → AppendsFrame known payload old new result
+appends_known held known payload old new result same ok err refused full =
+    subst (λ (h : Held). AppendsFrame h payload old new result) same
+    (record { ok = ok; err = err; refused = refused; full = full })
 
 -- the headers that were found are written
 pub appends_some : {Z : Type 0} (found : Option Held) (held : Held) (payload : List ℕ) (old new : Vec ℕ Z)

@@ -1,5 +1,6 @@
 -- How a payload is cut into fragments, and the headers of each.
-use Rattle.std.specs.Prelude.{ℕ, ◌+◌, min, nat_le, nat_lt, Bool, false, if◌then◌else◌, List, [], ◌∷◌, length, slice_range, Option, Some, None}
+use Rattle.std.specs.Prelude.{ℕ, ◌+◌, min, nat_le, nat_lt, Bool, false, if◌then◌else◌, List, [], ◌∷◌, length}
+use Rattle.std.specs.Prelude.{slice_range, Option, Some, None}
 use Rattle.etherparse.specs.BuiltFrames.{Held, held_ip}
 use Rattle.etherparse.specs.Ipv4.{default_ipv4_header}
 use Rattle.etherparse.specs.Types.IpHeaders.{IpHeaders}

@@ -1,5 +1,5 @@
-//! Prints frames that are built here, in lines of hexadecimal under headings: a request and its answer, the first segment
-//! of a TCP connection, a datagram of IPv6 with extension headers, and the fragments of a long datagram.
+//! Prints frames that are built here, in lines of hexadecimal under headings: a request and its answer, the first
+//! segment of a TCP connection, a datagram of IPv6 with extension headers, and the fragments of a long datagram.
 #![tactic(auto)]
 
 ghost use Rattle.std.specs.Prelude.{◌≡◌};

@@ -1,5 +1,5 @@
-//! Packets of which bytes are missing, read laxly: each length field with what it may say, each header cut at each byte,
-//! chains of extension headers, and fragments. The answers are from the pictures of the standards.
+//! Packets of which bytes are missing, read laxly: each length field with what it may say, each header cut at each
+//! byte, chains of extension headers, and fragments. The answers are from the pictures of the standards.
 
 use crate::err::packet::SliceError;
 use crate::err::{Layer, ipv4, macsec};

@@ -179,34 +179,13 @@ fn payloads_of_ip(rt: HostRuntime) {
 
 #[test]
 fn payloads_of_udp(rt: HostRuntime) {
-    reads(
-        &rt,
-        Entry::Ethernet,
-        FRAME,
-        (0, 0, 20),
-        PayloadSlice::Udp(PAYLOAD),
-    );
-    reads(
-        &rt,
-        IPV4,
-        &FRAME[14..],
-        (0, 0, 20),
-        PayloadSlice::Udp(PAYLOAD),
-    );
-    reads(
-        &rt,
-        Entry::Ip,
-        &FRAME[14..],
-        (0, 0, 20),
-        PayloadSlice::Udp(PAYLOAD),
-    );
-    reads(
-        &rt,
-        Entry::Ip,
-        EVERY_KIND,
-        (0, 0, 92),
-        PayloadSlice::Udp(b"\x01\x02"),
-    );
+    let packet = &FRAME[14..];
+    let udp = (0, 0, 20);
+    reads(&rt, Entry::Ethernet, FRAME, udp, PayloadSlice::Udp(PAYLOAD));
+    reads(&rt, IPV4, packet, udp, PayloadSlice::Udp(PAYLOAD));
+    reads(&rt, Entry::Ip, packet, udp, PayloadSlice::Udp(PAYLOAD));
+    let behind = PayloadSlice::Udp(b"\x01\x02");
+    reads(&rt, Entry::Ip, EVERY_KIND, (0, 0, 92), behind);
     reads(&rt, TAG, TAGGED, (1, 1, 20), PayloadSlice::Udp(b""));
 }
 

@@ -1,13 +1,12 @@
-use Rattle.std.proofs.Common.{◌≡◌, [], ◌∷◌, true, ap, subst, rules, ◌∙◌}
-use Rattle.etherparse.specs.BuiltFrames.{Held, held_transport}
+use Rattle.std.proofs.Common.{◌≡◌, [], ◌∷◌, true, ap, rules, ◌∙◌}
+use Rattle.etherparse.specs.BuiltFrames.{held_transport}
 use Rattle.etherparse.specs.Steps.{ipv4_headers_between, transport_held}
 use Rattle.etherparse.specs.Tcp.{default_tcp_header}
 use Rattle.etherparse.specs.Types.TcpHeader.{TcpHeader}
 use Rattle.etherparse.specs.Types.TransportHeader.TheVariants as header
-use Rattle.etherparse.specs.AppendedFrames.{AppendsFrame}
 use Rattle.example_generators.specs.Ends.{ethernet_header}
 use Rattle.example_generators.specs.Segments.{syn_headers}
-use Rattle.example_generators.proofs.BuildingLemmas.{held_with_tcp, unwrapped}
+use Rattle.example_generators.proofs.BuildingLemmas.{appends_known, held_with_tcp, unwrapped}
 use Rattle.example_generators.proofs.segments.write_syn.Goals as goal
 
 pub returns : goal.returns
@@ -25,13 +24,8 @@ returns c =
     })) = search rules in
     let same : transport_held header.Tcp c.unwrap.result ≡ syn_headers c.args.sequence_number =
     ap (transport_held header.Tcp) (unwrapped _ _ _ _ c.unwrap.ensures c.options.ensures).1
-    ∙ ap (held_with_tcp with_options) (ap (transport_held header.Tcp) c.syn.ensures ∙ ap (held_with_tcp with_syn) plain) in
-    subst
-    (λ (held : Held). AppendsFrame held [] c.args.buf.now c.write.new.buf c.write.result)
-    same
-    (record {
-      ok = c.write.ensures.ok;
-      err = c.write.ensures.err;
-      refused = c.write.ensures.refused;
-      full = c.write.ensures.full;
-    })
+    ∙ ap (held_with_tcp with_options) (ap (transport_held header.Tcp) c.syn.ensures ∙ ap (held_with_tcp with_syn) plain)
+    in
+    appends_known (transport_held header.Tcp c.unwrap.result) (syn_headers c.args.sequence_number) [] c.args.buf.now
+    c.write.new.buf c.write.result same
+    c.write.ensures.ok c.write.ensures.err c.write.ensures.refused c.write.ensures.full
