@@ -20,8 +20,8 @@
  *   needs at most ETHERPARSE_STACK_OF_FRAGMENTS. Where functions of the C library are bound at their first call, that
  *   takes some 3,000 more.
  *
- * Link with the archive libetherparse_c.a, which `rt lib` leaves in crates/etherparse_c/out, and with
- * etherparse_heap.c, which stands beside this file. The calls are inline functions over exports whose names bear the
+ * Link with the archive libetherparse_c.a or the shared object of a release. The archive that `rt lib` leaves in
+ * crates/etherparse_c/out needs etherparse_heap.c too. The calls are inline functions over exports whose names bear the
  * number of the structs' layout: so a header and an archive of different layouts do not link. While the version begins
  * with 0., a minor version may change layouts, with that number, and rename or remove calls; a patch adds at most calls
  * and numbers. */
@@ -635,9 +635,9 @@ etherparse_pool_bytes(struct etherparse_pool *pool) {
 
 /* ---- Memory
  *
- * The archive takes memory by these three functions alone, which etherparse_heap.c defines over malloc. They may be the
- * caller's own: leave that file out, and define them. They come from one place, and may be called from each thread that
- * calls the library.
+ * The archive takes memory by these three functions alone, which etherparse_heap.c, a member of a release's archive,
+ * defines over malloc. They may be the caller's own: a program that defines all three gets its own called, but with the
+ * shared object, which hides them. They come from one place, and may be called from each thread that calls the library.
  * - A block is aligned to each power of two up to 16 that divides its length; no greater `align` is asked for.
  * - `is_there` is 0 where there is no memory, else 1, and then `block` is its address. It is never null, also where
  *   `is_there` is 0 or no bytes are asked for.
