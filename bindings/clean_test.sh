@@ -1,6 +1,6 @@
 #!/usr/bin/env bash
-# Does what README.md says, word by word, in a clean folder with a release alone and no `rt` on the path, and compares what
-# its commands print with what it says that they print: clean_test.sh RELEASE.tar.gz
+# Does what README.md says, word by word, in a clean folder with a release alone and no `rt` on the path, and compares
+# what its commands print with what it says that they print: clean_test.sh RELEASE.tar.gz
 set -euo pipefail
 here=$(cd "$(dirname "$0")" && pwd)
 release=$(realpath "$1")

@@ -1,7 +1,7 @@
 #!/usr/bin/env bash
 # Builds the examples and tests of C, Rust and Python against the archive that `rt lib` left in crates/etherparse_c/out,
-# runs them on input that is made here, and compares what they print. Says which of them need a compiler that is not there. Its status is 0 where all
-# that ran did what they must.
+# runs them on input that is made here, and compares what they print. Says which of them need a compiler that is not
+# there. Its status is 0 where all that ran did what they must.
 set -euo pipefail
 cd "$(dirname "$0")"
 top=$(cd .. && pwd)
@@ -14,7 +14,8 @@ work=$(mktemp -d)
 trap 'rm -rf "$work"' EXIT
 
 # Little-endian numbers of four bytes, and bytes in hexadecimal.
-word() { printf "\\x$(printf %02x $(($1 & 255)))\\x$(printf %02x $(($1 >> 8 & 255)))\\x$(printf %02x $(($1 >> 16 & 255)))\\x$(printf %02x $(($1 >> 24)))"; }
+byte() { printf "\\x$(printf %02x $(($1 & 255)))"; }
+word() { local i; for ((i = 0; i < 32; i += 8)); do byte $(($1 >> i)); done; }
 bytes() { local i; for ((i = 0; i < ${#1}; i += 2)); do printf "\\x${1:i:2}"; done; }
 record() { word 0; word 0; word $((${#1} / 2)); word $((${#1} / 2)); bytes "$1"; }
 
@@ -53,7 +54,8 @@ if gcc --version > /dev/null 2>&1; then
     done
     # What a compiler has to say of a caller's mistake, and a header of another layout, which must not link.
     for mistake in NULL_PACKET NULL_FRAME STATUS_IGNORED STATUS_FORGOTTEN; do
-        if gcc -std=c99 -Wall -Wextra -Werror -O2 -Ic -D"$mistake" -c c/tests/mistakes.c -o "$work/mistake.o" 2> /dev/null; then
+        if gcc -std=c99 -Wall -Wextra -Werror -O2 -Ic -D"$mistake" -c c/tests/mistakes.c -o "$work/mistake.o" \
+            2> /dev/null; then
             echo "bindings: the compiler says nothing of $mistake" && exit 1
         fi
     done

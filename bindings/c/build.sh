@@ -3,8 +3,8 @@
 #
 # `rt lib` proves the libraries below once more where no check of one's own has kept them, which takes half an hour.
 # `rt ci` has just proved them and left them in crates/*/out/rlib, but without the mark by which `rt lib` would know
-# them. So behind `rt ci`, and only there, this takes them as they lie: `bindings/c/build.sh behind-ci`. What it then runs
-# is the command by which `rt lib` builds, which proves etherparse_c itself.
+# them. So behind `rt ci`, and only there, this takes them as they lie: `bindings/c/build.sh behind-ci`. What it then
+# runs is the command by which `rt lib` builds, which proves etherparse_c itself.
 #
 # The verdict's line (`logic=proved ..`) is left in crates/etherparse_c/out/verdict, for a release to name.
 set -euo pipefail

@@ -1,6 +1,7 @@
 #!/usr/bin/env bash
-# Makes a release of the archive, installs it into a folder of its own, and builds an example by pkg-config, one by CMake and
-# one against the shared object; runs a program with memory of its own on the archive; compares what they print.
+# Makes a release of the archive, installs it into a folder of its own, and builds an example by pkg-config, one by
+# CMake and one against the shared object; runs a program with memory of its own on the archive; compares what they
+# print.
 set -euo pipefail
 here=$(cd "$(dirname "$0")" && pwd)
 CC=${CC:-cc}

@@ -1,10 +1,10 @@
 #!/usr/bin/env bash
 # Makes etherparse-c-VERSION-x86_64-linux.tar.gz in FOLDER (crates/etherparse_c/out): release.sh [FOLDER]
 #
-# It needs a C compiler (CC), ar, nm and the archive that bindings/c/build.sh leaves, or ETHERPARSE_C_ARCHIVE; beside it the
-# file `verdict` with the line by which the crate was proved, or that line as ETHERPARSE_VERDICT. With ARCH=aarch64 it makes a
-# release for that, behind bindings/c/build.sh: the kit builds the archive, and clang its memory. There is no C library for it
-# here, so it has no shared object, and nothing of it is run.
+# It needs a C compiler (CC), ar, nm and the archive that bindings/c/build.sh leaves, or ETHERPARSE_C_ARCHIVE; beside it
+# the file `verdict` with the line by which the crate was proved, or that line as ETHERPARSE_VERDICT. With ARCH=aarch64
+# it makes a release for that, behind bindings/c/build.sh: the kit builds the archive, and clang its memory. There is no
+# C library for it here, so it has no shared object, and nothing of it is run.
 set -euo pipefail
 here=$(cd "$(dirname "$0")" && pwd)
 top=$(cd "$here/../.." && pwd)

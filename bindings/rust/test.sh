@@ -33,7 +33,8 @@ if [ $# -gt 0 ]; then
 fi
 # No document is missing.
 RUSTDOCFLAGS="-D warnings" cargo doc --quiet --offline --no-deps
-# Where there is no archive, or none for the target, one line says what to do; CC is obeyed where the archive has no memory.
+# Where there is no archive, or none for the target, one line says what to do; CC is obeyed where the archive has no
+# memory.
 plain() { # what is said, what is set, and further words
     local said=$1 set=$2
     shift 2
@@ -46,7 +47,8 @@ plain() { # what is said, what is set, and further words
 }
 plain "no libetherparse_c.a in $work or $work/lib, which ETHERPARSE_C_DIR names" ETHERPARSE_C_DIR="$work"
 plain "there is no libetherparse_c.a for i686-unknown-linux-gnu" CC=false --target i686-unknown-linux-gnu
-# A package has the source of the memory in a release alone, so it is packaged here over an archive that has the memory in it.
+# A package has the source of the memory in a release alone, so it is packaged here over an archive that has the memory
+# in it.
 whole=$work/whole
 mkdir "$whole"
 cp "$archive" "$whole/libetherparse_c.a"
@@ -58,7 +60,8 @@ if ! nm -g --defined-only "$archive" 2> /dev/null | grep -q ' rattle_alloc$'; th
 fi
 packaged=
 if [ "$(printf '%s\n' 1.90 "$cargo" | sort -V | head -n 1)" = 1.90 ]; then
-    if ! ETHERPARSE_C_DIR=$whole cargo package --quiet --workspace --offline --allow-dirty --target-dir "$work/target" 2> "$work/said"; then
+    if ! ETHERPARSE_C_DIR=$whole cargo package --quiet --workspace --offline --allow-dirty \
+        --target-dir "$work/target" 2> "$work/said"; then
         cat "$work/said"
         exit 1
     fi

@@ -1,6 +1,6 @@
 //! Times the wrapper beside the call that it makes: compare FILE ROUNDS [COLUMN], where FILE is a corpus of
-//! crates/slice_bench/corpora.py, as bindings/c/examples/compare.cc reads it. Says nanoseconds a frame, the fastest of the
-//! rounds. With COLUMN, a name that is printed, that one alone runs, so that its instructions can be counted.
+//! crates/slice_bench/corpora.py, as bindings/c/examples/compare.cc reads it. Says nanoseconds a frame, the fastest of
+//! the rounds. With COLUMN, a name that is printed, that one alone runs, so that its instructions can be counted.
 use etherparse_c::{sys, Entry, SlicedPacket};
 use std::{env, error::Error, fs, hint::black_box, time::Instant};
 

@@ -11,8 +11,8 @@ pub enum BuildError {
     TooSmall(usize),
     /// The payload, or the options, are longer than the headers' length fields can count.
     TooLong,
-    /// A number is not one that its field can have: a VLAN identifier above 4095, tags without an Ethernet II header, an
-    /// offset of a fragment that is no multiple of 8, an identification above 65535 in IPv4.
+    /// A number is not one that its field can have: a VLAN identifier above 4095, tags without an Ethernet II header,
+    /// an offset of a fragment that is no multiple of 8, an identification above 65535 in IPv4.
     UnknownChoice,
     /// There was no memory.
     OutOfMemory,
@@ -56,8 +56,8 @@ pub enum Addresses {
 pub struct Route {
     /// The Ethernet addresses of sender and receiver, where the frame begins with an Ethernet II header.
     pub ethernet: Option<([u8; 6], [u8; 6])>,
-    /// The identifiers of VLAN tags from the outside in, each at most 4095, the first ones set. They need an Ethernet II
-    /// header before them.
+    /// The identifiers of VLAN tags from the outside in, each at most 4095, the first ones set. They need an Ethernet
+    /// II header before them.
     pub vlan_ids: [Option<u16>; 2],
     /// The addresses of the IP header.
     pub addresses: Addresses,
@@ -170,8 +170,8 @@ impl Place {
 pub(crate) fn build_at(route: &Route, behind: Behind<'_>, payload: &[u8], place: Place) -> Result<usize, BuildError> {
     let route = route.told();
     let (from, len, mut written) = (payload.as_ptr(), payload.len(), 0);
-    // SAFETY: all pointers are of references that live as long as the call, or of the place, and none overlap. An export
-    // reads nothing of the place.
+    // SAFETY: all pointers are of references that live as long as the call, or of the place, and none overlap. An
+    // export reads nothing of the place.
     let status = unsafe {
         match behind {
             Behind::Udp { source_port, destination_port } if route.tag_count == 0 => sys::etherparse_build_udp(
@@ -353,8 +353,8 @@ pub fn build_icmp_echo(
     build(route, Behind::IcmpEcho { is_reply, id, seq }, payload, buffer)
 }
 
-/// The same of a fragment of a longer payload, whose bytes from `fragment_offset` on `payload` has. This call needs up to
-/// [`sys::STACK_OF_FRAGMENTS`] bytes of stack, all others at most [`sys::STACK`].
+/// The same of a fragment of a longer payload, whose bytes from `fragment_offset` on `payload` has. This call needs up
+/// to [`sys::STACK_OF_FRAGMENTS`] bytes of stack, all others at most [`sys::STACK`].
 ///
 /// # Errors
 ///

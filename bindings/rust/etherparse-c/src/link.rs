@@ -325,8 +325,8 @@ pub enum MacsecPType {
     Encrypted,
 }
 
-/// A MACsec tag (IEEE 802.1AE), behind the ether type that names it: 6 bytes, 8 more with a channel, and 2 more where the
-/// ether type behind it can be read.
+/// A MACsec tag (IEEE 802.1AE), behind the ether type that names it: 6 bytes, 8 more with a channel, and 2 more where
+/// the ether type behind it can be read.
 #[derive(Clone, Copy, PartialEq, Eq, Hash)]
 pub struct MacsecSlice<'a>(pub(crate) &'a [u8]);
 
@@ -338,8 +338,8 @@ impl<'a> MacsecSlice<'a> {
         self.0
     }
 
-    /// What was done to the payload (bits 3 and 2 of byte 0); where nothing was, the last two bytes of the tag are the type
-    /// of what lies behind it.
+    /// What was done to the payload (bits 3 and 2 of byte 0); where nothing was, the last two bytes of the tag are the
+    /// type of what lies behind it.
     #[must_use]
     pub fn ptype(&self) -> MacsecPType {
         match self.0[0] >> 2 & 3 {

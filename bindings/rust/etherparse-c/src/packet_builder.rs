@@ -2,8 +2,8 @@ use crate::building::{build_at, Behind, Place};
 use crate::{tcp_flag, Addresses, BuildError, FragmentFields, Options, Route, TcpFields};
 use alloc::vec::Vec;
 
-/// Builds a frame header by header, from the outside in. Lengths, checksums, ether types and protocol numbers are filled
-/// in.
+/// Builds a frame header by header, from the outside in. Lengths, checksums, ether types and protocol numbers are
+/// filled in.
 ///
 /// ```
 /// use etherparse_c::PacketBuilder;

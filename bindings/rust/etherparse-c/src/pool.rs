@@ -114,8 +114,9 @@ pub struct Pool {
     buffer: Vec<u8>,
 }
 
-// SAFETY: the header says that a pool may be handed to another thread between two calls; calls take it by `&mut`, but for
-// those that count, which are not for two threads at once either: so it is not `Sync`, which a pointer is not by itself.
+// SAFETY: the header says that a pool may be handed to another thread between two calls; calls take it by `&mut`, but
+// for those that count, which are not for two threads at once either: so it is not `Sync`, which a pointer is not by
+// itself.
 unsafe impl Send for Pool {}
 
 impl Pool {
@@ -134,8 +135,8 @@ impl Pool {
         Pool::made(sys::MAX_PAYLOAD, |pool| unsafe { sys::etherparse_pool_new(pool) })
     }
 
-    /// The same of a pool in which no payload has more than `limit` bytes: a fragment that ends behind it is refused. Where
-    /// frames may be hostile, set one, and drop old streams.
+    /// The same of a pool in which no payload has more than `limit` bytes: a fragment that ends behind it is refused.
+    /// Where frames may be hostile, set one, and drop old streams.
     ///
     /// # Errors
     ///
@@ -202,8 +203,8 @@ impl Pool {
         }
     }
 
-    /// The same of a frame that is sliced already. One that carries no fragment is not looked at once more, since a pool
-    /// takes nothing of it.
+    /// The same of a frame that is sliced already. One that carries no fragment is not looked at once more, since a
+    /// pool takes nothing of it.
     ///
     /// # Errors
     ///
@@ -235,8 +236,8 @@ impl Pool {
         unsafe { sys::etherparse_pool_bytes(self.pool.as_ptr()) }
     }
 
-    /// Drops the streams whose last fragment that was taken came before `timestamp`. It looks at each stream, so call it
-    /// once in a while, and not for each packet.
+    /// Drops the streams whose last fragment that was taken came before `timestamp`. It looks at each stream, so call
+    /// it once in a while, and not for each packet.
     pub fn drop_older(&mut self, timestamp: u64) {
         // SAFETY: the pool is one that was made and not freed.
         unsafe { sys::etherparse_pool_drop_older(self.pool.as_ptr(), timestamp) };
