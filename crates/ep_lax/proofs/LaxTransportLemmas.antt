@@ -1,24 +1,19 @@
 -- What the call that reads the transport layer of a payload of IP laxly owes.
-use Rattle.std.proofs.Common.{◌≡◌, ◌≢◌, ◌⊎◌, ◌==◌, ◌&&◌, ◌||◌, not, nat_lt, if◌then◌else◌, ℕ, ◌+◌, Bool, true, false, List, ◌++◌, length, Option, Some, None, refl, sym, ap, ◌∙◌, inl, inr, arith}
-use Rattle.std.specs.Prelude.{IfSome}
+use Rattle.std.proofs.Common.{◌≡◌, ◌≢◌, ◌⊎◌, ◌&&◌, ◌||◌, not, nat_lt, if◌then◌else◌, ℕ, ◌+◌, Bool, true, false, List, length, Option, Some, None, refl, sym, ap, ◌∙◌, inl, inr, arith}
 use Rattle.std.specs.Option.{option_map}
-use Rattle.std.proofs.lemmas.Bool.{cases_lt, ne_eqb}
+use Rattle.std.proofs.lemmas.Bool.{cases_lt}
 use Rattle.ep_base.specs.IpNumbers.{udp_number}
 use Rattle.ep_base.specs.LaxCut.{LaxCut, IsLaxCut, cuts, is_missing}
 use Rattle.ep_base.specs.Readings.{headers, slices}
-use Rattle.ep_base.specs.Tables.{first_row, rows_as}
-use Rattle.ep_base.specs.declared.err.tcp.HeaderSliceError.{HeaderSliceError}
-use Rattle.ep_base.specs.declared.err.tcp.HeaderSliceError.TheVariants.{Len}
 use Rattle.ep_base.specs.declared.len_source.LenSource.TheVariants as source
 use Rattle.ep_base.proofs.LaxCutLemmas.{cuts_not, cuts_there}
 use Rattle.ep_transport.specs.declared.transport_header.TransportHeader.TheVariants as header
 use Rattle.ep_transport.specs.declared.transport_slice.TransportSlice.{TransportSlice}
 use Rattle.ep_transport.specs.declared.transport_slice.TransportSlice.TheVariants as slice
 use Rattle.ep_transport.specs.declared.udp_slice.UdpSlice.{UdpSlice}
-use Rattle.ep_transport.specs.TransportParts.{TransportLayer, transport_layer, IsTransportPart, RefusesTransportPart, transport_layer_of, transport_rows, transport_slice_bytes, udp_part_rows}
+use Rattle.ep_transport.specs.TransportParts.{TransportLayer, transport_layer, IsTransportPart, transport_layer_of}
 use Rattle.ep_transport.specs.Udp.{IsLaxUdp}
 use Rattle.ep_transport.specs.UdpSlices.{udp_slice_header, udp_slice_payload}
-use Rattle.ep_packet.specs.ShownBytes.{ShowsTransport}
 use Rattle.ep_lax.specs.Lax.{IsCutLaxly}
 use Rattle.ep_lax.specs.LaxLayers.{layer_cut}
 use Rattle.ep_lax.specs.LaxPackets.{inside_of}
@@ -48,31 +43,6 @@ others_read number fragmented bytes outer why (Some (slice.Icmpv4 message)) is =
     (Some (transport_layer_of (slice.Icmpv4 message)), is, refl)
 others_read number fragmented bytes outer why (Some (slice.Icmpv6 message)) is =
     (Some (transport_layer_of (slice.Icmpv6 message)), is, refl)
-
--- of two choices by a condition that does not hold, the first is never taken
-other_rows : {A : Type 0} (condition : Bool) (first second others : A) → condition ≡ false
-    → (if condition then first else others) ≡ (if condition then second else others)
-other_rows true first second others untrue = absurd (cc untrue)
-other_rows false first second others untrue = refl
-
--- and are refused as those are
-pub others_refused : (number : ℕ) (fragmented : Bool) (bytes : List ℕ) → NotUdp number fragmented
-    → (error : HeaderSliceError) → RefusesTransportPart slices number fragmented bytes error
-    → RefusesTransportPart headers number fragmented bytes error
-others_refused number true bytes why error refused = refused
-others_refused number false bytes (inl fragment) error refused = absurd (cc fragment)
-others_refused number false bytes (inr other) error refused =
-    let same : transport_rows headers number bytes ≡ transport_rows slices number bytes =
-    other_rows (number == udp_number) (rows_as Len (udp_part_rows headers bytes))
-    (rows_as Len (udp_part_rows slices bytes)) _ (ne_eqb number udp_number other) in
-    ap first_row same ∙ refused
-
--- a slice, where there is one, shows the front of the bytes
-pub shown_or_none : (bytes : List ℕ) (part : Option TransportSlice)
-    → IfSome part (λ shown. (left : List ℕ) × (bytes ≡ transport_slice_bytes shown ++ left))
-    → ShowsTransport bytes part
-shown_or_none bytes None shown = tt
-shown_or_none bytes (Some part) shown = shown
 
 -- ---- UDP
 
