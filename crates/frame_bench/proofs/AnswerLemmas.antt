@@ -12,7 +12,8 @@ use Rattle.etherparse.specs.FrameRefusals.{RefusesFrame}
 use Rattle.etherparse.specs.Types.Entry.{Entry}
 use Rattle.line_io.specs.Lines.{line_feed, lines_of}
 use Rattle.frame_bench.specs.Answers.{AreAnswers, IsAnswer, IsAnswered, IsReplyAfter}
-use Rattle.frame_bench.specs.LineCalls.{PoolHistory, new_pool, with_call, IsAfterLine, IsAfterLines, IsHistory, IsAfterRequest, frame_call}
+use Rattle.frame_bench.specs.LineCalls.{PoolHistory, new_pool, with_call, IsAfterLine, IsAfterLines, IsHistory}
+use Rattle.frame_bench.specs.LineCalls.{IsAfterRequest, frame_call}
 use Rattle.frame_bench.specs.PoolReplies.{call_reply}
 use Rattle.frame_bench.specs.Replies.{IsReply}
 use Rattle.frame_bench.specs.Requests.{Asks}

@@ -15,7 +15,8 @@ use Rattle.frame_bench.specs.declared.requests.Request.{Request}
 use Rattle.frame_bench.specs.declared.requests.Request.TheVariants.{Slice, Fragment, Drop, Limit}
 use Rattle.frame_bench.proofs.RequestLemmas.{AsksFromChannel, begins_with}
 use Rattle.frame_bench.proofs.RequestLemmas.{asked_drop, asked_fragment, asked_fragment_of, asked_from_channel}
-use Rattle.frame_bench.proofs.RequestLemmas.{asked_from_timestamp, asked_limit, asked_slice, asked_slice_of, asks_fragment}
+use Rattle.frame_bench.proofs.RequestLemmas.{asked_from_timestamp, asked_limit, asked_slice, asked_slice_of}
+use Rattle.frame_bench.proofs.RequestLemmas.{asks_fragment}
 use Rattle.frame_bench.proofs.TextLemmas.{NumberAt, number_at_cases, number_cases, number_one, limit_cases, limit_one}
 
 -- a text begins with a word or does not

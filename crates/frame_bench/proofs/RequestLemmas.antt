@@ -40,11 +40,13 @@ pub same_entry : (text : List ℕ) (entry other : Entry) (a b : List ℕ) → En
     → (entry ≡ other) × (a ≡ b)
 same_entry text Ethernet Ethernet a b x y = (
   refl,
-  append_cancel_left (codes "eth" ++ space ∷ []) a b (both text x.0 y.0 (codes "eth") (codes "eth") a b x.1 y.1 x.2 y.2),
+  append_cancel_left (codes "eth" ++ space ∷ []) a b
+      (both text x.0 y.0 (codes "eth") (codes "eth") a b x.1 y.1 x.2 y.2),
 )
 same_entry text LinuxSll LinuxSll a b x y = (
   refl,
-  append_cancel_left (codes "sll" ++ space ∷ []) a b (both text x.0 y.0 (codes "sll") (codes "sll") a b x.1 y.1 x.2 y.2),
+  append_cancel_left (codes "sll" ++ space ∷ []) a b
+      (both text x.0 y.0 (codes "sll") (codes "sll") a b x.1 y.1 x.2 y.2),
 )
 same_entry text Ip Ip a b x y = (
   refl,

@@ -2,8 +2,10 @@
 use Rattle.std.specs.Prelude.{◌≡◌, ℕ, ◌⊎◌, List, [], ◌∷◌, codes}
 use Rattle.std.specs.Fmt.{decimal}
 use Rattle.etherparse.specs.Types.IpDefragError.{IpDefragError}
-use Rattle.etherparse.specs.Types.IpDefragError.TheVariants.{UnalignedFragmentPayloadLen, SegmentTooBig, ConflictingEnd, AllocationFailure}
-use Rattle.etherparse.specs.Calls.{Answer, fragment_refused, payload_handed_out, nothing_handed_out, streams_dropped, buffer_returned, answer_to}
+use Rattle.etherparse.specs.Types.IpDefragError.TheVariants.{UnalignedFragmentPayloadLen, SegmentTooBig, ConflictingEnd}
+use Rattle.etherparse.specs.Types.IpDefragError.TheVariants.{AllocationFailure}
+use Rattle.etherparse.specs.Calls.{Answer, fragment_refused, payload_handed_out, nothing_handed_out, streams_dropped}
+use Rattle.etherparse.specs.Calls.{buffer_returned, answer_to}
 use Rattle.etherparse.specs.Types.SliceError.{SliceError}
 use Rattle.etherparse.specs.Frame.{IsFrame}
 use Rattle.etherparse.specs.Layers.{Layers}

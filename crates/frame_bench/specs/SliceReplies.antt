@@ -17,7 +17,8 @@ use Rattle.etherparse.specs.Types.TransportHeader.TheVariants as header
 use Rattle.etherparse.specs.TransportParts.{TransportLayer}
 use Rattle.etherparse.specs.Types.TcpHeaderError.TheVariants as tcp_error
 use Rattle.etherparse.specs.Types.SliceError.{SliceError}
-use Rattle.etherparse.specs.Types.SliceError.TheVariants.{Len, LinuxSll, Macsec, Ip, Ipv4, Ipv6, Ipv4Exts, Ipv6Exts, Tcp}
+use Rattle.etherparse.specs.Types.SliceError.TheVariants.{Len, LinuxSll, Macsec, Ip, Ipv4, Ipv6, Ipv4Exts, Ipv6Exts}
+use Rattle.etherparse.specs.Types.SliceError.TheVariants.{Tcp}
 use Rattle.etherparse.specs.Frame.{IsFrame}
 use Rattle.etherparse.specs.FrameBytes.{last_payload}
 use Rattle.etherparse.specs.Layers.{Layers, NetLayer, ipv4, ipv6, arp}

@@ -1,5 +1,6 @@
 use Rattle.std.proofs.Common.{◌≡◌, true}
-use Rattle.frame_bench.proofs.RequestLemmas.{asked_fragment, asked_fragment_of, asked_from_channel, asked_from_timestamp}
+use Rattle.frame_bench.proofs.RequestLemmas.{asked_fragment, asked_fragment_of, asked_from_channel}
+use Rattle.frame_bench.proofs.RequestLemmas.{asked_from_timestamp}
 use Rattle.frame_bench.proofs.pool_requests.parse_fragment.Goals as goal
 
 pub returns-in_default-clause-none : goal.returns-in_default-clause-none
