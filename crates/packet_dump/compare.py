@@ -71,6 +71,8 @@ def ours(line):
     if rest.startswith(" refused") or rest.startswith(" link "):
         found["refused"] = rest
         return found
+    if " stopped " in rest:
+        found["stopped"] = rest[rest.index(" stopped "):]
     if eth := re.search(r" eth (\S+) > (\S+)", rest):
         found["eth.src"], found["eth.dst"] = eth[1], eth[2]
     if vlans := re.findall(r" vlan:(\d+)", rest):
@@ -83,13 +85,19 @@ def ours(line):
                 if field == "ipv6":
                     prefix = ("ipv6.fraghdr.ident", "ipv6.fraghdr.offset", "ipv6.fraghdr.more")
                 found.update(zip(prefix, (int(part[1]), int(part[2]), int(part[3] is not None))))
-    if udp := re.search(r" udp (\d+) > (\d+) len (\d+)", rest):
-        found["udp.srcport"], found["udp.dstport"], found["udp.length"] = int(udp[1]), int(udp[2]), 8 + int(udp[3])
-    if tcp := re.search(r" tcp (\d+) > (\d+) \[(\w*)\] seq (\d+)(?: ack (\d+))? len (\d+)", rest):
-        found["tcp.srcport"], found["tcp.dstport"], found["tcp.len"] = int(tcp[1]), int(tcp[2]), int(tcp[6])
-        found["tcp.flags"], found["tcp.seq_raw"] = sum(FLAGS[letter] for letter in tcp[3]), int(tcp[4])
+    # Of a header that is cut, or in a first fragment, there is no length of a payload, nor of one that is incomplete.
+    if udp := re.search(r" udp (\d+) > (\d+)(?: len (\d+)\b(?! incomplete))?", rest):
+        found["udp.srcport"], found["udp.dstport"] = int(udp[1]), int(udp[2])
+        if udp[3] is not None:
+            found["udp.length"] = 8 + int(udp[3])
+    if tcp := re.search(r" tcp (\d+) > (\d+)(?: \[(\w*)\] seq (\d+)(?: ack (\d+))?)?(?: len (\d+)\b(?! incomplete))?", rest):
+        found["tcp.srcport"], found["tcp.dstport"] = int(tcp[1]), int(tcp[2])
+        if tcp[4] is not None:
+            found["tcp.flags"], found["tcp.seq_raw"] = sum(FLAGS[letter] for letter in tcp[3]), int(tcp[4])
         if tcp[5] is not None:
             found["tcp.ack_raw"] = int(tcp[5])
+        if tcp[6] is not None:
+            found["tcp.len"] = int(tcp[6])
     for name, table in (("icmpv4", ICMPV4), ("icmpv6", ICMPV6)):
         if icmp := re.search(rf" {name} (?:type (\d+)(?: code (\d+))?|(\S+))", rest):
             field = "icmp" if name == "icmpv4" else "icmpv6"
@@ -233,6 +241,9 @@ def compare_tshark(tally, path, a, b):
         if how == "read by tshark":
             tally.say(re.sub(r"\d+", "N", reason), f"{path}: {at}:{a['refused']}; tshark: {b['frame.protocols']}")
         return
+    if "stopped" in a:
+        tally.counted["stopped"] += 1
+        tally.reasons[re.sub(r"\d+", "N", re.sub(r" cut \d+ of \d+|, offset \d+", "", a["stopped"]))] += 1
     tags = [number(b[name]) for name in ("ieee8021ad.id", "vlan.id") if name in b]
     if "vlans" not in a and tags:
         tally.reasons["tshark alone: VLAN behind " + around("vlan.id", b)] += 1

@@ -1,24 +1,23 @@
 # Writes a capture of one packet for each text of a line, and the lines, which stand beside the packets as the definitions
-# of specs/ have them: python3 texts.py data/texts.pcapng runs/texts.lines
+# of specs/ have them, also those of --strict: python3 texts.py data/texts.pcapng runs/texts.lines runs/strict.lines
 import struct
 import sys
 
 ETHERNET, RAW, COOKED, OTHER = range(4)  # the interfaces, by their places
-packets, lines, errors = [], [], {}
+packets, lax_lines, strict_lines = [], [], []
 
 
-def row(link, data, text, more=None, kept=None, error=None):
-    """A packet, of which so many bytes are kept, its text, what --reassemble says behind it, and what its error is
-    counted as."""
+def row(link, data, text, more=None, kept=None, strict=None):
+    """A packet, of which so many bytes are kept, its text, what --reassemble says behind it, and its text with --strict,
+    where that is another."""
     shown = data[:kept]
     cut = f" cut {len(shown)} of {len(data)}" if len(shown) < len(data) else ""
     number = len(packets) + 1
     packets.append((link, shown, len(data)))
-    lines.append(f"{number} 0.{number - 1:06} {text}{cut}")
-    if error:
-        errors[error] = errors.get(error, 0) + 1
-    if more:
-        lines.append(f"{number} 0.{number - 1:06} {more}")
+    for lines, own in [(lax_lines, text), (strict_lines, strict or text)]:
+        lines.append(f"{number} 0.{number - 1:06} {own}{cut}")
+        if more:
+            lines.append(f"{number} 0.{number - 1:06} {more}")
 
 
 HERE = bytes.fromhex("c0a80101")
@@ -81,7 +80,7 @@ row(RAW, v4(51, auth + udp(b"ab")), f"{V4} authentication udp 21 > 1234 len 2")
 row(RAW, v4(1, b"abc", identification=5, fragment=3), f"{V4} fragment id 5 offset 24 protocol 1 ICMP len 3")
 chain = bytes.fromhex("2b00010400000000" "3c00000000000000" "2c00010400000000" "3300000100000009" "3b01000000000001" "00000001")
 row(RAW, v6(43, bytes.fromhex("3c00000000000000" "3300010400000000" "3b01000000000001" "00000001")), f"{V6} routing destination-options authentication protocol 59 len 0")
-row(RAW, v6(0, bytes.fromhex("2c00010400000000" "11000001deadbeef") + bytes(8)), f"{V6} hop-by-hop fragment id 3735928559 offset 0 more protocol 17 UDP len 8")
+row(RAW, v6(0, bytes.fromhex("2c00010400000000" "11000001deadbeef") + bytes(8)), f"{V6} hop-by-hop fragment id 3735928559 offset 0 more udp 0 > 0 protocol 17 UDP len 8")
 row(RAW, v4(99, b"abcd"), f"{V4} protocol 99 len 4")
 arp = bytes.fromhex("0001080006040001" "020000000001c0a80101" "000000000000c0a80102")
 row(ETHERNET, eth(0x0806, arp), f"{ETH} arp who-has 192.168.1.2 tell 192.168.1.1")
@@ -89,13 +88,20 @@ row(ETHERNET, eth(0x0806, arp[:7] + b"\2" + arp[8:]), f"{ETH} arp reply 192.168.
 row(ETHERNET, eth(0x0806, arp[:7] + b"\3" + arp[8:]), f"{ETH} arp operation 3")
 row(ETHERNET, eth(0x0806, bytes.fromhex("0001080402020001" "0a0b0c0d" "0e0f1011")), f"{ETH} arp who-has 10:11 tell 0c:0d")
 row(ETHERNET, eth(0x88CC, b"abc"), f"{ETH} type 0x88cc len 3")
-row(ETHERNET, eth(0x0003, b"abc"), f"{ETH} type 0x0003 len 3")
+row(ETHERNET, eth(0x05DC, b"abc"), f"{ETH} length 1500 len 3")
+row(ETHERNET, eth(0x8100, b"\0\5\0\3abc"), f"{ETH} vlan:5 length 3 len 3")
+row(COOKED, sll(1, protocol=4, data=b"abc"), "sll broadcast from 02:00:00:00:00:01 len 3")
+row(ETHERNET, eth(0x05DD, b"abc"), f"{ETH} type 0x05dd len 3")
 row(OTHER, b"abc", "link 105")
 
 # TCP: each flag, and all of them.
 for flags, letters in [(0, ""), (2, "S"), (1, "F"), (4, "R"), (8, "P"), (32, "U"), (64, "E"), (128, "C"), (256, "N")]:
     row(RAW, v4(6, tcp(flags)), f"{V4} tcp 80 > 4000 [{letters}] seq 1 len 0")
 row(RAW, v6(6, tcp(0x1FF, b"\2\4\5\xb4abc", offset=6)), f"{V6} tcp 80 > 4000 [SFRPAUECN] seq 1 ack 2 len 3")
+
+# UDP whose length field is 0.
+row(RAW, v4(17, udp(b"abc", length=0)), f"{V4} udp 21 > 1234 length 0 len 3")
+row(RAW, v4(17, udp(b"", length=0)), f"{V4} udp 21 > 1234 len 0")
 
 # Messages of ICMP: each type, and each code that has a name, with what they hold.
 numbers = b"\0\1\0\2"
@@ -157,51 +163,66 @@ for kind, code, rest, name in icmpv6:
     row(RAW, v6(58, icmp(kind, code, rest)), f"{V6} icmpv6 {name} len 0")
 
 
-# Refusals: each layer that has too few bytes, by each thing that limits them, and each other error.
-def short(link, data, layer, needed, there, limit, offset, kept=None):
-    row(link, data, f"refused {layer}: {needed} bytes needed, {there} there (limit {limit}, offset {offset})", None, kept, layer)
+# Refusals: each layer that has too few bytes, by each thing that limits them, and each other error. In front of it stand
+# other layers or none, and it may be that it is refused only with --strict.
+def wrong(link, data, why, front="", lax=None, kept=None):
+    text = lax or (f"{front} stopped {why}" if front else f"refused {why}")
+    row(link, data, text, None, kept, f"refused {why}")
+
+
+def short(link, data, layer, needed, there, limit, offset, front="", lax=None, kept=None):
+    why = f"{layer}: {needed} bytes needed, {there} there (limit {limit}, offset {offset})"
+    wrong(link, data, why, front, lax, kept)
 
 
 short(ETHERNET, b"ab", "Ethernet2Header", 14, 2, "Slice", 0)
 short(COOKED, sll(0)[:15], "LinuxSllHeader", 16, 15, "Slice", 0)
-row(COOKED, sll(8), "refused LinuxSll UnsupportedPacketTypeField 8", error="LinuxSll UnsupportedPacketTypeField")
+wrong(COOKED, sll(8), "LinuxSll UnsupportedPacketTypeField 8")
 row(COOKED, sll(0, hardware=530), f"sll host from 02:00:00:00:00:01 {V4} udp 21 > 1234 len 0")
-short(ETHERNET, eth(0x8100, b"abc"), "VlanHeader", 4, 3, "Slice", 14)
-short(ETHERNET, eth(0x88E5, b"\x0c\0\0\0\0"), "MacsecHeader", 6, 5, "Slice", 14)
-short(ETHERNET, eth(0x88E5, b"\x0c\x14\0\0\0\1" + bytes(19)), "MacsecPacket", 26, 25, "Slice", 14)
-row(ETHERNET, eth(0x88E5, b"\x80\0\0\0\0\1\x08\0"), "refused Macsec UnexpectedVersion", error="Macsec UnexpectedVersion")
-row(ETHERNET, eth(0x88E5, b"\0\1\0\0\0\1\x08\0"), "refused Macsec InvalidUnmodifiedShortLen", error="Macsec InvalidUnmodifiedShortLen")
-short(ETHERNET, eth(0x0806, arp[:7]), "Arp", 8, 7, "Slice", 14)
-short(ETHERNET, eth(0x0806, arp[:27]), "Arp", 28, 27, "ArpAddrLengths", 14)
+row(COOKED, sll(0, hardware=530, data=v4(17, b"")[:10]), "sll host from 02:00:00:00:00:01 stopped Ipv4Header: 20 bytes needed, 10 there (limit Slice, offset 0)", strict="sll host from 02:00:00:00:00:01 refused Ipv4Header: 20 bytes needed, 10 there (limit Slice, offset 0)")
+short(ETHERNET, eth(0x8100, b"abc"), "VlanHeader", 4, 3, "Slice", 14, ETH)
+short(ETHERNET, eth(0x8100, b"\0\5\x81\0abc"), "VlanHeader", 4, 3, "Slice", 18, f"{ETH} vlan:5")
+short(ETHERNET, eth(0x88E5, b"\x0c\0\0\0\0"), "MacsecHeader", 6, 5, "Slice", 14, ETH)
+short(ETHERNET, eth(0x88E5, b"\x0c\x14\0\0\0\1" + bytes(19)), "MacsecPacket", 26, 25, "Slice", 14, lax=f"{ETH} macsec pn 1 encrypted len 19 incomplete")
+wrong(ETHERNET, eth(0x88E5, b"\x80\0\0\0\0\1\x08\0"), "Macsec UnexpectedVersion", ETH)
+wrong(ETHERNET, eth(0x88E5, b"\0\1\0\0\0\1\x08\0"), "Macsec InvalidUnmodifiedShortLen", ETH)
+short(ETHERNET, eth(0x0806, arp[:7]), "Arp", 8, 7, "Slice", 14, ETH)
+short(ETHERNET, eth(0x0806, arp[:27]), "Arp", 28, 27, "ArpAddrLengths", 14, ETH)
 short(RAW, b"", "IpHeader", 1, 0, "Slice", 0)
-row(RAW, b"\x50" + bytes(39), "refused Ip UnsupportedIpVersion 5", error="Ip UnsupportedIpVersion")
-row(RAW, v4(17, udp(b""), first=0x44), "refused Ip Ipv4HeaderLengthSmallerThanHeader 4", error="Ip Ipv4HeaderLengthSmallerThanHeader")
-row(ETHERNET, eth(0x0800, v4(17, udp(b""), first=0x65)), "refused Ipv4 UnexpectedVersion 6", error="Ipv4 UnexpectedVersion")
-row(ETHERNET, eth(0x0800, v4(17, udp(b""), first=0x43)), "refused Ipv4 HeaderLengthSmallerThanHeader 3", error="Ipv4 HeaderLengthSmallerThanHeader")
-row(ETHERNET, eth(0x86DD, v6(17, udp(b""), first=0x40)), "refused Ipv6 UnexpectedVersion 4", error="Ipv6 UnexpectedVersion")
-short(ETHERNET, eth(0x0800, v4(17, b"")[:19]), "Ipv4Header", 20, 19, "Slice", 14)
-short(ETHERNET, eth(0x0800, v4(17, b"", first=0x46)), "Ipv4Header", 24, 20, "Slice", 14)
-short(ETHERNET, eth(0x0800, v4(17, udp(b""))), "Ipv4Packet", 28, 27, "Slice", 14, kept=41)
-short(ETHERNET, eth(0x0800, v4(17, udp(b""), total=19)), "Ipv4Packet", 20, 19, "Ipv4HeaderTotalLen", 14)
-short(ETHERNET, eth(0x0800, v4(51, auth[:11])), "IpAuthHeader", 12, 11, "Ipv4HeaderTotalLen", 34)
-row(RAW, v4(51, auth[:1] + b"\0" + auth[2:]), "refused Ipv4Exts ZeroPayloadLen", error="Ipv4Exts ZeroPayloadLen")
-short(ETHERNET, eth(0x86DD, v6(17, b"")[:39]), "Ipv6Header", 40, 39, "Slice", 14)
-short(ETHERNET, eth(0x86DD, v6(17, b"abc", length=4)), "Ipv6Packet", 44, 43, "Slice", 14)
-short(ETHERNET, eth(0x86DD, v6(0, chain[:7])), "Ipv6ExtHeader", 8, 7, "Ipv6HeaderPayloadLen", 54)
-short(ETHERNET, eth(0x86DD, v6(44, chain[:7])), "Ipv6FragHeader", 8, 7, "Ipv6HeaderPayloadLen", 54)
-short(ETHERNET, eth(0x86DD, v6(51, auth[:11])), "IpAuthHeader", 12, 11, "Ipv6HeaderPayloadLen", 54)
-row(RAW, v6(60, bytes(16)), "refused Ipv6Exts HopByHopNotAtStart", error="Ipv6Exts HopByHopNotAtStart")
-row(RAW, v6(51, auth[:1] + b"\0" + auth[2:]), "refused Ipv6Exts ZeroPayloadLen", error="Ipv6Exts ZeroPayloadLen")
-short(ETHERNET, eth(0x0800, v4(17, udp(b"")[:7])), "UdpHeader", 8, 7, "Ipv4HeaderTotalLen", 34)
-short(ETHERNET, eth(0x0800, v4(17, udp(b"", length=7))), "UdpHeader", 8, 7, "UdpHeaderLen", 34)
-short(ETHERNET, eth(0x86DD, v6(17, udp(b"", length=9))), "UdpPayload", 9, 8, "Ipv6HeaderPayloadLen", 54)
-short(ETHERNET, eth(0x0800, v4(6, tcp(0)[:19])), "TcpHeader", 20, 19, "Ipv4HeaderTotalLen", 34)
-short(ETHERNET, eth(0x0800, v4(6, tcp(0, offset=6))), "TcpHeader", 24, 20, "Ipv4HeaderTotalLen", 34)
-row(RAW, v4(6, tcp(0, offset=4)), "refused Tcp DataOffsetTooSmall 4", error="Tcp DataOffsetTooSmall")
-short(ETHERNET, eth(0x0800, v4(1, icmp(0, 0)[:7])), "Icmpv4", 8, 7, "Ipv4HeaderTotalLen", 34)
-short(RAW, v4(1, icmp(13, 0, numbers + times)[:19]), "Icmpv4Timestamp", 20, 19, "Ipv4HeaderTotalLen", 20)
-short(RAW, v4(1, icmp(14, 0, numbers + times + b"a")), "Icmpv4TimestampReply", 20, 21, "Ipv4HeaderTotalLen", 20)
-short(RAW, v6(58, icmp(128, 0)[:7]), "Icmpv6", 8, 7, "Ipv6HeaderPayloadLen", 40)
+wrong(RAW, b"\x50" + bytes(39), "Ip UnsupportedIpVersion 5")
+wrong(RAW, v4(17, udp(b""), first=0x44), "Ip Ipv4HeaderLengthSmallerThanHeader 4")
+wrong(ETHERNET, eth(0x0800, v4(17, udp(b""), first=0x65)), "Ipv4 UnexpectedVersion 6", ETH)
+wrong(ETHERNET, eth(0x0800, v4(17, udp(b""), first=0x43)), "Ipv4 HeaderLengthSmallerThanHeader 3", ETH)
+wrong(ETHERNET, eth(0x86DD, v6(17, udp(b""), first=0x40)), "Ipv6 UnexpectedVersion 4", ETH)
+short(ETHERNET, eth(0x0800, v4(17, b"")[:19]), "Ipv4Header", 20, 19, "Slice", 14, ETH)
+short(ETHERNET, eth(0x0800, v4(17, b"", first=0x46)), "Ipv4Header", 24, 20, "Slice", 14, ETH)
+cut = "stopped UdpHeader: 8 bytes needed"
+short(ETHERNET, eth(0x0800, v4(17, udp(b""))), "Ipv4Packet", 28, 27, "Slice", 14, lax=f"{ETH} {V4} udp 21 > 1234 {cut}, 7 there (limit Slice, offset 34) incomplete", kept=41)
+short(ETHERNET, eth(0x0800, v4(17, udp(b""), total=19)), "Ipv4Packet", 20, 19, "Ipv4HeaderTotalLen", 14, lax=f"{ETH} {V4} udp 21 > 1234 len 0")
+short(RAW, v4(6, tcp(2, b"abcd")), "Ipv4Packet", 44, 42, "Slice", 0, lax=f"{V4} tcp 80 > 4000 [S] seq 1 len 2 incomplete", kept=42)
+short(ETHERNET, eth(0x0800, v4(51, auth[:11])), "IpAuthHeader", 12, 11, "Ipv4HeaderTotalLen", 34, f"{ETH} {V4}")
+wrong(RAW, v4(51, auth[:1] + b"\0" + auth[2:]), "Ipv4Exts ZeroPayloadLen", V4)
+short(ETHERNET, eth(0x86DD, v6(17, b"")[:39]), "Ipv6Header", 40, 39, "Slice", 14, ETH)
+short(ETHERNET, eth(0x86DD, v6(17, b"abc", length=4)), "Ipv6Packet", 44, 43, "Slice", 14, lax=f"{ETH} {V6} {cut}, 3 there (limit Slice, offset 54) incomplete")
+short(ETHERNET, eth(0x86DD, v6(0, chain[:7])), "Ipv6ExtHeader", 8, 7, "Ipv6HeaderPayloadLen", 54, f"{ETH} {V6}")
+short(ETHERNET, eth(0x86DD, v6(44, chain[:7])), "Ipv6FragHeader", 8, 7, "Ipv6HeaderPayloadLen", 54, f"{ETH} {V6}")
+short(ETHERNET, eth(0x86DD, v6(51, auth[:11])), "IpAuthHeader", 12, 11, "Ipv6HeaderPayloadLen", 54, f"{ETH} {V6}")
+wrong(RAW, v6(60, bytes(16)), "Ipv6Exts HopByHopNotAtStart", f"{V6} destination-options")
+wrong(RAW, v6(51, auth[:1] + b"\0" + auth[2:]), "Ipv6Exts ZeroPayloadLen", V6)
+short(ETHERNET, eth(0x0800, v4(17, udp(b"")[:7])), "UdpHeader", 8, 7, "Ipv4HeaderTotalLen", 34, f"{ETH} {V4} udp 21 > 1234")
+short(ETHERNET, eth(0x0800, v4(17, udp(b"", length=7))), "UdpHeader", 8, 7, "UdpHeaderLen", 34, lax=f"{ETH} {V4} udp 21 > 1234 len 0")
+short(ETHERNET, eth(0x86DD, v6(17, udp(b"", length=9))), "UdpPayload", 9, 8, "Ipv6HeaderPayloadLen", 54, lax=f"{ETH} {V6} udp 21 > 1234 len 0 incomplete")
+short(ETHERNET, eth(0x0800, v4(6, tcp(0)[:19])), "TcpHeader", 20, 19, "Ipv4HeaderTotalLen", 34, f"{ETH} {V4} tcp 80 > 4000 [] seq 1")
+short(RAW, v4(6, tcp(0x1FF)[:14]), "TcpHeader", 20, 14, "Ipv4HeaderTotalLen", 20, f"{V4} tcp 80 > 4000 [SFRPAUECN] seq 1 ack 2")
+short(RAW, v4(6, tcp(2)[:13]), "TcpHeader", 20, 13, "Ipv4HeaderTotalLen", 20, f"{V4} tcp 80 > 4000")
+short(RAW, v6(6, tcp(2)[:4]), "TcpHeader", 20, 4, "Ipv6HeaderPayloadLen", 40, f"{V6} tcp 80 > 4000")
+short(RAW, v6(6, tcp(2)[:3]), "TcpHeader", 20, 3, "Ipv6HeaderPayloadLen", 40, V6)
+short(ETHERNET, eth(0x0800, v4(6, tcp(0, offset=6))), "TcpHeader", 24, 20, "Ipv4HeaderTotalLen", 34, f"{ETH} {V4} tcp 80 > 4000 [] seq 1")
+wrong(RAW, v4(6, tcp(0, offset=4)), "Tcp DataOffsetTooSmall 4", f"{V4} tcp 80 > 4000 [] seq 1")
+short(ETHERNET, eth(0x0800, v4(1, icmp(0, 0)[:7])), "Icmpv4", 8, 7, "Ipv4HeaderTotalLen", 34, f"{ETH} {V4}")
+short(RAW, v4(1, icmp(13, 0, numbers + times)[:19]), "Icmpv4Timestamp", 20, 19, "Ipv4HeaderTotalLen", 20, V4)
+short(RAW, v4(1, icmp(14, 0, numbers + times + b"a")), "Icmpv4TimestampReply", 20, 21, "Ipv4HeaderTotalLen", 20, V4)
+short(RAW, v6(58, icmp(128, 0)[:7]), "Icmpv6", 8, 7, "Ipv6HeaderPayloadLen", 40, V6)
 
 
 # Fragments: a payload of each kind that is put together, and each refusal of the pool.
@@ -209,7 +230,8 @@ def halves(number, name, payload, identification, told):
     """The two fragments of a payload, and what is told of it."""
     first, last = payload[:8], payload[8:]
     opening = f"{V4} fragment id {identification} offset"
-    row(RAW, v4(number, first, identification, 0x2000), f"{opening} 0 more protocol {number}{name} len 8")
+    ports = {6: " tcp 80 > 4000", 17: " udp 21 > 1234"}.get(number, "")
+    row(RAW, v4(number, first, identification, 0x2000), f"{opening} 0 more{ports} protocol {number}{name} len 8")
     row(RAW, v4(number, last, identification, 1), f"{opening} 8 protocol {number}{name} len {len(last)}", f"{opening} 8 reassembled {told}")
 
 
@@ -233,22 +255,44 @@ row(RAW, v4(17, bytes(8), 110, 2), f"{V4} fragment id 110 offset 16 protocol 17 
 refused(110, 24, False, 8, "Received a IP fragment (offset + len: 32) which conflicts a package that previously set the end to 24.")
 
 
-def summary():
+row(RAW, v4(6, tcp(2)[:16], 111, 0x2000), f"{V4} fragment id 111 offset 0 more tcp 80 > 4000 [S] seq 1 protocol 6 TCP len 16")
+
+
+def counted(name, line):
+    """How often a layer stands in a line; ports that are told of a header that is not read are no layer."""
+    if name in ("udp ", "tcp ") and (" protocol " in line or " stopped " in line):
+        return 0
+    return line.count(" " + name)
+
+
+def refusals(word, lines):
+    """How many lines say this, and how often for what: of too few bytes the layer, and of others what is wrong."""
+    names = {}
+    for line in lines:
+        if f" {word} " in line:
+            why = line.split(f" {word} ")[1]
+            name = why.split(":")[0] if ":" in why else why.rstrip(" 0123456789")
+            names[name] = names.get(name, 0) + 1
+    yield f"{word}: {sum(names.values())}"
+    yield from (f"  {name}: {times}" for name, times in names.items())
+
+
+def summary(lines):
     """The lines of --summary, counted by the texts."""
     own = [line for line in lines if "reassembled" not in line]
     yield f"packets: {len(packets)}"
     yield f"bytes: {sum(len(data) for _, data, _ in packets)} of {sum(length for _, _, length in packets)}"
     for name in ["eth ", "sll ", "vlan:", "macsec ", "ipv4 ", "ipv6 ", "arp ", "fragment ", "udp ", "tcp ", "icmpv4 ", "icmpv6 "]:
-        yield f"{name.rstrip(' :')}: {sum(line.count(' ' + name) for line in own)}"
-    yield f"refused: {sum(errors.values())}"
-    yield from (f"  {name}: {times}" for name, times in errors.items())
+        yield f"{name.rstrip(' :')}: {sum(counted(name, line) for line in own if ' refused ' not in line)}"
+    yield from refusals("refused", own)
+    yield from refusals("stopped", own)
     unread = sum(" link 105" in line for line in lines)
     yield f"not read: {unread}"
     yield f"  link 105: {unread}"
     yield f"reassembled: {sum(' reassembled ' in line for line in lines)}"
     yield f"not reassembled: {sum(' not reassembled: ' in line for line in lines)}"
     yield "given up: 0"
-    yield "open at the end: 3"
+    yield "open at the end: 4"
 
 
 def block(number, body):
@@ -265,8 +309,8 @@ def capture():
         yield block(6, struct.pack("<IIIII", link, 0, tick, len(data), length) + data)
 
 
-lines += list(summary())
 with open(sys.argv[1], "wb") as file:
     file.writelines(capture())
-with open(sys.argv[2], "w", encoding="utf-8") as file:
-    file.writelines(f"{line}\n" for line in lines)
+for name, lines in zip(sys.argv[2:], [lax_lines, strict_lines]):
+    with open(name, "w", encoding="utf-8") as file:
+        file.writelines(f"{line}\n" for line in lines + list(summary(lines)))

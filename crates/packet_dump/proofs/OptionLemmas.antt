@@ -8,7 +8,7 @@ use Rattle.std.proofs.lemmas.List.Sums.{sum_by-cons}
 use Rattle.packet_dump.specs.Options.{Asked, Asks, Begin, Fault, IsFault, IsItem, IsOption, IsRequest, IsValue, Item}
 use Rattle.packet_dump.specs.Options.{RefusesWords, Settings, answer_of, asked_of, bad_value, count, default_settings, dump}
 use Rattle.packet_dump.specs.Options.{fault_of, file, help, hex, inputs, is_dashed, is_input, limit, no_value, only}
-use Rattle.packet_dump.specs.Options.{option_word, reassemble, second_file, standard_input, summary, texts, timeout}
+use Rattle.packet_dump.specs.Options.{option_word, reassemble, second_file, standard_input, strict, summary, texts, timeout}
 use Rattle.packet_dump.specs.Options.{unknown_option, version, with_item}
 use Rattle.packet_dump.specs.OptionSteps.{State, Step, behind_value, behind_word, done, finished, first_state, more, step}
 use Rattle.packet_dump.specs.OptionSteps.{value_in, word_named}
@@ -135,6 +135,9 @@ sound_word words settings named text word.Version is later =
 sound_word words settings named text word.Hex is later =
     add_item settings named named (text ∷ []) words _ hex (ap (λ t. t ∷ []) is) (add-zero (named_count named))
     (later (with_item settings hex) named None)
+sound_word words settings named text word.Strict is later =
+    add_item settings named named (text ∷ []) words _ strict (ap (λ t. t ∷ []) is) (add-zero (named_count named))
+    (later (with_item settings strict) named None)
 sound_word words settings named text word.Summary is later =
     add_item settings named named (text ∷ []) words _ summary (ap (λ t. t ∷ []) is) (add-zero (named_count named))
     (later (with_item settings summary) named None)
@@ -206,6 +209,7 @@ item_step : (item : Item) (own words : List (List ℕ)) (settings : Settings) (n
     → outcome (own ++ words) (at settings named None)
     ≡ outcome words (at (with_item settings item) (is_input item || named) None)
 item_step hex own words settings named is fits = ap (λ o. outcome (o ++ words) (at settings named None)) is
+item_step strict own words settings named is fits = ap (λ o. outcome (o ++ words) (at settings named None)) is
 item_step summary own words settings named is fits = ap (λ o. outcome (o ++ words) (at settings named None)) is
 item_step reassemble own words settings named is fits = ap (λ o. outcome (o ++ words) (at settings named None)) is
 item_step (count number) own words settings named is fits = option_step (count number) own words settings named is

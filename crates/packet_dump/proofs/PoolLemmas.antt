@@ -8,10 +8,14 @@ use Rattle.etherparse.specs.Types.IpFragId.{IpFragId}
 use Rattle.etherparse.specs.Calls.{gives_frame, drops_streams, table_after, answer_to, table_with}
 use Rattle.etherparse.specs.Pools.{limit_of, HoldsEntry, HoldsTable, TakesFrame, plain_frame_answer, stream_named, wants_memory}
 use Rattle.etherparse.specs.Streams.{PacketFragment}
+use Rattle.etherparse.specs.Frame.{IsFrame}
+use Rattle.etherparse.specs.FrameRefusals.{RefusesFrame}
 use Rattle.etherparse.specs.Layers.{Layers}
+use Rattle.etherparse.specs.Types.SliceError.{SliceError}
 use Rattle.packet_dump.specs.PacketCalls.{NumberCall, PoolHistory, frame_call, with_call, with_sweep, HoldsHistory, table_behind}
 use Rattle.packet_dump.specs.PoolLines.{GivesFrame, GivesWhere, IsCallText, oldest_from, swept_at}
 use Rattle.packet_dump.specs.Sessions.{HoldsPooling}
+use Rattle.packet_dump.specs.declared.openings.Opening.{Opening}
 use Rattle.packet_dump.specs.declared.pooling.Pooling.{Pooling}
 use Rattle.packet_dump.specs.declared.dump_options.DumpOptions.{DumpOptions}
 
@@ -107,13 +111,23 @@ gives options start before this layers oldest text new same told held = (
 )
 
 -- where payloads are put together, a frame is given
-pub given : (wanted : Bool) (options : DumpOptions) (start : List ℕ) (before : PoolHistory) (this : ℕ) (layers : Layers)
-    (text : List ℕ) (after : PoolHistory) → wanted ≡ true → GivesFrame options start before this layers text after
-    → GivesWhere wanted options start before this layers text after
-given wanted options start before this layers text after is told =
-    subst (λ w. GivesWhere w options start before this layers text after) (sym is) told
+pub given : (wanted : Bool) (options : DumpOptions) (start : List ℕ) (before : PoolHistory) (this : ℕ) (opening : Opening)
+    (bytes : List ℕ) (layers : Layers) (text : List ℕ) (after : PoolHistory) → wanted ≡ true
+    → IsFrame opening.entry bytes layers → GivesFrame options start before this layers text after
+    → GivesWhere wanted options start before this opening bytes text after
+given wanted options start before this opening bytes layers text after is frame told =
+    subst (λ w. GivesWhere w options start before this opening bytes text after) (sym is) (Some layers, frame, told)
 
-pub not_given : (wanted : Bool) (options : DumpOptions) (start : List ℕ) (before : PoolHistory) (this : ℕ) (layers : Layers)
-    → wanted ≡ false → GivesWhere wanted options start before this layers [] before
-not_given wanted options start before this layers is =
-    subst (λ w. GivesWhere w options start before this layers [] before) (sym is) (refl, refl)
+-- where they are not, nothing is
+pub not_given : (wanted : Bool) (options : DumpOptions) (start : List ℕ) (before : PoolHistory) (this : ℕ)
+    (opening : Opening) (bytes : List ℕ) → wanted ≡ false
+    → GivesWhere wanted options start before this opening bytes [] before
+not_given wanted options start before this opening bytes is =
+    subst (λ w. GivesWhere w options start before this opening bytes [] before) (sym is) (refl, refl)
+
+-- what is no frame is not given
+pub no_frame : (wanted : Bool) (options : DumpOptions) (start : List ℕ) (before : PoolHistory) (this : ℕ)
+    (opening : Opening) (bytes : List ℕ) (error : SliceError) → RefusesFrame opening.entry bytes error
+    → GivesWhere wanted options start before this opening bytes [] before
+no_frame true options start before this opening bytes error refuses = (None, (error, refuses), (refl, refl))
+no_frame false options start before this opening bytes error refuses = (refl, refl)

@@ -94,7 +94,7 @@ found_passes test (first ∷ kinds) sought is =
 kind_named-is : (name : List ℕ) (sought : Kind) → kind_named name ≡ Some sought → name ≡ kind_name sought
 kind_named-is name sought is =
     (bytes_eq-Decides name (kind_name sought)).0 (found_passes (λ k. bytes_eq name (kind_name k))
-    (kind.Udp ∷ kind.Tcp ∷ kind.Icmp ∷ kind.Arp ∷ kind.Refused ∷ []) sought is)
+    (kind.Udp ∷ kind.Tcp ∷ kind.Icmp ∷ kind.Arp ∷ kind.Refused ∷ kind.Stopped ∷ []) sought is)
 
 kind_named-name : (sought : Kind) → kind_named (kind_name sought) ≡ Some sought
 kind_named-name kind.Udp = refl
@@ -102,6 +102,7 @@ kind_named-name kind.Tcp = refl
 kind_named-name kind.Icmp = refl
 kind_named-name kind.Arp = refl
 kind_named-name kind.Refused = refl
+kind_named-name kind.Stopped = refl
 
 kind_named-some : (name : List ℕ) (sought : Kind) → name ≡ kind_name sought → kind_named name ≡ Some sought
 kind_named-some name sought is = ap kind_named is ∙ kind_named-name sought
@@ -197,6 +198,7 @@ abbrev pub IsWord : List ℕ → Word → Type 0
 IsWord text word.Help = (text ≡ codes "-h") ⊎ (text ≡ codes "--help")
 IsWord text word.Version = (text ≡ codes "-V") ⊎ (text ≡ codes "--version")
 IsWord text word.Hex = text ≡ codes "--hex"
+IsWord text word.Strict = text ≡ codes "--strict"
 IsWord text word.Summary = text ≡ codes "--summary"
 IsWord text word.Reassemble = text ≡ codes "--reassemble"
 IsWord text (word.Option Count) = text ≡ codes "--count"
@@ -227,7 +229,7 @@ is_word text =
                     λ e. e,
                     (
                       λ e. e,
-                      (λ e. e, (λ e. e, (λ e. e, tt))),
+                      (λ e. e, (λ e. e, (λ e. e, (λ e. e, tt)))),
                     ),
                   ),
                 ),

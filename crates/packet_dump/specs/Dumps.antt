@@ -2,12 +2,14 @@
 use Rattle.std.specs.Prelude.{◌≡◌, ℕ, ◌+◌, ◌<◌, ◌≤◌, Bool, true, false, List, [], ◌∷◌, ◌++◌, Option, Some, None}
 use Rattle.capture_reader.specs.Captures.{Item, PlainShown, Stage, at_start, shown_in, stage_after}
 use Rattle.capture_reader.specs.Captures.{AreItems, IsCapture, RefusesCapture, items_bytes}
-use Rattle.packet_dump.specs.PacketContents.{Content, Holds}
-use Rattle.packet_dump.specs.PacketLines.{shown_text, start_text}
+use Rattle.packet_dump.specs.PacketContents.{Content, Holds, HoldsBehind}
+use Rattle.packet_dump.specs.PacketLines.{parts_start, parts_text, shown_text, start_text}
 use Rattle.packet_dump.specs.PacketCalls.{PoolHistory, new_pool}
-use Rattle.packet_dump.specs.PoolLines.{IsPooled}
+use Rattle.packet_dump.specs.PoolLines.{GivesWhere, IsPooled}
 use Rattle.packet_dump.specs.Shown.{first_after, instant_in, latest_after}
 use Rattle.capture_reader.specs.declared.refusal.CaptureError.{CaptureError}
+use Rattle.packet_dump.specs.declared.lines.LineParts.{LineParts}
+use Rattle.packet_dump.specs.declared.openings.Opening.{Opening}
 use Rattle.packet_dump.specs.declared.ending.Ending.{Ending}
 use Rattle.packet_dump.specs.declared.ending.Ending.TheVariants.{Whole, Enough, Broken}
 use Rattle.packet_dump.specs.declared.dump_options.DumpOptions.{DumpOptions}
@@ -18,9 +20,16 @@ use Rattle.packet_dump.specs.declared.dump_options.DumpOptions.{DumpOptions}
 -- the fragment that it carries; and what became of the pool.
 abbrev pub IsLine : DumpOptions → ℕ → Option ℕ → ℕ → PoolHistory → PlainShown → List ℕ → PoolHistory → Type 0
 IsLine options number first latest before shown text after =
-    (content : Content) × (more : List ℕ) × Holds shown.link shown.bytes content
-    × IsPooled options (start_text number first shown) before latest content more after
+    (content : Content) × (more : List ℕ) × Holds options.strict shown.link shown.bytes content
+    × IsPooled options (start_text number first shown) before latest shown more after
     × (text ≡ shown_text options number first shown content ++ more)
+
+-- The same of a packet whose bytes begin so, of what stands behind that.
+abbrev pub IsTextBehind : DumpOptions → LineParts → Opening → List ℕ → PoolHistory → List ℕ → PoolHistory → Type 0
+IsTextBehind options parts opening bytes before text after =
+    (content : Content) × (more : List ℕ) × HoldsBehind options.strict opening bytes content
+    × GivesWhere options.reassemble options (parts_start parts) before parts.latest opening bytes more after
+    × (text ≡ parts_text options parts content ++ more)
 
 -- ---- many lines
 

@@ -1,18 +1,24 @@
 -- The text of a frame's layers, a space before each.
-use Rattle.std.specs.Prelude.{ℕ, List, [], ◌++◌, Option, Some, None, codes}
+use Rattle.std.specs.Prelude.{ℕ, Bool, true, false, ◌&&◌, if◌then◌else◌, nat_le, List, [], ◌++◌, Option, Some, None, codes}
 use Rattle.std.specs.Fmt.{decimal}
 use Rattle.std.specs.Int.{w16, to_be_bytes}
 use Rattle.etherparse.specs.IpPayload.{IpPayload}
 use Rattle.etherparse.specs.Names.{ether_type_name, ip_number_name}
 use Rattle.etherparse.specs.Types.EtherType.{EtherType}
+use Rattle.etherparse.specs.Types.Layer.{Layer}
+use Rattle.etherparse.specs.Types.SliceError.{SliceError}
 use Rattle.etherparse.specs.FrameBytes.{last_payload}
+use Rattle.etherparse.specs.LaxLayers.{LaxLayers}
 use Rattle.etherparse.specs.Layers.{Layers, NetLayer, net_payload}
+use Rattle.etherparse.specs.LinkSlices.{LinkLayer, ethernet2, linux_sll, ether_payload, linux_sll_payload}
 use Rattle.etherparse.specs.Payloads.{payload_ether_type_in}
+use Rattle.etherparse.specs.StrictFrames.{layers_in}
 use Rattle.etherparse.specs.TransportParts.{TransportLayer}
 use Rattle.packet_dump.specs.Addresses.{hex_text}
 use Rattle.packet_dump.specs.Links.{extensions_text, link_text}
-use Rattle.packet_dump.specs.Nets.{net_text}
-use Rattle.packet_dump.specs.Transports.{len_text, transport_text}
+use Rattle.packet_dump.specs.Nets.{begins_payload, net_text}
+use Rattle.packet_dump.specs.SliceErrorTexts.{stop_text}
+use Rattle.packet_dump.specs.Transports.{header_front_text, len_text, transport_text}
 
 -- the name of a number, where it has one
 abbrev pub name_text : Option (List ℕ) → List ℕ
@@ -28,16 +34,51 @@ abbrev pub ip_payload_text : Option IpPayload → List ℕ
 ip_payload_text (Some payload) = protocol_text payload.number ++ len_text payload.bytes
 ip_payload_text None = []
 
--- an ether type, where it is known, and its name
-abbrev pub ether_type_text : Option EtherType → List ℕ
-ether_type_text (Some type) =
-    codes " type 0x" ++ hex_text (to_be_bytes w16 type.0) ++ name_text (ether_type_name type.0)
-ether_type_text None = []
+-- what is told of the front of a payload of IP, which begins with a transport header or not
+abbrev pub payload_front_text : Bool → Option IpPayload → List ℕ
+payload_front_text begins (Some payload) = if begins then header_front_text payload.number payload.bytes else []
+payload_front_text begins None = []
+
+-- What is told of a transport header that is not read, since it is cut, or stands in a first fragment.
+abbrev pub transport_front_text : Option NetLayer → List ℕ
+transport_front_text (Some net) = payload_front_text (begins_payload net) (net_payload net)
+transport_front_text None = []
+
+-- whether a link layer is Ethernet, whose type is a length up to 1500 (IEEE 802.3, 3.2.6)
+abbrev pub has_lengths : Option LinkLayer → Bool
+has_lengths (Some (ethernet2 header payload)) = true
+has_lengths (Some (linux_sll header payload)) = false
+has_lengths (Some (ether_payload type source payload)) = false
+has_lengths (Some (linux_sll_payload protocol payload)) = false
+has_lengths None = false
+
+-- whether an ether type is a length, where it may be one
+abbrev pub is_length : Bool → ℕ → Bool
+is_length lengths type = lengths && nat_le type 1500
+
+-- an ether type and its name
+abbrev pub named_type_text : ℕ → List ℕ
+named_type_text type = codes " type 0x" ++ hex_text (to_be_bytes w16 type) ++ name_text (ether_type_name type)
+
+-- the same, or a length
+abbrev pub type_text : Bool → ℕ → List ℕ
+type_text lengths type =
+    if is_length lengths type then codes " length " ++ decimal type else named_type_text type
+
+-- an ether type, where it is known
+abbrev pub ether_type_text : Bool → Option EtherType → List ℕ
+ether_type_text lengths (Some type) = type_text lengths type.0
+ether_type_text lengths None = []
 
 -- what no layer was read in: the payload of an IP packet, or else that of the link layer and its extensions
-abbrev pub unread_text : Option NetLayer → Option EtherType → List ℕ → List ℕ
-unread_text (Some net) type payload = ip_payload_text (net_payload net)
-unread_text None type payload = ether_type_text type ++ len_text payload
+abbrev pub unread_text : Option NetLayer → Bool → Option EtherType → List ℕ → List ℕ
+unread_text (Some net) lengths type payload = transport_front_text (Some net) ++ ip_payload_text (net_payload net)
+unread_text None lengths type payload = ether_type_text lengths type ++ len_text payload
+
+-- the same of some layers
+abbrev pub unread_in : Layers → List ℕ
+unread_in layers =
+    unread_text layers.net (has_lengths layers.link) (payload_ether_type_in layers) (last_payload layers)
 
 -- the transport layer, or else what no layer was read in
 abbrev pub inner_text : Option TransportLayer → List ℕ → List ℕ
@@ -48,8 +89,17 @@ inner_text None unread = unread
 abbrev pub outer_text : Layers → List ℕ
 outer_text layers = link_text layers.link ++ extensions_text layers.link_exts ++ net_text layers.net
 
--- all layers, from the outside in
-abbrev pub layers_text : Layers → List ℕ
-layers_text layers =
-    outer_text layers
-    ++ inner_text layers.transport (unread_text layers.net (payload_ether_type_in layers) (last_payload layers))
+-- what stands in them, or why the layer that does is refused
+abbrev pub rest_text : Layers → Option (SliceError × Layer) → List ℕ
+rest_text layers None = inner_text layers.transport (unread_in layers)
+rest_text layers (Some stop) = transport_front_text layers.net ++ stop_text stop.0
+
+-- that bytes of the last payload are missing which a length field says are there
+abbrev pub incomplete_text : Bool → List ℕ
+incomplete_text incomplete = if incomplete then codes " incomplete" else []
+
+-- all layers that stand, from the outside in, and what is wrong behind them
+abbrev pub packet_text : LaxLayers → List ℕ
+packet_text read =
+    outer_text (layers_in read) ++ rest_text (layers_in read) read.net.inside.stop
+    ++ incomplete_text read.net.inside.incomplete

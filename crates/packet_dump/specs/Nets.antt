@@ -1,5 +1,5 @@
 -- The text of net layers, a space before each.
-use Rattle.std.specs.Prelude.{ℕ, ◌*◌, ◌==◌, ◌&&◌, Bool, if◌then◌else◌, List, [], ◌∷◌, ◌++◌, length, Option, Some, None, codes}
+use Rattle.std.specs.Prelude.{ℕ, ◌*◌, ◌==◌, ◌&&◌, Bool, true, false, if◌then◌else◌, List, [], ◌∷◌, ◌++◌, length, Option, Some, None, codes}
 use Rattle.std.specs.Fmt.{decimal}
 use Rattle.etherparse.specs.ExtensionParts.{ExtensionPart, hop_by_hop, destination_options, routing, fragment, authentication}
 use Rattle.etherparse.specs.Ipv4.{is_ipv4_fragment}
@@ -37,6 +37,22 @@ part_text (authentication header) = codes " authentication"
 abbrev pub parts_text : List ExtensionPart → List ℕ
 parts_text [] = []
 parts_text (part ∷ others) = part_text part ++ parts_text others
+
+-- whether an extension header does not say that its packet carries a later fragment
+abbrev pub is_first : ExtensionPart → Bool
+is_first (fragment header) = header.fragment_offset == 0
+is_first other = true
+
+-- whether none of them does
+abbrev pub are_first : List ExtensionPart → Bool
+are_first [] = true
+are_first (part ∷ others) = is_first part && are_first others
+
+-- whether a packet of IP carries no later fragment, so that its payload begins with a transport header
+abbrev pub begins_payload : NetLayer → Bool
+begins_payload (ipv4 ip extensions payload) = ip.fragment_offset == 0
+begins_payload (ipv6 ip extensions payload) = are_first extensions
+begins_payload (arp packet) = false
 
 -- an address in an ARP packet: of IPv4 where the type and the length are its, others by their bytes
 abbrev pub protocol_address_text : ℕ → List ℕ → List ℕ

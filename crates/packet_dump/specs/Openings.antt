@@ -18,6 +18,10 @@ whole_of entry = record { entry = entry; skipped = 0 }
 abbrev pub behind_front : ℕ → ℕ → Opening
 behind_front skipped type = record { entry = EtherType (record { 0 = type }); skipped = skipped }
 
+-- whether the header of a Linux cooked capture is read here
+abbrev pub is_cooked : Opening → Bool
+is_cooked opening = nat_le 16 opening.skipped
+
 -- IP alone: of either version (12 and 14 on BSD, 101), IPv4 (228) or IPv6 (229)
 abbrev pub is_bare_ip : ℕ → Bool
 is_bare_ip link = (link == 12) || (link == 14) || (link == 101) || (link == 228) || (link == 229)

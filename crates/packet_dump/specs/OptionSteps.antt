@@ -8,7 +8,7 @@ use Rattle.std.specs.Str.{bytes_eq}
 use Rattle.std.specs.Str.Parse.{digits_value, without_leading_plus}
 use Rattle.packet_dump.specs.Options.{Asked, Fault, Item, Settings, asked_of, bad_value, count, default_settings, dump}
 use Rattle.packet_dump.specs.Options.{fault_of, file, help, hex, is_dashed, kind_name, limit, no_value, only, option_word}
-use Rattle.packet_dump.specs.Options.{reassemble, second_file, standard_input, summary, timeout, unknown_option, version}
+use Rattle.packet_dump.specs.Options.{reassemble, second_file, standard_input, strict, summary, timeout, unknown_option, version}
 use Rattle.packet_dump.specs.Options.{with_item}
 use Rattle.packet_dump.specs.declared.options.Awaited.{Awaited}
 use Rattle.packet_dump.specs.declared.options.Awaited.TheVariants.{Count, Only, Timeout, Limit}
@@ -24,7 +24,8 @@ use Rattle.packet_dump.specs.declared.dump_options.Kind.TheVariants as kind
 abbrev pub word_table : List (List ℕ × Word)
 word_table =
     (codes "-h", word.Help) ∷ (codes "--help", word.Help) ∷ (codes "-V", word.Version)
-    ∷ (codes "--version", word.Version) ∷ (codes "--hex", word.Hex) ∷ (codes "--summary", word.Summary)
+    ∷ (codes "--version", word.Version) ∷ (codes "--hex", word.Hex) ∷ (codes "--strict", word.Strict)
+    ∷ (codes "--summary", word.Summary)
     ∷ (codes "--reassemble", word.Reassemble)
     ∷ (codes "--count", word.Option Count) ∷ (codes "--only", word.Option Only)
     ∷ (codes "--timeout", word.Option Timeout) ∷ (codes "--limit", word.Option Limit)
@@ -50,7 +51,7 @@ number_in bits word =
 -- the kind of packets of this name
 abbrev pub kind_named : List ℕ → Option Kind
 kind_named name =
-    find (λ kind. bytes_eq name (kind_name kind)) (kind.Udp ∷ kind.Tcp ∷ kind.Icmp ∷ kind.Arp ∷ kind.Refused ∷ [])
+    find (λ kind. bytes_eq name (kind_name kind)) (kind.Udp ∷ kind.Tcp ∷ kind.Icmp ∷ kind.Arp ∷ kind.Refused ∷ kind.Stopped ∷ [])
 
 -- what a word says of an option
 abbrev pub value_in : Awaited → List ℕ → Option Item
@@ -101,6 +102,7 @@ abbrev pub behind_word : State → List ℕ → Word → Step
 behind_word state text word.Help = done (Ok help)
 behind_word state text word.Version = done (Ok version)
 behind_word state text word.Hex = behind state hex
+behind_word state text word.Strict = behind state strict
 behind_word state text word.Summary = behind state summary
 behind_word state text word.Reassemble = behind state reassemble
 behind_word state text (word.Option option) = more (record state { awaited = Some option })

@@ -22,6 +22,7 @@ kind_name kind.Tcp = codes "tcp"
 kind_name kind.Icmp = codes "icmp"
 kind_name kind.Arp = codes "arp"
 kind_name kind.Refused = codes "refused"
+kind_name kind.Stopped = codes "stopped"
 
 -- the word of an option that has a value
 abbrev pub option_word : Awaited → List ℕ
@@ -37,7 +38,7 @@ is_dashed word = starts_with nat_eq word (codes "-")
 -- the words that begin with `-` and mean something
 abbrev pub known_words : List (List ℕ)
 known_words =
-    codes "-h" ∷ codes "--help" ∷ codes "-V" ∷ codes "--version" ∷ codes "--hex" ∷ codes "--summary"
+    codes "-h" ∷ codes "--help" ∷ codes "-V" ∷ codes "--version" ∷ codes "--hex" ∷ codes "--strict" ∷ codes "--summary"
     ∷ codes "--reassemble" ∷ codes "--count" ∷ codes "--only" ∷ codes "--timeout" ∷ codes "--limit" ∷ codes "-" ∷ []
 
 -- the word is one of those
@@ -53,6 +54,7 @@ IsNumber bits word number =
 -- One thing that words ask for.
 pub data Item : Type 0 where
   hex : Item
+  strict : Item
   summary : Item
   reassemble : Item
   count : ℕ → Item
@@ -78,6 +80,7 @@ IsOption words item =
 -- the words ask for this one thing
 abbrev pub IsItem : List (List ℕ) → Item → Type 0
 IsItem words hex = words ≡ codes "--hex" ∷ []
+IsItem words strict = words ≡ codes "--strict" ∷ []
 IsItem words summary = words ≡ codes "--summary" ∷ []
 IsItem words reassemble = words ≡ codes "--reassemble" ∷ []
 IsItem words (file name) = (words ≡ name ∷ []) × (is_dashed name ≡ false)
@@ -113,6 +116,7 @@ default_settings = record {
     only = None;
     most = 18446744073709551615;
     hex = false;
+    strict = false;
     reassemble = false;
     timeout = 30;
     limit = 65535;
@@ -124,6 +128,7 @@ default_settings = record {
 -- the options, with what the item says of it
 abbrev pub options_with : DumpOptions → Item → DumpOptions
 options_with options hex = record options { hex = true }
+options_with options strict = record options { strict = true }
 options_with options reassemble = record options { reassemble = true }
 options_with options (count number) = record options { most = number }
 options_with options (only kind) = record options { only = Some kind }

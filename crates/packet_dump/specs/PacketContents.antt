@@ -1,42 +1,102 @@
 -- What a packet holds, and which packets are shown.
-use Rattle.std.specs.Prelude.{◌≡◌, ℕ, ◌+◌, ◌/◌, ◌%◌, ◌==◌, if◌then◌else◌, Bool, true, false, List, [], ◌∷◌, ◌++◌, Option, Some, None, codes, drop}
+use Rattle.std.specs.Prelude.{◌≡◌, ◌⊎◌, ℕ, ◌+◌, ◌/◌, ◌%◌, ◌==◌, ◌||◌, is_some, if◌then◌else◌, Bool, true, false, List, [], ◌∷◌, ◌++◌, Option, Some, None, codes, drop}
 use Rattle.std.specs.Fmt.{decimal}
+use Rattle.etherparse.specs.Types.Layer.{Layer}
 use Rattle.etherparse.specs.Types.SliceError.{SliceError}
 use Rattle.etherparse.specs.Frame.{IsFrame}
 use Rattle.etherparse.specs.FrameBytes.{last_payload}
+use Rattle.etherparse.specs.Lax.{IsLax}
+use Rattle.etherparse.specs.LaxLayers.{LaxLayers}
+use Rattle.etherparse.specs.LaxRefusals.{RefusesLax}
 use Rattle.etherparse.specs.Layers.{Layers, NetLayer, ipv4, ipv6, arp}
 use Rattle.etherparse.specs.FrameRefusals.{RefusesFrame}
+use Rattle.etherparse.specs.LinkExtensions.{LinkExtension}
+use Rattle.etherparse.specs.LinkSlices.{LinkLayer, ethernet2, linux_sll, ether_payload, linux_sll_payload}
+use Rattle.etherparse.specs.StrictFrames.{IsWhole, layers_in}
 use Rattle.etherparse.specs.Types.TransportHeader.{TransportHeader}
 use Rattle.etherparse.specs.Types.TransportHeader.TheVariants as header
 use Rattle.etherparse.specs.TransportParts.{TransportLayer}
 use Rattle.line_io.specs.Lines.{line_feed, space}
 use Rattle.packet_dump.specs.Addresses.{hex_pair}
-use Rattle.packet_dump.specs.LayerTexts.{layers_text}
-use Rattle.packet_dump.specs.Openings.{opening_of}
+use Rattle.packet_dump.specs.LayerTexts.{packet_text}
+use Rattle.packet_dump.specs.Openings.{is_cooked, opening_of}
 use Rattle.packet_dump.specs.SliceErrorTexts.{refusal_text}
 use Rattle.packet_dump.specs.declared.openings.Opening.{Opening}
 use Rattle.packet_dump.specs.declared.dump_options.Kind.{Kind}
-use Rattle.packet_dump.specs.declared.dump_options.Kind.TheVariants.{Udp, Tcp, Icmp, Arp, Refused}
+use Rattle.packet_dump.specs.declared.dump_options.Kind.TheVariants.{Udp, Tcp, Icmp, Arp, Refused, Stopped}
 
--- the layers of a frame, or why bytes are none, or the link type of bytes that are not read
+-- the layers of a packet, or why not one stands, or the link type of bytes that are not read
 pub data Content : Type 0 where
-  frame : Layers → Content
+  packet : LaxLayers → Content
   refusal : SliceError → Content
   other_link : ℕ → Content
 
--- bytes of this link type hold this
-abbrev pub Holds : ℕ → List ℕ → Content → Type 0
-Holds link bytes (frame layers) =
-    (opening : Opening) × (opening_of link bytes ≡ Some opening)
-    × IsFrame opening.entry (drop opening.skipped bytes) layers
-Holds link bytes (refusal error) =
-    (opening : Opening) × (opening_of link bytes ≡ Some opening)
-    × RefusesFrame opening.entry (drop opening.skipped bytes) error
-Holds link bytes (other_link number) = (opening_of link bytes ≡ None) × (number ≡ link)
+-- ---- what is read strictly
+
+-- Bytes hold this where only a frame is read: its layers, of which nothing is missing.
+abbrev pub HoldsStrictly : Opening → List ℕ → Content → Type 0
+HoldsStrictly opening bytes (packet read) = IsFrame opening.entry bytes (layers_in read) × IsWhole read
+HoldsStrictly opening bytes (refusal error) = RefusesFrame opening.entry bytes error
+HoldsStrictly opening bytes (other_link number) = ⊥
+
+-- the layers of the frame that bytes are, if they are one
+abbrev pub IsFrameIn : Opening → List ℕ → Option Layers → Type 0
+IsFrameIn opening bytes (Some layers) = IsFrame opening.entry bytes layers
+IsFrameIn opening bytes None = (error : SliceError) × RefusesFrame opening.entry bytes error
+
+-- ---- what is read laxly
+
+-- whether a link layer has a header
+abbrev pub has_header : Option LinkLayer → Bool
+has_header (Some (ethernet2 header payload)) = true
+has_header (Some (linux_sll header payload)) = true
+has_header (Some (ether_payload type source payload)) = false
+has_header (Some (linux_sll_payload protocol payload)) = false
+has_header None = false
+
+-- whether there are link extensions
+abbrev pub has_extensions : List (LinkExtension × Bool) → Bool
+has_extensions [] = false
+has_extensions (extension ∷ others) = true
+
+-- whether a layer stands, of the library's or a cooked header that was read in front of them
+abbrev pub has_layer : Opening → LaxLayers → Bool
+has_layer opening read =
+    is_cooked opening || (has_header read.link || (has_extensions read.link_exts || is_some read.net.layer))
+
+-- what bytes hold whose layers end in front of a refused one or do not, of which one stands or not
+abbrev pub content_of : Option (SliceError × Layer) → Bool → LaxLayers → Content
+content_of None stands read = packet read
+content_of (Some stop) true read = packet read
+content_of (Some stop) false read = refusal stop.0
+
+-- what bytes hold that are read laxly as these layers
+abbrev pub content_with : Opening → LaxLayers → Content
+content_with opening read = content_of read.net.inside.stop (has_layer opening read) read
+
+-- Bytes hold this where what is there of a packet is read.
+abbrev pub HoldsLaxly : Opening → List ℕ → Content → Type 0
+HoldsLaxly opening bytes content =
+    ((error : SliceError) × RefusesLax opening.entry bytes error × (content ≡ refusal error))
+    ⊎ ((read : LaxLayers) × IsLax opening.entry bytes read × (content ≡ content_with opening read))
+
+-- ---- either
+
+-- bytes that begin so hold this
+abbrev pub HoldsBehind : Bool → Opening → List ℕ → Content → Type 0
+HoldsBehind true opening bytes content = HoldsStrictly opening bytes content
+HoldsBehind false opening bytes content = HoldsLaxly opening bytes content
+
+-- bytes of this link type hold this, read strictly or not
+abbrev pub Holds : Bool → ℕ → List ℕ → Content → Type 0
+Holds strict link bytes content =
+    ((opening : Opening) × (opening_of link bytes ≡ Some opening)
+    × HoldsBehind strict opening (drop opening.skipped bytes) content)
+    ⊎ ((opening_of link bytes ≡ None) × (content ≡ other_link link))
 
 -- its text
 abbrev pub content_text : Content → List ℕ
-content_text (frame layers) = layers_text layers
+content_text (packet read) = packet_text read
 content_text (refusal error) = refusal_text error
 content_text (other_link number) = codes " link " ++ decimal number
 
@@ -54,12 +114,17 @@ abbrev pub frame_kind : Option NetLayer → Option TransportLayer → Option Kin
 frame_kind net (Some layer) = Some (header_kind layer.header)
 frame_kind (Some (ipv4 ip extensions payload)) None = None
 frame_kind (Some (ipv6 ip extensions payload)) None = None
-frame_kind (Some (arp packet)) None = Some Arp
+frame_kind (Some (arp found)) None = Some Arp
 frame_kind None None = None
+
+-- what a packet is whose layers end in front of a refused one, or do not
+abbrev pub packet_kind : Layers → Option (SliceError × Layer) → Option Kind
+packet_kind layers (Some stop) = Some Stopped
+packet_kind layers None = frame_kind layers.net layers.transport
 
 -- the kind of a packet, where it is of one
 abbrev pub content_kind : Content → Option Kind
-content_kind (frame layers) = frame_kind layers.net layers.transport
+content_kind (packet read) = packet_kind (layers_in read) read.net.inside.stop
 content_kind (refusal error) = Some Refused
 content_kind (other_link number) = None
 
@@ -70,6 +135,7 @@ same_kind Tcp Tcp = true
 same_kind Icmp Icmp = true
 same_kind Arp Arp = true
 same_kind Refused Refused = true
+same_kind Stopped Stopped = true
 same_kind wanted kind = false
 
 -- whether packets of this kind are shown, where all are or those of one kind
@@ -94,9 +160,9 @@ abbrev pub rows_text : ℕ → List ℕ → List ℕ
 rows_text index [] = []
 rows_text index (byte ∷ bytes) = in_row_text index byte ++ rows_text (index + 1) bytes
 
--- the payload of a frame, or all bytes of what is none or is not read
+-- the payload of the last layer that stands, or all bytes where none does or the link type is not read
 abbrev pub shown_bytes : Content → List ℕ → List ℕ
-shown_bytes (frame layers) bytes = last_payload layers
+shown_bytes (packet read) bytes = last_payload (layers_in read)
 shown_bytes (refusal error) bytes = bytes
 shown_bytes (other_link number) bytes = bytes
 

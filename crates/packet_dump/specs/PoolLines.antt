@@ -1,5 +1,6 @@
 -- What is written of payloads that are put together from fragments, and of fragments that the pool refuses.
-use Rattle.std.specs.Prelude.{◌≡◌, ℕ, ◌-◌, ◌*◌, ◌/◌, if◌then◌else◌, Bool, true, false, List, [], ◌∷◌, ◌++◌, Option, Some, None, codes}
+use Rattle.std.specs.Prelude.{◌≡◌, ◌⊎◌, ℕ, ◌-◌, ◌*◌, ◌/◌, if◌then◌else◌, Bool, true, false, List, [], ◌∷◌, ◌++◌, Option, Some, None, codes, drop}
+use Rattle.capture_reader.specs.Captures.{PlainShown}
 use Rattle.etherparse.specs.Readings.{slices}
 use Rattle.etherparse.specs.Types.TcpHeaderSliceError.{HeaderSliceError}
 use Rattle.etherparse.specs.Types.TcpHeaderSliceError.TheVariants as header_error
@@ -12,11 +13,13 @@ use Rattle.etherparse.specs.Types.SliceError.TheVariants as slice_error
 use Rattle.etherparse.specs.Layers.{Layers}
 use Rattle.etherparse.specs.TransportParts.{TransportLayer, IsTransportPart, RefusesTransportPart, payload_in}
 use Rattle.line_io.specs.Lines.{line_feed}
-use Rattle.packet_dump.specs.PacketContents.{Content, frame, refusal, other_link, bytes_text, header_kind, shows_kind}
+use Rattle.packet_dump.specs.Openings.{opening_of}
+use Rattle.packet_dump.specs.PacketContents.{IsFrameIn, bytes_text, header_kind, shows_kind}
 use Rattle.packet_dump.specs.LayerTexts.{outer_text, protocol_text}
 use Rattle.packet_dump.specs.PacketCalls.{PoolHistory, frame_call, table_behind, with_call, with_sweep}
 use Rattle.packet_dump.specs.SliceErrorTexts.{refusal_text}
 use Rattle.packet_dump.specs.Transports.{len_text, transport_text}
+use Rattle.packet_dump.specs.declared.openings.Opening.{Opening}
 use Rattle.packet_dump.specs.declared.dump_options.Kind.{Kind}
 use Rattle.packet_dump.specs.declared.dump_options.Kind.TheVariants.{Refused}
 use Rattle.packet_dump.specs.declared.dump_options.DumpOptions.{DumpOptions}
@@ -126,15 +129,21 @@ GivesFrame options start before this layers text after =
 abbrev pub DoesNothing : PoolHistory → List ℕ → PoolHistory → Type 0
 DoesNothing before text after = (text ≡ []) × (after ≡ before)
 
--- a frame is given where payloads are put together
-abbrev pub GivesWhere : Bool → DumpOptions → List ℕ → PoolHistory → ℕ → Layers → List ℕ → PoolHistory → Type 0
-GivesWhere true options start before this layers text after = GivesFrame options start before this layers text after
-GivesWhere false options start before this layers text after = DoesNothing before text after
+-- a frame is given, if there is one
+abbrev pub GivesFound : DumpOptions → List ℕ → PoolHistory → ℕ → Option Layers → List ℕ → PoolHistory → Type 0
+GivesFound options start before this (Some layers) text after = GivesFrame options start before this layers text after
+GivesFound options start before this None text after = DoesNothing before text after
+
+-- where payloads are put together, bytes that begin so are given which are a frame, and no others
+abbrev pub GivesWhere : Bool → DumpOptions → List ℕ → PoolHistory → ℕ → Opening → List ℕ → List ℕ → PoolHistory → Type 0
+GivesWhere false options start before this opening bytes text after = DoesNothing before text after
+GivesWhere true options start before this opening bytes text after =
+    (frame : Option Layers) × IsFrameIn opening bytes frame × GivesFound options start before this frame text after
 
 -- What is written of the fragment that a packet carries which came at this instant, and what becomes of the pool. What
--- is refused or not read does nothing.
-abbrev pub IsPooled : DumpOptions → List ℕ → PoolHistory → ℕ → Content → List ℕ → PoolHistory → Type 0
-IsPooled options start before this (frame layers) text after =
-    GivesWhere options.reassemble options start before this layers text after
-IsPooled options start before this (refusal error) text after = DoesNothing before text after
-IsPooled options start before this (other_link number) text after = DoesNothing before text after
+-- is no frame or is not read does nothing.
+abbrev pub IsPooled : DumpOptions → List ℕ → PoolHistory → ℕ → PlainShown → List ℕ → PoolHistory → Type 0
+IsPooled options start before this shown text after =
+    ((opening : Opening) × (opening_of shown.link shown.bytes ≡ Some opening)
+    × GivesWhere options.reassemble options start before this opening (drop opening.skipped shown.bytes) text after)
+    ⊎ ((opening_of shown.link shown.bytes ≡ None) × DoesNothing before text after)

@@ -1,8 +1,6 @@
--- Why bytes are no frame, in the words of the errors themselves.
+-- Which layer of a packet is refused, and why, in the words of the errors themselves.
 use Rattle.std.specs.Prelude.{ℕ, List, [], ◌++◌, codes}
-use Rattle.std.specs.Fmt.{decimal}
-use Rattle.etherparse.specs.Names.{layer_name, len_source_name}
-use Rattle.etherparse.specs.Types.LenError.{LenError}
+use Rattle.etherparse.specs.Names.{layer_name}
 use Rattle.etherparse.specs.Types.IpAuthHeaderError.TheVariants as auth_error
 use Rattle.etherparse.specs.Types.IpHeaderError.TheVariants as ip_error
 use Rattle.etherparse.specs.Types.Ipv4HeaderError.TheVariants as ipv4_error
@@ -13,43 +11,7 @@ use Rattle.etherparse.specs.Types.MacsecHeaderError.TheVariants as macsec_error
 use Rattle.etherparse.specs.Types.TcpHeaderError.TheVariants as tcp_error
 use Rattle.etherparse.specs.Types.SliceError.{SliceError}
 use Rattle.etherparse.specs.Types.SliceError.TheVariants.{Len, LinuxSll, Macsec, Ip, Ipv4, Ipv6, Ipv4Exts, Ipv6Exts, Tcp}
-
--- how many bytes a layer needs, and how many are there
-unfoldable pub needed_text : LenError → List ℕ
-needed_text error =
-    layer_name error.layer ++ (codes ": " ++ decimal error.required_len)
-    ++ (codes " bytes needed, " ++ decimal error.len)
-
--- what set that, and where the layer begins
-unfoldable pub limit_text : LenError → List ℕ
-limit_text error =
-    codes " there (limit " ++ len_source_name error.len_source
-    ++ (codes ", offset " ++ decimal error.layer_start_offset)
-
--- a layer that has too few bytes
-abbrev pub len_error_text : LenError → List ℕ
-len_error_text error = needed_text error ++ limit_text error ++ codes ")"
-
--- why bytes are refused
-abbrev pub reason_text : SliceError → List ℕ
-reason_text (Len error) = len_error_text error
-reason_text (LinuxSll (linux_sll_error.UnsupportedPacketTypeField number)) =
-    codes "UnsupportedPacketTypeField " ++ decimal number
-reason_text (LinuxSll (linux_sll_error.UnsupportedArpHardwareId number)) =
-    codes "UnsupportedArpHardwareId " ++ decimal number
-reason_text (Macsec macsec_error.UnexpectedVersion) = codes "UnexpectedVersion"
-reason_text (Macsec macsec_error.InvalidUnmodifiedShortLen) = codes "InvalidUnmodifiedShortLen"
-reason_text (Ip (ip_error.UnsupportedIpVersion version)) = codes "UnsupportedIpVersion " ++ decimal version
-reason_text (Ip (ip_error.Ipv4HeaderLengthSmallerThanHeader ihl)) =
-    codes "Ipv4HeaderLengthSmallerThanHeader " ++ decimal ihl
-reason_text (Ipv4 (ipv4_error.UnexpectedVersion version)) = codes "UnexpectedVersion " ++ decimal version
-reason_text (Ipv4 (ipv4_error.HeaderLengthSmallerThanHeader ihl)) =
-    codes "HeaderLengthSmallerThanHeader " ++ decimal ihl
-reason_text (Ipv6 (ipv6_error.UnexpectedVersion version)) = codes "UnexpectedVersion " ++ decimal version
-reason_text (Ipv4Exts auth_error.ZeroPayloadLen) = codes "ZeroPayloadLen"
-reason_text (Ipv6Exts exts_error.HopByHopNotAtStart) = codes "HopByHopNotAtStart"
-reason_text (Ipv6Exts (exts_error.IpAuth auth_error.ZeroPayloadLen)) = codes "ZeroPayloadLen"
-reason_text (Tcp (tcp_error.DataOffsetTooSmall data_offset)) = codes "DataOffsetTooSmall " ++ decimal data_offset
+use Rattle.refusal_texts.specs.ReasonTexts.{reason_text}
 
 -- the layer that is refused, which the words of an error do not name but where bytes are missing
 abbrev pub refused_layer : SliceError → List ℕ
@@ -63,9 +25,13 @@ refused_layer (Ipv4Exts error) = codes "Ipv4Exts "
 refused_layer (Ipv6Exts error) = codes "Ipv6Exts "
 refused_layer (Tcp error) = codes "Tcp "
 
--- that they are refused, a space before it
+-- that bytes are refused, a space before it
 abbrev pub refusal_text : SliceError → List ℕ
 refusal_text error = codes " refused " ++ refused_layer error ++ reason_text error
+
+-- that the layers of a packet end in front of one that is refused
+abbrev pub stop_text : SliceError → List ℕ
+stop_text error = codes " stopped " ++ refused_layer error ++ reason_text error
 
 -- what an error is counted as: of too few bytes the layer, and of others what is wrong
 abbrev pub error_name : SliceError → List ℕ

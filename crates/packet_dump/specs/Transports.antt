@@ -1,9 +1,13 @@
 -- The text of transport layers, a space before each.
-use Rattle.std.specs.Prelude.{ℕ, Bool, if◌then◌else◌, List, [], ◌∷◌, ◌++◌, length, codes}
+use Rattle.std.specs.Prelude.{ℕ, ◌==◌, ◌&&◌, nat_le, nat_lt, Bool, if◌then◌else◌, List, [], ◌∷◌, ◌++◌, length, codes}
 use Rattle.std.specs.Fmt.{decimal}
+use Rattle.etherparse.specs.Bytes.{word_at}
+use Rattle.etherparse.specs.IpNumbers.{tcp_number, udp_number}
+use Rattle.etherparse.specs.Tcp.{tcp_header_of}
 use Rattle.etherparse.specs.Types.TcpHeader.{TcpHeader}
 use Rattle.etherparse.specs.Types.TransportHeader.{TransportHeader}
 use Rattle.etherparse.specs.Types.TransportHeader.TheVariants as header
+use Rattle.etherparse.specs.Types.UdpHeader.{UdpHeader}
 use Rattle.etherparse.specs.TransportParts.{TransportLayer}
 use Rattle.packet_dump.specs.IcmpTexts.{icmpv4_text, icmpv6_text}
 
@@ -38,13 +42,51 @@ state_text tcp =
 abbrev pub tcp_text : TcpHeader → List ℕ
 tcp_text tcp = codes " tcp " ++ ports_text tcp.source_port tcp.destination_port ++ state_text tcp
 
+-- a UDP header: ports
+abbrev pub udp_text : UdpHeader → List ℕ
+udp_text udp = codes " udp " ++ ports_text udp.source_port udp.destination_port
+
 -- a transport header
 abbrev pub transport_header_text : TransportHeader → List ℕ
-transport_header_text (header.Udp udp) = codes " udp " ++ ports_text udp.source_port udp.destination_port
+transport_header_text (header.Udp udp) = udp_text udp
 transport_header_text (header.Tcp tcp) = tcp_text tcp
 transport_header_text (header.Icmpv4 icmp) = icmpv4_text icmp.icmp_type
 transport_header_text (header.Icmpv6 icmp) = icmpv6_text icmp.icmp_type
 
+-- that the length field of UDP is 0, where bytes stand behind the header
+abbrev pub no_length_text : TransportHeader → List ℕ → List ℕ
+no_length_text (header.Udp udp) payload =
+    if (udp.length == 0) && nat_lt 0 (length payload) then codes " length 0" else []
+no_length_text (header.Tcp tcp) payload = []
+no_length_text (header.Icmpv4 icmp) payload = []
+no_length_text (header.Icmpv6 icmp) payload = []
+
 -- a transport layer: its header, and the length of its payload
 abbrev pub transport_text : TransportLayer → List ℕ
-transport_text layer = transport_header_text layer.header ++ len_text layer.payload
+transport_text layer =
+    transport_header_text layer.header ++ no_length_text layer.header layer.payload ++ len_text layer.payload
+
+-- ---- headers that are not read
+
+-- the ports that stand at the front of bytes
+abbrev pub ports_at : List ℕ → List ℕ
+ports_at bytes = ports_text (word_at bytes 0) (word_at bytes 2)
+
+-- the flags and the sequence numbers of TCP, where their 14 bytes are there
+abbrev pub state_at : List ℕ → List ℕ
+state_at bytes = if nat_le 14 (length bytes) then state_text (tcp_header_of bytes) else []
+
+-- the front of a UDP header
+abbrev pub udp_front_text : List ℕ → List ℕ
+udp_front_text bytes = codes " udp " ++ ports_at bytes
+
+-- the front of a TCP header
+abbrev pub tcp_front_text : List ℕ → List ℕ
+tcp_front_text bytes = codes " tcp " ++ ports_at bytes ++ state_at bytes
+
+-- the front of a header of this protocol number: of UDP and TCP, where their 4 bytes of ports are there
+abbrev pub header_front_text : ℕ → List ℕ → List ℕ
+header_front_text number bytes =
+    if nat_lt (length bytes) 4 then [] else
+    (if number == udp_number then udp_front_text bytes else
+    (if number == tcp_number then tcp_front_text bytes else []))

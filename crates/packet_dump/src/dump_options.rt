@@ -1,13 +1,14 @@
 //! What is shown of a capture.
 
-ghost use Rattle.std.specs.Prelude.{◌≡◌, Some};
+ghost use Rattle.std.specs.Prelude.{◌≡◌, ◌||◌, Some};
 ghost use Rattle.std.specs.Option.{option_map};
-ghost use Rattle.etherparse.specs.Layers.{layers_of};
+ghost use Rattle.etherparse.specs.LaxPackets.{lax_layers_of};
+ghost use Rattle.etherparse.specs.LaxViews.{lax_net_layer_of};
 ghost use Rattle.etherparse.specs.TransportParts.{transport_layer_of};
-ghost use Rattle.packet_dump.specs.PacketContents.{content_kind, frame, same_kind, shows_kind};
+ghost use Rattle.packet_dump.specs.PacketContents.{content_kind, frame_kind, packet, same_kind, shows_kind};
 ghost use Rattle.packet_dump.specs.PoolLines.{inner_kind, part};
 
-use etherparse::{NetSlice, SlicedPacket, TransportSlice};
+use etherparse::{LaxNetSlice, LaxSlicedPacket, TransportSlice};
 
 /// A kind of packet.
 #[derive(Clone, Copy, Debug)]
@@ -20,20 +21,33 @@ pub enum Kind {
     Icmp,
     /// An ARP packet.
     Arp,
-    /// What is refused.
+    /// A packet of which not one layer stands, or a fragment that is refused.
     Refused,
+    /// A packet whose layers end in front of one that is refused.
+    Stopped,
 }
 
 impl Kind {
-    /// The kind of a frame, where it is of one.
-    pub fn of(packet: &SlicedPacket<'_>) -> Option<Kind>
-        ensures { result ≡ content_kind (frame (layers_of packet.now)) }
+    /// The kind of a packet, where it is of one.
+    pub fn of(read: &LaxSlicedPacket<'_>) -> Option<Kind>
+        ensures { result ≡ content_kind (packet (lax_layers_of read.now)) }
     {
-        match (&packet.transport, &packet.net) {
+        match &read.stop_err {
+            Some(_) => Some(Kind::Stopped),
+            None => Kind::of_layers(read),
+        }
+    }
+
+    /// The same of one whose layers do not end in front of a refused one.
+    fn of_layers(read: &LaxSlicedPacket<'_>) -> Option<Kind>
+        ensures { result ≡ frame_kind (option_map lax_net_layer_of read.now.net)
+            (option_map transport_layer_of read.now.transport) }
+    {
+        match (&read.transport, &read.net) {
             (Some(TransportSlice::Udp(_)), _) => Some(Kind::Udp),
             (Some(TransportSlice::Tcp(_)), _) => Some(Kind::Tcp),
             (Some(TransportSlice::Icmpv4(_) | TransportSlice::Icmpv6(_)), _) => Some(Kind::Icmp),
-            (None, Some(NetSlice::Arp(_))) => Some(Kind::Arp),
+            (None, Some(LaxNetSlice::Arp(_))) => Some(Kind::Arp),
             (None, _) => None,
         }
     }
@@ -61,6 +75,7 @@ impl Kind {
                 | (Kind::Icmp, Kind::Icmp)
                 | (Kind::Arp, Kind::Arp)
                 | (Kind::Refused, Kind::Refused)
+                | (Kind::Stopped, Kind::Stopped)
         )
     }
 }
@@ -74,6 +89,8 @@ pub struct DumpOptions {
     pub most: u64,
     /// Whether the bytes of payloads are shown, and all bytes of what is refused.
     pub hex: bool,
+    /// Whether only frames are read, and no layers of what is none.
+    pub strict: bool,
     /// Whether payloads are put together from fragments.
     pub reassemble: bool,
     /// How many seconds a stream of fragments is kept of which none is accepted.
@@ -83,6 +100,13 @@ pub struct DumpOptions {
 }
 
 impl DumpOptions {
+    /// Whether it matters which packets are frames.
+    pub fn asks_frames(&self) -> bool
+        ensures { result ≡ (self.now.strict || self.now.reassemble) }
+    {
+        self.strict || self.reassemble
+    }
+
     /// Whether packets of a kind are shown.
     pub fn shows(&self, kind: Option<Kind>) -> bool
         ensures { result ≡ shows_kind self.now.only kind }

@@ -1,51 +1,148 @@
-//! The text of a frame's layers.
+//! The text of a packet's layers.
 
-ghost use Rattle.std.specs.Prelude.{◌≡◌, ◌++◌, OnOk};
+ghost use Rattle.std.specs.Prelude.{◌≡◌, ◌++◌, OnOk, false, map};
 ghost use Rattle.std.specs.Option.{option_copied, option_map};
-ghost use Rattle.etherparse.specs.IpPayload.{ip_payload_of};
-ghost use Rattle.etherparse.specs.FrameBytes.{last_payload};
-ghost use Rattle.etherparse.specs.Layers.{layers_of};
-ghost use Rattle.etherparse.specs.Payloads.{payload_ether_type_in};
-ghost use Rattle.packet_dump.specs.LayerTexts.{ether_type_text, ip_payload_text, layers_text, name_text, outer_text, protocol_text, unread_text};
+ghost use Rattle.etherparse.specs.LaxPackets.{lax_layers_of};
+ghost use Rattle.etherparse.specs.LaxSlices.{lax_ip_payload_of};
+ghost use Rattle.etherparse.specs.LaxViews.{lax_extensions_of, lax_net_layer_of};
+ghost use Rattle.etherparse.specs.LinkSlices.{link_layer_of};
+ghost use Rattle.etherparse.specs.Payloads.{ether_payload_in, payload_ether_type_in};
+ghost use Rattle.etherparse.specs.StrictFrames.{extension_in, layers_in};
+ghost use Rattle.packet_dump.specs.LayerTexts.{ether_type_text, has_lengths, incomplete_text, is_length, named_type_text, inner_text, ip_payload_text, name_text, outer_text};
+ghost use Rattle.packet_dump.specs.LayerTexts.{packet_text, payload_front_text, protocol_text, rest_text};
+ghost use Rattle.packet_dump.specs.LayerTexts.{transport_front_text, type_text, unread_in};
+ghost use Rattle.packet_dump.specs.Links.{extensions_text};
+ghost use Rattle.packet_dump.specs.SliceErrorTexts.{stop_text};
 
 use crate::addresses::push_hex;
 use crate::links::{push_extensions, push_link};
-use crate::nets::push_net;
-use crate::transports::{push_len, push_transport};
-use etherparse::{EtherType, IpNumber, IpPayloadSlice, SlicedPacket};
+use crate::nets::{begins_payload, push_net};
+use crate::refusals::push_stop;
+use crate::transports::{push_header_front, push_len, push_transport};
+use etherparse::err::packet::SliceError;
+use etherparse::{
+    EtherType, IpNumber, LaxIpPayloadSlice, LaxLinkExtSlice, LaxNetSlice, LaxSlicedPacket,
+    LinkSlice,
+};
 use line_io::decimals;
 use std::alloc::AllocError;
 
-/// Appends the text of each layer, from the outside in, a space before each.
-pub fn push_layers(output: &mut Vec<u8>, packet: &SlicedPacket<'_>) -> Result<(), AllocError>
-    ensures { OnOk result (output.new.items ≡ output.old.items ++ layers_text (layers_of packet.now)) }
+/// Appends the text of each layer that stands, from the outside in, a space before each, and what is wrong behind them.
+pub fn push_packet(output: &mut Vec<u8>, read: &LaxSlicedPacket<'_>) -> Result<(), AllocError>
+    ensures { OnOk result (output.new.items ≡ output.old.items ++ packet_text (lax_layers_of read.now)) }
 {
-    push_outer(output, packet)?;
-    match &packet.transport {
-        Some(transport) => push_transport(output, transport),
-        None => push_unread(output, packet),
-    }
+    push_outer(output, read)?;
+    push_rest(output, read)?;
+    push_incomplete(output, read.is_incomplete())
 }
 
 /// Appends the text of each layer outside the payload of the net layer.
-pub fn push_outer(output: &mut Vec<u8>, packet: &SlicedPacket<'_>) -> Result<(), AllocError>
-    ensures { OnOk result (output.new.items ≡ output.old.items ++ outer_text (layers_of packet.now)) }
+pub fn push_outer(output: &mut Vec<u8>, read: &LaxSlicedPacket<'_>) -> Result<(), AllocError>
+    ensures { OnOk result (output.new.items ≡ output.old.items ++ outer_text (layers_in (lax_layers_of read.now))) }
 {
-    push_link(output, &packet.link)?;
-    push_extensions(output, packet.link_exts.as_slice())?;
-    push_net(output, &packet.net)
+    push_link(output, &read.link)?;
+    push_tags(output, read.link_exts.as_slice())?;
+    push_net(output, &read.net)
+}
+
+/// Appends the text of each link extension.
+fn push_tags(output: &mut Vec<u8>, extensions: &[LaxLinkExtSlice<'_>]) -> Result<(), AllocError>
+    ensures { OnOk result (output.new.items ≡ output.old.items
+        ++ extensions_text (map extension_in (lax_extensions_of false extensions.now))) }
+{
+    push_extensions(output, extensions)
+}
+
+/// Appends what stands in them, or why the layer that does is refused.
+fn push_rest(output: &mut Vec<u8>, read: &LaxSlicedPacket<'_>) -> Result<(), AllocError>
+    ensures { OnOk result (output.new.items ≡ output.old.items ++ (let layers = lax_layers_of read.now in
+        rest_text (layers_in layers) layers.net.inside.stop)) }
+{
+    match &read.stop_err {
+        Some(stop) => push_stopped(output, &read.net, &stop.0),
+        None => push_inner(output, read),
+    }
+}
+
+/// Appends what is told of a transport header that is refused, and why a layer is.
+fn push_stopped(
+    output: &mut Vec<u8>,
+    net: &Option<LaxNetSlice<'_>>,
+    error: &SliceError,
+) -> Result<(), AllocError>
+    ensures { OnOk result (output.new.items ≡ output.old.items
+        ++ (transport_front_text (option_map lax_net_layer_of net.now) ++ stop_text error.now)) }
+{
+    push_transport_front(output, net)?;
+    push_stop(output, error)
+}
+
+/// Appends the text of the transport layer, or else of what no layer was read in.
+fn push_inner(output: &mut Vec<u8>, read: &LaxSlicedPacket<'_>) -> Result<(), AllocError>
+    ensures { OnOk result (output.new.items ≡ output.old.items ++ (let layers = layers_in (lax_layers_of read.now) in
+        inner_text layers.transport (unread_in layers))) }
+{
+    match &read.transport {
+        Some(transport) => push_transport(output, transport),
+        None => push_unread(output, read),
+    }
+}
+
+/// Appends that bytes of the last payload are missing, where some are.
+fn push_incomplete(output: &mut Vec<u8>, incomplete: bool) -> Result<(), AllocError>
+    ensures { OnOk result (output.new.items ≡ output.old.items ++ incomplete_text incomplete) }
+{
+    if incomplete {
+        output.extend_from_slice(b" incomplete")?;
+    }
+    Ok(())
+}
+
+/// Appends what is told of a transport header that is not read, since it is cut, or stands in a first fragment.
+fn push_transport_front(
+    output: &mut Vec<u8>,
+    net: &Option<LaxNetSlice<'_>>,
+) -> Result<(), AllocError>
+    ensures { OnOk result (output.new.items
+        ≡ output.old.items ++ transport_front_text (option_map lax_net_layer_of net.now)) }
+{
+    match net {
+        Some(net) => push_payload_front(output, begins_payload(net), net.ip_payload_ref()),
+        None => Ok(()),
+    }
+}
+
+/// Appends what is told of the front of a payload of IP, which begins with a transport header or not.
+fn push_payload_front(
+    output: &mut Vec<u8>,
+    begins: bool,
+    payload: Option<&LaxIpPayloadSlice<'_>>,
+) -> Result<(), AllocError>
+    ensures { OnOk result (output.new.items ≡ output.old.items
+        ++ payload_front_text begins (option_map lax_ip_payload_of (option_copied payload.entry))) }
+{
+    let Some(payload) = payload else {
+        return Ok(());
+    };
+    if begins {
+        push_header_front(output, payload.ip_number, payload.payload)
+    } else {
+        Ok(())
+    }
 }
 
 /// Appends what no layer was read in: the payload of an IP packet, or else that of the link layer and its extensions.
-fn push_unread(output: &mut Vec<u8>, packet: &SlicedPacket<'_>) -> Result<(), AllocError>
-    ensures { OnOk result (output.new.items ≡ output.old.items ++ (let layers = layers_of packet.now in
-        unread_text layers.net (payload_ether_type_in layers) (last_payload layers))) }
+fn push_unread(output: &mut Vec<u8>, read: &LaxSlicedPacket<'_>) -> Result<(), AllocError>
+    ensures { OnOk result (output.new.items ≡ output.old.items ++ unread_in (layers_in (lax_layers_of read.now))) }
 {
-    match &packet.net {
-        Some(net) => push_ip_payload(output, net.ip_payload_ref()),
+    match &read.net {
+        Some(net) => {
+            push_transport_front(output, &read.net)?;
+            push_ip_payload(output, net.ip_payload_ref())
+        }
         None => {
-            push_ether_type(output, packet.payload_ether_type())?;
-            push_len(output, packet.payload())
+            push_ether_type(output, has_lengths(&read.link), open_type(read))?;
+            push_len(output, read.payload())
         }
     }
 }
@@ -53,10 +150,10 @@ fn push_unread(output: &mut Vec<u8>, packet: &SlicedPacket<'_>) -> Result<(), Al
 /// Appends the protocol and the length of the payload of an IP packet.
 fn push_ip_payload(
     output: &mut Vec<u8>,
-    payload: Option<&IpPayloadSlice<'_>>,
+    payload: Option<&LaxIpPayloadSlice<'_>>,
 ) -> Result<(), AllocError>
     ensures { OnOk result (output.new.items
-        ≡ output.old.items ++ ip_payload_text (option_map ip_payload_of (option_copied payload.entry))) }
+        ≡ output.old.items ++ ip_payload_text (option_map lax_ip_payload_of (option_copied payload.entry))) }
 {
     let Some(payload) = payload else {
         return Ok(());
@@ -73,16 +170,77 @@ pub fn push_protocol(output: &mut Vec<u8>, number: IpNumber) -> Result<(), Alloc
     push_name(output, number.name())
 }
 
-/// Appends an ether type, where it is known, and its name where it has one.
-fn push_ether_type(output: &mut Vec<u8>, ether_type: Option<EtherType>) -> Result<(), AllocError>
-    ensures { OnOk result (output.new.items ≡ output.old.items ++ ether_type_text ether_type) }
+/// The type of what lies behind the link layer and its extensions, where no layer in it is read and it is known.
+fn open_type(read: &LaxSlicedPacket<'_>) -> Option<EtherType>
+    ensures { result ≡ payload_ether_type_in (layers_in (lax_layers_of read.now)) }
 {
-    let Some(ether_type) = ether_type else {
-        return Ok(());
-    };
+    match (&read.net, &read.transport) {
+        (None, None) => type_behind(read),
+        (Some(_), _) | (None, Some(_)) => None,
+    }
+}
+
+/// The same, whether or not a layer in it is read.
+fn type_behind(read: &LaxSlicedPacket<'_>) -> Option<EtherType>
+    ensures { result ≡ option_map (λ payload. payload.ether_type)
+        (ether_payload_in (layers_in (lax_layers_of read.now))) }
+{
+    match read.ether_payload() {
+        Some(payload) => Some(payload.ether_type),
+        None => None,
+    }
+}
+
+/// Whether a link layer is Ethernet, whose type is a length up to 1500.
+fn has_lengths(link: &Option<LinkSlice<'_>>) -> bool
+    ensures { result ≡ has_lengths (option_map link_layer_of link.now) }
+{
+    match link {
+        Some(LinkSlice::Ethernet2(_)) => true,
+        Some(LinkSlice::LinuxSll(_)) => false,
+        Some(LinkSlice::EtherPayload(_) | LinkSlice::LinuxSllPayload(_)) | None => false,
+    }
+}
+
+/// Appends an ether type, where it is known.
+fn push_ether_type(
+    output: &mut Vec<u8>,
+    lengths: bool,
+    ether_type: Option<EtherType>,
+) -> Result<(), AllocError>
+    ensures { OnOk result (output.new.items ≡ output.old.items ++ ether_type_text lengths ether_type) }
+{
+    match ether_type {
+        Some(ether_type) => push_type(output, lengths, ether_type),
+        None => Ok(()),
+    }
+}
+
+/// Appends an ether type and its name where it has one, or a length where it may be one.
+fn push_type(output: &mut Vec<u8>, lengths: bool, ether_type: EtherType) -> Result<(), AllocError>
+    ensures { OnOk result (output.new.items ≡ output.old.items ++ type_text lengths ether_type.0) }
+{
+    if is_length(lengths, ether_type) {
+        decimals::push_behind(output, b" length ", u64::from(ether_type.0))
+    } else {
+        push_named_type(output, ether_type)
+    }
+}
+
+/// Appends an ether type and its name, where it has one.
+fn push_named_type(output: &mut Vec<u8>, ether_type: EtherType) -> Result<(), AllocError>
+    ensures { OnOk result (output.new.items ≡ output.old.items ++ named_type_text ether_type.0) }
+{
     output.extend_from_slice(b" type 0x")?;
     push_hex(output, &ether_type.0.to_be_bytes())?;
     push_name(output, ether_type.name())
+}
+
+/// Whether an ether type is a length, where it may be one.
+fn is_length(lengths: bool, ether_type: EtherType) -> bool
+    ensures { result ≡ is_length lengths ether_type.0 }
+{
+    lengths && ether_type.0 <= 1500
 }
 
 /// Appends the name of a number, where it has one.

@@ -1,28 +1,35 @@
 //! The line of a packet.
 
-ghost use Rattle.std.specs.Prelude.{◌≡◌, ◌<◌, ◌++◌, ℕ, List, OnOk};
+ghost use Rattle.std.specs.Prelude.{◌≡◌, ◌<◌, ◌++◌, false, is_some, ℕ, List, OnOk};
+ghost use Rattle.std.specs.Option.{option_map};
 ghost use Rattle.capture_reader.specs.Readers.{shown_of};
+ghost use Rattle.etherparse.specs.Frame.{IsFrame};
+ghost use Rattle.etherparse.specs.FrameRefusals.{RefusesFrame};
+ghost use Rattle.etherparse.specs.LaxPackets.{lax_layers_of};
 ghost use Rattle.etherparse.specs.Layers.{layers_of};
-ghost use Rattle.packet_dump.specs.PacketContents.{bytes_text, frame, in_row_text, other_link, refusal};
-ghost use Rattle.packet_dump.specs.PacketContents.{row_start, rows_text};
-ghost use Rattle.packet_dump.specs.Dumps.{IsLine};
+ghost use Rattle.etherparse.specs.LaxViews.{lax_extensions_of, lax_net_layer_of};
+ghost use Rattle.etherparse.specs.LinkSlices.{link_layer_of};
+ghost use Rattle.packet_dump.specs.PacketContents.{Content, HoldsBehind, HoldsLaxly, bytes_text, content_with};
+ghost use Rattle.packet_dump.specs.PacketContents.{has_extensions, has_header, has_layer, in_row_text, other_link};
+ghost use Rattle.packet_dump.specs.PacketContents.{packet, refusal, row_start, rows_text};
+ghost use Rattle.packet_dump.specs.Dumps.{IsLine, IsTextBehind};
 ghost use Rattle.packet_dump.specs.PacketLines.{cut_text, end_text, fraction_text, moment_text, parts_start};
 ghost use Rattle.packet_dump.specs.PacketLines.{parts_text, seconds_in, since_text, span_text, time_text};
 ghost use Rattle.packet_dump.specs.PacketCalls.{PoolHistory};
-ghost use Rattle.packet_dump.specs.PoolLines.{IsPooled};
 ghost use Rattle.packet_dump.specs.Sessions.{HoldsPooling};
 
 use crate::addresses::push_pair;
 use crate::dump_options::{DumpOptions, Kind};
-use crate::layers::push_layers;
-use crate::openings::{opening_of, push_front};
+use crate::layers::push_packet;
+use crate::openings::{Opening, opening_of, push_front};
 use crate::pooling::Pooling;
 use crate::refusals::push_refusal;
 use crate::shown::{instant_of, is_fine};
 use crate::summary::Summary;
 use capture_reader::{Shown, Time};
-use etherparse::SlicedPacket;
 use etherparse::err::packet::SliceError;
+use etherparse::laws::lax::strict_frames;
+use etherparse::{LaxLinkExtSlice, LaxNetSlice, LaxSlicedPacket, LinkSlice, SlicedPacket};
 use line_io::decimals;
 use std::alloc::AllocError;
 
@@ -58,53 +65,202 @@ pub fn push_line(
         summary.count_unread(parts.shown.link_type)?;
         return push_other(output, options, parts);
     };
-    match SlicedPacket::from_entry(opening.entry, &bytes[opening.skipped..]) {
-        Ok(frame) => {
-            summary.count_frame(&frame, opening.is_cooked());
-            push_whole(output, pooling, options, parts, &frame)
-        }
-        Err(error) => push_refused(output, summary, options, parts, &error),
+    let behind = &bytes[opening.skipped..];
+    push_behind(output, pooling, summary, options, parts, opening, behind)
+}
+
+/// Appends the line of a packet whose bytes begin so, and then what the pool says of the fragment that it carries.
+fn push_behind(
+    output: &mut Vec<u8>,
+    pooling: &mut Pooling,
+    summary: &mut Summary,
+    options: &DumpOptions,
+    parts: &LineParts<'_>,
+    opening: Opening,
+    bytes: &[u8],
+) -> Result<(), AllocError>
+    ensures { OnOk result ((before : PoolHistory) → HoldsPooling before pooling.old →
+        (text : List ℕ) × (after : PoolHistory) × IsTextBehind options.now parts.now opening bytes.now before text after
+        × HoldsPooling after pooling.new × (output.new.items ≡ output.old.items ++ text)) }
+{
+    if options.asks_frames() {
+        push_checked(output, pooling, summary, options, parts, opening, bytes)
+    } else {
+        push_lax(output, summary, options, parts, opening, bytes)
     }
 }
 
-/// Appends the line of a packet that is a frame, and then what the pool says of the fragment that it carries.
-fn push_whole(
+/// The same where it matters whether they are a frame.
+fn push_checked(
     output: &mut Vec<u8>,
     pooling: &mut Pooling,
+    summary: &mut Summary,
     options: &DumpOptions,
     parts: &LineParts<'_>,
-    sliced: &SlicedPacket<'_>,
+    opening: Opening,
+    bytes: &[u8],
 ) -> Result<(), AllocError>
     ensures { OnOk result ((before : PoolHistory) → HoldsPooling before pooling.old →
-        (more : List ℕ) × (after : PoolHistory)
-        × IsPooled options.now (parts_start parts.now) before parts.now.latest (frame (layers_of sliced.now)) more after
-        × HoldsPooling after pooling.new × (output.new.items ≡ output.old.items
-        ++ (parts_text options.now parts.now (frame (layers_of sliced.now)) ++ more))) }
+        (text : List ℕ) × (after : PoolHistory) × IsTextBehind options.now parts.now opening bytes.now before text after
+        × HoldsPooling after pooling.new × (output.new.items ≡ output.old.items ++ text)) }
 {
-    push_frame(output, options, parts, sliced)?;
+    match SlicedPacket::from_entry(opening.entry, bytes) {
+        Ok(sliced) => {
+            push_frame(
+                output, pooling, summary, options, parts, opening, bytes, &sliced,
+            )
+        }
+        Err(error) => push_no_frame(output, summary, options, parts, opening, bytes, &error),
+    }
+}
+
+/// The same of those that are one. It is read laxly as the layers that it is.
+fn push_frame(
+    output: &mut Vec<u8>,
+    pooling: &mut Pooling,
+    summary: &mut Summary,
+    options: &DumpOptions,
+    parts: &LineParts<'_>,
+    opening: Opening,
+    bytes: &[u8],
+    sliced: &SlicedPacket<'_>,
+) -> Result<(), AllocError>
+    requires frame { IsFrame opening.entry bytes.now (layers_of sliced.now) }
+    ensures { OnOk result ((before : PoolHistory) → HoldsPooling before pooling.old →
+        (text : List ℕ) × (after : PoolHistory) × IsTextBehind options.now parts.now opening bytes.now before text after
+        × HoldsPooling after pooling.new × (output.new.items ≡ output.old.items ++ text)) }
+{
+    strict_frames();
+    let mut read = LaxSlicedPacket::new();
+    let _ = read.slice_into(opening.entry, bytes);
+    push_read(output, summary, options, parts, opening, &read)?;
     if options.reassemble {
-        pooling.give(output, options, parts, sliced)
+        pooling.give(output, options, parts, sliced, &read)
     } else {
         Ok(())
     }
 }
 
-/// Appends the line of a packet that is a frame, where its kind is shown.
-fn push_frame(
+/// Appends the line of a packet whose bytes are no frame.
+fn push_no_frame(
     output: &mut Vec<u8>,
+    summary: &mut Summary,
     options: &DumpOptions,
     parts: &LineParts<'_>,
-    sliced: &SlicedPacket<'_>,
+    opening: Opening,
+    bytes: &[u8],
+    error: &SliceError,
+) -> Result<(), AllocError>
+    requires refuses { RefusesFrame opening.entry bytes.now error.now }
+    ensures { OnOk result ((content : Content) × HoldsBehind options.now.strict opening bytes.now content
+        × (output.new.items ≡ output.old.items ++ parts_text options.now parts.now content)) }
+{
+    if options.strict {
+        push_refused(output, summary, options, parts, error)
+    } else {
+        push_lax(output, summary, options, parts, opening, bytes)
+    }
+}
+
+/// Appends the line of a packet of which what is there is read.
+fn push_lax(
+    output: &mut Vec<u8>,
+    summary: &mut Summary,
+    options: &DumpOptions,
+    parts: &LineParts<'_>,
+    opening: Opening,
+    bytes: &[u8],
+) -> Result<(), AllocError>
+    ensures { OnOk result ((content : Content) × HoldsLaxly opening bytes.now content
+        × (output.new.items ≡ output.old.items ++ parts_text options.now parts.now content)) }
+{
+    let mut read = LaxSlicedPacket::new();
+    match read.slice_into(opening.entry, bytes) {
+        Ok(()) => push_read(output, summary, options, parts, opening, &read),
+        Err(error) => push_refused(output, summary, options, parts, &error),
+    }
+}
+
+/// Appends the line of a packet of which a layer stands, or why the first does not.
+fn push_read(
+    output: &mut Vec<u8>,
+    summary: &mut Summary,
+    options: &DumpOptions,
+    parts: &LineParts<'_>,
+    opening: Opening,
+    read: &LaxSlicedPacket<'_>,
+) -> Result<(), AllocError>
+    ensures { OnOk result (output.new.items ≡ output.old.items
+        ++ parts_text options.now parts.now (content_with opening (lax_layers_of read.now))) }
+{
+    match &read.stop_err {
+        Some(stop) => {
+            if has_layer(opening, read) {
+                push_layers(output, summary, options, parts, opening, read)
+            } else {
+                push_refused(output, summary, options, parts, &stop.0)
+            }
+        }
+        None => push_layers(output, summary, options, parts, opening, read),
+    }
+}
+
+/// Whether a layer of a packet stands.
+fn has_layer(opening: Opening, read: &LaxSlicedPacket<'_>) -> bool
+    ensures { result ≡ has_layer opening (lax_layers_of read.now) }
+{
+    opening.is_cooked()
+        || has_header(&read.link)
+        || has_extensions(read.link_exts.as_slice())
+        || has_net(&read.net)
+}
+
+/// Whether there is a net layer.
+fn has_net(net: &Option<LaxNetSlice<'_>>) -> bool
+    ensures { result ≡ is_some (option_map lax_net_layer_of net.now) }
+{
+    match net {
+        Some(_) => true,
+        None => false,
+    }
+}
+
+/// Whether a link layer has a header.
+fn has_header(link: &Option<LinkSlice<'_>>) -> bool
+    ensures { result ≡ has_header (option_map link_layer_of link.now) }
+{
+    match link {
+        Some(LinkSlice::Ethernet2(_) | LinkSlice::LinuxSll(_)) => true,
+        Some(LinkSlice::EtherPayload(_) | LinkSlice::LinuxSllPayload(_)) | None => false,
+    }
+}
+
+/// Whether there are link extensions.
+fn has_extensions(extensions: &[LaxLinkExtSlice<'_>]) -> bool
+    ensures { result ≡ has_extensions (lax_extensions_of false extensions.now) }
+{
+    extensions.len() > 0
+}
+
+/// Appends the line of a packet of which a layer stands, where its kind is shown.
+fn push_layers(
+    output: &mut Vec<u8>,
+    summary: &mut Summary,
+    options: &DumpOptions,
+    parts: &LineParts<'_>,
+    opening: Opening,
+    read: &LaxSlicedPacket<'_>,
 ) -> Result<(), AllocError>
     ensures { OnOk result (output.new.items
-        ≡ output.old.items ++ parts_text options.now parts.now (frame (layers_of sliced.now))) }
+        ≡ output.old.items ++ parts_text options.now parts.now (packet (lax_layers_of read.now))) }
 {
-    if !options.shows(Kind::of(sliced)) {
+    summary.count_read(read, opening.is_cooked())?;
+    if !options.shows(Kind::of(read)) {
         return Ok(());
     }
     push_start(output, parts)?;
-    push_layers(output, sliced)?;
-    push_end(output, &parts.shown, options.hex, sliced.payload())
+    push_packet(output, read)?;
+    push_end(output, &parts.shown, options.hex, read.payload())
 }
 
 /// Appends the line of a packet that is refused, where such packets are shown.

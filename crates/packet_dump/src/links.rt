@@ -2,15 +2,15 @@
 
 ghost use Rattle.std.specs.Prelude.{◌≡◌, ◌++◌, OnOk, map};
 ghost use Rattle.std.specs.Option.{option_map};
-ghost use Rattle.etherparse.specs.LinkExtensions.{link_extension_of};
+ghost use Rattle.etherparse.specs.LaxSlices.{lax_macsec_slice_header};
+ghost use Rattle.etherparse.specs.LaxViews.{lax_extension_of};
 ghost use Rattle.etherparse.specs.LinkSlices.{link_layer_of};
 ghost use Rattle.etherparse.specs.LinuxSllSlices.{linux_sll_slice_header};
-ghost use Rattle.etherparse.specs.MacsecSlices.{macsec_slice_header};
 ghost use Rattle.packet_dump.specs.Links.{change_text, channel_text, extension_text, extensions_text, link_text};
 ghost use Rattle.packet_dump.specs.Links.{macsec_text, sender_text, sll_text, way_name};
 
 use crate::addresses::{push_hex, push_mac, push_octets};
-use etherparse::{LinkExtSlice, LinkSlice, LinuxSllSlice, MacsecPType, MacsecSlice};
+use etherparse::{LaxLinkExtSlice, LaxMacsecSlice, LinkSlice, LinuxSllSlice, MacsecPType};
 use line_io::decimals;
 use std::alloc::AllocError;
 
@@ -71,10 +71,10 @@ pub fn push_sender(output: &mut Vec<u8>, address: &[u8]) -> Result<(), AllocErro
 /// Appends the text of each link extension.
 pub fn push_extensions(
     output: &mut Vec<u8>,
-    extensions: &[LinkExtSlice<'_>],
+    extensions: &[LaxLinkExtSlice<'_>],
 ) -> Result<(), AllocError>
     ensures { OnOk result (output.new.items
-        ≡ output.old.items ++ extensions_text (map link_extension_of extensions.now)) }
+        ≡ output.old.items ++ extensions_text (map lax_extension_of extensions.now)) }
 {
     for extension in extensions {
         push_extension(output, extension)?;
@@ -83,21 +83,21 @@ pub fn push_extensions(
 }
 
 /// Appends the text of a link extension: of a VLAN with its identifier.
-fn push_extension(output: &mut Vec<u8>, extension: &LinkExtSlice<'_>) -> Result<(), AllocError>
-    ensures { OnOk result (output.new.items ≡ output.old.items ++ extension_text (link_extension_of extension.now)) }
+fn push_extension(output: &mut Vec<u8>, extension: &LaxLinkExtSlice<'_>) -> Result<(), AllocError>
+    ensures { OnOk result (output.new.items ≡ output.old.items ++ extension_text (lax_extension_of extension.now)) }
 {
     match extension {
-        LinkExtSlice::Vlan(tag) => {
+        LaxLinkExtSlice::Vlan(tag) => {
             let vlan_id = tag.vlan_identifier().value();
             decimals::push_behind(output, b" vlan:", u64::from(vlan_id))
         }
-        LinkExtSlice::Macsec(packet) => push_macsec(output, packet),
+        LaxLinkExtSlice::Macsec(packet) => push_macsec(output, packet),
     }
 }
 
 /// Appends the text of a MACsec tag: its packet number, the channel, and what was done to the payload.
-fn push_macsec(output: &mut Vec<u8>, packet: &MacsecSlice<'_>) -> Result<(), AllocError>
-    ensures { OnOk result (output.new.items ≡ output.old.items ++ macsec_text (macsec_slice_header packet.now)) }
+fn push_macsec(output: &mut Vec<u8>, packet: &LaxMacsecSlice<'_>) -> Result<(), AllocError>
+    ensures { OnOk result (output.new.items ≡ output.old.items ++ macsec_text (lax_macsec_slice_header packet.now)) }
 {
     let tag = packet.to_header();
     decimals::push_behind(output, b" macsec pn ", u64::from(tag.packet_nr))?;

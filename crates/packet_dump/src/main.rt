@@ -15,6 +15,7 @@ ghost use Rattle.packet_dump.specs.Dumps.{BeginsDump, IsSummedDump};
 ghost use Rattle.packet_dump.specs.ErrorTexts.{hint_text, magic_hint, status_of};
 
 mod addresses;
+mod bytes;
 pub mod dump_options;
 pub mod ending;
 pub mod engine;
@@ -52,12 +53,17 @@ use std::{env, fs};
 const HELP: &str = "usage: packet_dump [OPTION..] [FILE]
 
 Prints a line for each packet of a capture (pcap or pcapng): the packet's number,
-its time since the first one, its layers from the outside in or why it is
-refused, and how much of it was kept. Without FILE, or where it is -, standard
-input is read.
+its time since the first one, its layers from the outside in, and how much of it
+was kept. Without FILE, or where it is -, standard input is read.
+
+What is there of a packet is read. Where a layer is cut or wrong, the line says
+'stopped' and why behind those in front of it, and only 'refused' where it is the
+first. 'incomplete': bytes are missing that a length field says are there.
 
   --count N          stop behind the Nth packet
-  --only KIND        only packets of a kind: udp, tcp, icmp, arp or refused
+  --only KIND        only packets of a kind: udp, tcp, icmp, arp, refused or
+                     stopped
+  --strict           read only whole frames, and refuse others
   --hex              the bytes of payloads too, 16 in a row
   --reassemble       put IP payloads together from their fragments: a line more
                      behind the packet that completes one, or is refused for it
@@ -145,7 +151,9 @@ fn refused(rt: &impl Eprint, error: &UsageError<'_>) -> ExitCode
         UsageError::NoValue(option) => eprintln!(rt; "packet_dump: {option} needs a value"),
         UsageError::NotACount(word) => eprintln!(rt; "packet_dump: no number of packets: {word}"),
         UsageError::NotAKind(word) => {
-            eprintln!(rt; "packet_dump: no kind of packets: {word} (udp, tcp, icmp, arp, refused)")
+            eprintln!(rt;
+                "packet_dump: no kind of packets: {word} (udp, tcp, icmp, arp, refused, stopped)"
+            )
         }
         UsageError::NotATimeout(word) => {
             eprintln!(rt; "packet_dump: no number of seconds up to 4294967295: {word}")

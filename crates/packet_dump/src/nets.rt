@@ -1,41 +1,42 @@
 //! The text of net layers.
 
-ghost use Rattle.std.specs.Prelude.{◌≡◌, ◌++◌, OnOk, Some};
+ghost use Rattle.std.specs.Prelude.{◌≡◌, ◌++◌, OnOk, Some, ◌==◌};
 ghost use Rattle.std.specs.Option.{option_map};
 ghost use Rattle.etherparse.specs.Ipv4Chains.{ipv4_slice_parts};
 ghost use Rattle.etherparse.specs.Ipv6ExtensionSlices.{extension_slice_part, ipv6_slice_parts};
 ghost use Rattle.etherparse.specs.Ipv4Slices.{ipv4_header_slice_header};
 ghost use Rattle.etherparse.specs.Ipv6Slices.{ipv6_header_slice_header};
 ghost use Rattle.etherparse.specs.ArpSlices.{arp_slice_packet};
-ghost use Rattle.etherparse.specs.Layers.{net_layer_of};
-ghost use Rattle.packet_dump.specs.Nets.{arp_text, fragment_text, ipv4_fragment_text, ipv4_header_text, ipv6_header_text};
+ghost use Rattle.etherparse.specs.LaxViews.{lax_net_layer_of};
+ghost use Rattle.etherparse.specs.Types.LaxNetSlice.TheVariants as slice;
+ghost use Rattle.packet_dump.specs.Nets.{are_first, arp_text, begins_payload, fragment_text, is_first, ipv4_fragment_text, ipv4_header_text, ipv6_header_text};
 ghost use Rattle.packet_dump.specs.Nets.{more_text, net_text, part_text, parts_text, protocol_address_text};
 ghost use Rattle.packet_dump.specs.Nets.{operation_text, reply_text, who_has_text};
 
 use crate::addresses::{push_ipv4, push_ipv6, push_octets};
 use etherparse::{
-    ArpPacketSlice, Ipv4ExtensionsSlice, Ipv4HeaderSlice, Ipv4Slice, Ipv6ExtensionSlice,
-    Ipv6ExtensionsSlice, Ipv6HeaderSlice, Ipv6Slice, NetSlice,
+    ArpPacketSlice, Ipv4ExtensionsSlice, Ipv4HeaderSlice, Ipv6ExtensionSlice, Ipv6ExtensionsSlice,
+    Ipv6HeaderSlice, LaxIpv4Slice, LaxIpv6Slice, LaxNetSlice,
 };
 use line_io::decimals;
 use std::alloc::AllocError;
 
 /// Appends the text of a net layer: of IP with its addresses, what it says of fragments, and its extension headers.
-pub fn push_net(output: &mut Vec<u8>, net: &Option<NetSlice<'_>>) -> Result<(), AllocError>
-    ensures { OnOk result (output.new.items ≡ output.old.items ++ net_text (option_map net_layer_of net.now)) }
+pub fn push_net(output: &mut Vec<u8>, net: &Option<LaxNetSlice<'_>>) -> Result<(), AllocError>
+    ensures { OnOk result (output.new.items ≡ output.old.items ++ net_text (option_map lax_net_layer_of net.now)) }
 {
     match net {
-        Some(NetSlice::Ipv4(packet)) => push_ipv4_layer(output, packet),
-        Some(NetSlice::Ipv6(packet)) => push_ipv6_layer(output, packet),
-        Some(NetSlice::Arp(packet)) => push_arp(output, packet),
+        Some(LaxNetSlice::Ipv4(packet)) => push_ipv4_layer(output, packet),
+        Some(LaxNetSlice::Ipv6(packet)) => push_ipv6_layer(output, packet),
+        Some(LaxNetSlice::Arp(packet)) => push_arp(output, packet),
         None => Ok(()),
     }
 }
 
 /// Appends the text of the headers of an IPv4 packet.
-fn push_ipv4_layer(output: &mut Vec<u8>, packet: &Ipv4Slice<'_>) -> Result<(), AllocError>
+fn push_ipv4_layer(output: &mut Vec<u8>, packet: &LaxIpv4Slice<'_>) -> Result<(), AllocError>
     ensures { OnOk result (output.new.items
-        ≡ output.old.items ++ net_text (Some (net_layer_of (NetSlice.Ipv4 packet.now)))) }
+        ≡ output.old.items ++ net_text (Some (lax_net_layer_of (slice.Ipv4 packet.now)))) }
 {
     push_ipv4_header(output, &packet.header())?;
     push_ipv4_extensions(output, &packet.extensions())
@@ -107,9 +108,9 @@ fn push_ipv4_extensions(
 }
 
 /// Appends the text of the headers of an IPv6 packet.
-fn push_ipv6_layer(output: &mut Vec<u8>, packet: &Ipv6Slice<'_>) -> Result<(), AllocError>
+fn push_ipv6_layer(output: &mut Vec<u8>, packet: &LaxIpv6Slice<'_>) -> Result<(), AllocError>
     ensures { OnOk result (output.new.items
-        ≡ output.old.items ++ net_text (Some (net_layer_of (NetSlice.Ipv6 packet.now)))) }
+        ≡ output.old.items ++ net_text (Some (lax_net_layer_of (slice.Ipv6 packet.now)))) }
 {
     push_ipv6_header(output, &packet.header())?;
     push_ipv6_extensions(output, packet.extensions())
@@ -159,6 +160,46 @@ fn push_ipv6_extension(
             output.extend_from_slice(b" destination-options")
         }
         Ipv6ExtensionSlice::Authentication(_) => output.extend_from_slice(b" authentication"),
+    }
+}
+
+/// Whether a packet of IP carries no later fragment.
+pub fn begins_payload(net: &LaxNetSlice<'_>) -> bool
+    ensures { result ≡ begins_payload (lax_net_layer_of net.now) }
+{
+    match net {
+        LaxNetSlice::Ipv4(packet) => is_at_start(&packet.header()),
+        LaxNetSlice::Ipv6(packet) => are_first(packet.extensions()),
+        LaxNetSlice::Arp(_) => false,
+    }
+}
+
+/// Whether the payload of an IPv4 packet is no later fragment.
+fn is_at_start(header: &Ipv4HeaderSlice<'_>) -> bool
+    ensures { result ≡ ((ipv4_header_slice_header header.now).fragment_offset == 0) }
+{
+    header.fragment_offset().value() == 0
+}
+
+/// Whether no extension header of IPv6 says that its packet carries a later fragment.
+fn are_first(extensions: Ipv6ExtensionsSlice<'_>) -> bool
+    ensures { result ≡ are_first (ipv6_slice_parts extensions.entry) }
+{
+    for extension in extensions {
+        if !is_first(&extension) {
+            return false;
+        }
+    }
+    true
+}
+
+/// Whether an extension header of IPv6 does not say that its packet carries a later fragment.
+fn is_first(extension: &Ipv6ExtensionSlice<'_>) -> bool
+    ensures { result ≡ is_first (extension_slice_part extension.now) }
+{
+    match extension {
+        Ipv6ExtensionSlice::Fragment(header) => header.fragment_offset().value() == 0,
+        _ => true,
     }
 }
 

@@ -1,12 +1,12 @@
 //! What packets of a link type begin with. Of some the program reads the header itself, and the library what is behind it.
 
-ghost use Rattle.std.specs.Prelude.{◌≡◌, ◌≤◌, ◌+◌, ◌++◌, true, IfSome, OnOk, length};
-ghost use Rattle.etherparse.specs.Bytes.{word_at};
+ghost use Rattle.std.specs.Prelude.{◌≡◌, ◌≤◌, ◌++◌, true, IfSome, OnOk, length};
 ghost use Rattle.etherparse.specs.LinuxSll.{knows_hardware};
 ghost use Rattle.packet_dump.specs.Openings.{behind_front, family_in, family_opening, front_text, has_no_type};
-ghost use Rattle.packet_dump.specs.Openings.{is_bare_ip, is_ipv6_family, loopback_opening, opening_of, reads_sll};
+ghost use Rattle.packet_dump.specs.Openings.{is_bare_ip, is_cooked, is_ipv6_family, loopback_opening, opening_of, reads_sll};
 ghost use Rattle.packet_dump.specs.Openings.{reads_sll2, sll2_front, sll2_interface, sll2_opening, sll_front, sll_opening, way_text, whole_of};
 
+use crate::bytes::word_at;
 use crate::links::{push_sender, way_name};
 use etherparse::{Entry, EtherType};
 use line_io::decimals;
@@ -23,7 +23,9 @@ pub struct Opening {
 
 impl Opening {
     /// Whether the header of a Linux cooked capture was read here.
-    pub fn is_cooked(&self) -> bool {
+    pub fn is_cooked(&self) -> bool
+        ensures { result ≡ is_cooked self.now }
+    {
         self.skipped >= 16
     }
 }
@@ -70,14 +72,6 @@ fn is_bare_ip(link_type: u16) -> bool
     ensures { result ≡ is_bare_ip link_type }
 {
     link_type == 12 || link_type == 14 || link_type == 101 || link_type == 228 || link_type == 229
-}
-
-/// The number of two bytes, the higher first.
-fn word_at(bytes: &[u8], at: usize) -> u16
-    requires { at + 2 ≤ length bytes.now }
-    ensures { result ≡ word_at bytes.now at }
-{
-    256 * u16::from(bytes[at]) + u16::from(bytes[at + 1])
 }
 
 /// The family of addresses that a packet of a loopback of BSD begins with.

@@ -72,6 +72,7 @@ pub enum Word {
     Help,
     Version,
     Hex,
+    Strict,
     Summary,
     Reassemble,
     /// An option whose value is the next word.
@@ -91,6 +92,7 @@ impl Word {
             "-h" | "--help" => Word::Help,
             "-V" | "--version" => Word::Version,
             "--hex" => Word::Hex,
+            "--strict" => Word::Strict,
             "--summary" => Word::Summary,
             "--reassemble" => Word::Reassemble,
             "--count" => Word::Option(Awaited::Count),
@@ -133,6 +135,7 @@ impl<'a> Reading<'a> {
                 only: None,
                 most: u64::MAX,
                 hex: false,
+                strict: false,
                 reassemble: false,
                 timeout: 30,
                 limit: u16::MAX,
@@ -157,6 +160,7 @@ impl<'a> Reading<'a> {
             Word::Help => return Ok(Some(Request::Help)),
             Word::Version => return Ok(Some(Request::Version)),
             Word::Hex => self.options.hex = true,
+            Word::Strict => self.options.strict = true,
             Word::Summary => self.summary = true,
             Word::Reassemble => self.options.reassemble = true,
             Word::Option(option) => self.awaited = Some(option),
@@ -244,6 +248,7 @@ fn kind_of(name: &str) -> Option<Kind>
         "icmp" => Some(Kind::Icmp),
         "arp" => Some(Kind::Arp),
         "refused" => Some(Kind::Refused),
+        "stopped" => Some(Kind::Stopped),
         _ => None,
     }
 }

@@ -5,7 +5,8 @@ ghost use Rattle.std.specs.Option.{option_map};
 ghost use Rattle.etherparse.specs.Pools.{plain_frame_answer, wants_memory};
 ghost use Rattle.etherparse.specs.FragmentRefusals.{is_want_of_memory};
 ghost use Rattle.etherparse.specs.IpDefragErrorTexts.{error_text};
-ghost use Rattle.etherparse.specs.Layers.{layers_of};
+ghost use Rattle.etherparse.specs.LaxPackets.{lax_layers_of};
+ghost use Rattle.etherparse.specs.StrictFrames.{layers_in};
 ghost use Rattle.etherparse.specs.TransportParts.{payload_in, transport_layer_of};
 ghost use Rattle.packet_dump.specs.PacketLines.{parts_start};
 ghost use Rattle.packet_dump.specs.PoolLines.{Inner, IsAnswerText, IsInner, closing_text, frame_error, inner_text};
@@ -20,7 +21,7 @@ use crate::transports::{push_len, push_transport};
 use etherparse::defrag::{IpDefragError, IpDefragPayloadVec};
 use etherparse::err::packet::SliceError;
 use etherparse::err::tcp::HeaderSliceError;
-use etherparse::{IpNumber, SlicedPacket, TransportSlice};
+use etherparse::{IpNumber, LaxSlicedPacket, TransportSlice};
 use std::alloc::{AllocError, Global};
 
 /// What lines behind that of a packet are made from.
@@ -30,7 +31,7 @@ struct Further<'a, 'b> {
     /// What they begin with.
     start: &'a [u8],
     /// The packet's layers.
-    sliced: &'a SlicedPacket<'b>,
+    read: &'a LaxSlicedPacket<'b>,
 }
 
 /// Appends what the pool answered to a frame: the line of a payload that was put together, or of a fragment that is
@@ -39,12 +40,12 @@ pub fn push_answer(
     output: &mut Vec<u8>,
     options: &DumpOptions,
     parts: &LineParts<'_>,
-    sliced: &SlicedPacket<'_>,
+    read: &LaxSlicedPacket<'_>,
     answer: &Result<Option<IpDefragPayloadVec>, IpDefragError>,
 ) -> Result<(), AllocError>
     ensures memory { OnOk result (IsFalse (wants_memory answer.now)) }
     ensures text { OnOk result ((text : List ℕ)
-        × IsAnswerText options.now (parts_start parts.now) (layers_of sliced.now) (plain_frame_answer answer.now) text
+        × IsAnswerText options.now (parts_start parts.now) (layers_in (lax_layers_of read.now)) (plain_frame_answer answer.now) text
         × (output.new.items ≡ output.old.items ++ text)) }
 {
     if let Ok(None) = answer {
@@ -54,7 +55,7 @@ pub fn push_answer(
     let further = Further {
         options: *options,
         start: start.as_slice(),
-        sliced,
+        read,
     };
     push_answer_line(output, &further, answer)
 }
@@ -76,7 +77,7 @@ fn push_answer_line(
 ) -> Result<(), AllocError>
     ensures memory { OnOk result (IsFalse (wants_memory answer.now)) }
     ensures text { OnOk result ((text : List ℕ)
-        × IsAnswerText further.now.options further.now.start.now (layers_of further.now.sliced.now)
+        × IsAnswerText further.now.options further.now.start.now (layers_in (lax_layers_of further.now.read.now))
         (plain_frame_answer answer.now) text × (output.new.items ≡ output.old.items ++ text)) }
 {
     match answer {
@@ -92,7 +93,7 @@ fn push_found(
     found: &Option<IpDefragPayloadVec>,
 ) -> Result<(), AllocError>
     ensures { OnOk result ((text : List ℕ)
-        × IsAnswerText further.now.options further.now.start.now (layers_of further.now.sliced.now)
+        × IsAnswerText further.now.options further.now.start.now (layers_in (lax_layers_of further.now.read.now))
         (plain_frame_answer (Ok found.now)) text × (output.new.items ≡ output.old.items ++ text)) }
 {
     match found {
@@ -109,7 +110,7 @@ fn push_payload(
 ) -> Result<(), AllocError>
     ensures { OnOk result ((inner : Inner) × IsInner payload.now.ip_number.0 payload.now.payload.items inner
         × (output.new.items ≡ output.old.items ++ payload_line further.now.options further.now.start.now
-        (layers_of further.now.sliced.now) payload.now.ip_number.0 payload.now.payload.items inner)) }
+        (layers_in (lax_layers_of further.now.read.now)) payload.now.ip_number.0 payload.now.payload.items inner)) }
 {
     let bytes = payload.payload.as_slice();
     match TransportSlice::from_ip_number(payload.ip_number, false, bytes) {
@@ -127,7 +128,7 @@ fn push_part(
     transport: &Option<TransportSlice<'_>>,
 ) -> Result<(), AllocError>
     ensures { OnOk result (output.new.items ≡ output.old.items ++ payload_line further.now.options further.now.start.now
-        (layers_of further.now.sliced.now) number.0 bytes.now
+        (layers_in (lax_layers_of further.now.read.now)) number.0 bytes.now
         (part (option_map transport_layer_of transport.now))) }
 {
     if !further.options.shows(Kind::of_part(transport)) {
@@ -190,7 +191,7 @@ fn push_unread(
     error: HeaderSliceError,
 ) -> Result<(), AllocError>
     ensures { OnOk result (output.new.items ≡ output.old.items ++ payload_line further.now.options further.now.start.now
-        (layers_of further.now.sliced.now) number.0 bytes.now (unread error)) }
+        (layers_in (lax_layers_of further.now.read.now)) number.0 bytes.now (unread error)) }
 {
     if !further.options.shows(Some(Kind::Refused)) {
         return Ok(());
@@ -226,7 +227,7 @@ fn push_pool_error(
 ) -> Result<(), AllocError>
     ensures memory { OnOk result (IsFalse (is_want_of_memory error.now)) }
     ensures text { OnOk result (output.new.items ≡ output.old.items ++ refused_line further.now.options
-        further.now.start.now (layers_of further.now.sliced.now) error.now) }
+        further.now.start.now (layers_in (lax_layers_of further.now.read.now)) error.now) }
 {
     if let IpDefragError::AllocationFailure { .. } = error {
         return Err(AllocError);
@@ -258,10 +259,10 @@ fn push_pool_reason(output: &mut Vec<u8>, error: &IpDefragError) -> Result<(), A
 /// Appends what a line begins with that stands behind that of a packet, and the packet's layers outside its IP payload.
 fn push_opening(output: &mut Vec<u8>, further: &Further<'_, '_>) -> Result<(), AllocError>
     ensures { OnOk result (output.new.items
-        ≡ output.old.items ++ opening_text further.now.start.now (layers_of further.now.sliced.now)) }
+        ≡ output.old.items ++ opening_text further.now.start.now (layers_in (lax_layers_of further.now.read.now))) }
 {
     output.extend_from_slice(further.start)?;
-    push_outer(output, further.sliced)
+    push_outer(output, further.read)
 }
 
 /// Appends what it ends with: bytes where they are wanted, and the line feed.

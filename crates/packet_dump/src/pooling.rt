@@ -1,7 +1,9 @@
 //! The pool in which fragments are put together.
 
 ghost use Rattle.std.specs.Prelude.{◌≡◌, ◌++◌, nat_le, ℕ, List, OnOk};
+ghost use Rattle.etherparse.specs.LaxPackets.{lax_layers_of};
 ghost use Rattle.etherparse.specs.Layers.{layers_of};
+ghost use Rattle.etherparse.specs.StrictFrames.{layers_in};
 ghost use Rattle.packet_dump.specs.PacketLines.{parts_start};
 ghost use Rattle.packet_dump.specs.PacketCalls.{PoolHistory, frame_call, new_pool, with_call, with_sweep};
 ghost use Rattle.packet_dump.specs.PoolLines.{GivesFrame, IsCallText, oldest_from};
@@ -11,9 +13,9 @@ use crate::dump_options::DumpOptions;
 use crate::lines::LineParts;
 use crate::pool_lines::push_answer;
 use crate::summary::Fragments;
-use etherparse::SlicedPacket;
 use etherparse::defrag::{IpDefragError, IpDefragPayloadVec, IpDefragPool};
 use etherparse::laws::defrag::one_more_call;
+use etherparse::{LaxSlicedPacket, SlicedPacket};
 use std::alloc::{AllocError, Global};
 use std::cell::Cell;
 
@@ -46,15 +48,17 @@ impl Pooling {
         }
     }
 
-    /// Gives the frame of a packet to the pool at the latest instant, behind a drop of what is too old where a second
-    /// began, and appends what it answers. A payload that is handed out goes back to the pool.
+    /// Gives the frame of a packet, which was read laxly too, to the pool at the latest instant, behind a drop of what is
+    /// too old where a second began, and appends what it answers. A payload that is handed out goes back to the pool.
     pub fn give(
         &mut self,
         output: &mut Vec<u8>,
         options: &DumpOptions,
         parts: &LineParts<'_>,
         sliced: &SlicedPacket<'_>,
+        read: &LaxSlicedPacket<'_>,
     ) -> Result<(), AllocError>
+        requires same { layers_in (lax_layers_of read.now) ≡ layers_of sliced.now }
         ensures { OnOk result ((before : PoolHistory) → HoldsPooling before self.old →
             (text : List ℕ) × (after : PoolHistory)
             × GivesFrame options.now (parts_start parts.now) before parts.now.latest (layers_of sliced.now)
@@ -62,7 +66,7 @@ impl Pooling {
     {
         let this = parts.latest;
         self.sweep(this / 1_000_000_000, oldest_from(options, this));
-        self.give_at(output, options, parts, sliced)
+        self.give_at(output, options, parts, sliced, read)
     }
 
     /// Gives the frame of a packet to the pool, and appends what it answers.
@@ -72,7 +76,9 @@ impl Pooling {
         options: &DumpOptions,
         parts: &LineParts<'_>,
         sliced: &SlicedPacket<'_>,
+        read: &LaxSlicedPacket<'_>,
     ) -> Result<(), AllocError>
+        requires same { layers_in (lax_layers_of read.now) ≡ layers_of sliced.now }
         ensures { OnOk result ((before : PoolHistory) → HoldsPooling before self.old → (text : List ℕ)
             × IsCallText options.now (parts_start parts.now) before (layers_of sliced.now) parts.now.latest text
             × HoldsPooling (with_call before (frame_call (layers_of sliced.now) parts.now.latest)) self.new
@@ -80,7 +86,7 @@ impl Pooling {
     {
         one_more_call::<u128, u64, u128>();
         let answer = self.pool.process_sliced_packet(sliced, parts.latest, 0);
-        push_answer(output, options, parts, sliced, &answer)?;
+        push_answer(output, options, parts, read, &answer)?;
         self.give_back(answer);
         Ok(())
     }

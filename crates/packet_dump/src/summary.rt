@@ -6,10 +6,10 @@ ghost use Rattle.packet_dump.specs.SliceErrorTexts.{error_name};
 use capture_reader::Shown;
 use etherparse::err::packet::SliceError;
 use etherparse::err::{ip, ip_auth, ipv4, ipv6_exts, linux_sll, macsec};
-use etherparse::{LinkExtSlice, LinkSlice, NetSlice, SlicedPacket, TransportSlice};
+use etherparse::{LaxLinkExtSlice, LaxNetSlice, LaxSlicedPacket, LinkSlice, TransportSlice};
 use std::alloc::{AllocError, Global};
 
-/// How many frames had each layer; a link extension counts each time that it stands in a frame.
+/// How many packets had each layer; a link extension counts each time that it stands in a packet.
 #[derive(Clone, Copy)]
 struct Layers {
     ethernet: u64,
@@ -37,13 +37,22 @@ pub struct Summary {
     /// How many bytes packets had.
     original: u64,
     layers: Layers,
-    refused: u64,
-    /// How often packets were refused with each error, by its name.
-    errors: Vec<(&'static str, u64)>,
+    /// Packets of which not one layer stands.
+    refused: Refusals,
+    /// Packets whose layers end in front of one that is refused.
+    stopped: Refusals,
     /// How many packets were not read, by their link type.
     unread: Vec<(u16, u64)>,
     /// What became of fragments, where payloads are put together.
     fragments: Option<Fragments>,
+}
+
+/// How many packets were refused.
+#[derive(Drop)]
+struct Refusals {
+    all: u64,
+    /// How often each error was the reason, by its name.
+    errors: Vec<(&'static str, u64)>,
 }
 
 /// What became of fragments.
@@ -81,8 +90,8 @@ impl Summary {
                 icmpv4: 0,
                 icmpv6: 0,
             },
-            refused: 0,
-            errors: Vec::new(alloc),
+            refused: Refusals::new(alloc),
+            stopped: Refusals::new(alloc),
             unread: Vec::new(alloc),
             fragments: None,
         }
@@ -97,30 +106,31 @@ impl Summary {
         }
     }
 
-    /// Counts the layers of a frame, in front of which the header of a Linux cooked capture may stand.
-    pub fn count_frame(&mut self, frame: &SlicedPacket<'_>, cooked: bool) {
-        if self.wanted {
-            self.layers.count(frame);
-            if cooked {
-                more(&mut self.layers.linux_sll, 1);
-            }
-        }
-    }
-
-    /// Counts a refusal.
-    pub fn count_refusal(&mut self, error: &SliceError) -> Result<(), AllocError> {
+    /// Counts the layers of a packet, in front of which the header of a Linux cooked capture may stand, and why they end,
+    /// where a further one is refused.
+    pub fn count_read(
+        &mut self,
+        read: &LaxSlicedPacket<'_>,
+        cooked: bool,
+    ) -> Result<(), AllocError> {
         if !self.wanted {
             return Ok(());
         }
-        more(&mut self.refused, 1);
-        let name = error_name(error);
-        for (known, times) in self.errors.iter_mut() {
-            if *known == name {
-                more(times, 1);
-                return Ok(());
-            }
+        self.layers.count(read);
+        if cooked {
+            more(&mut self.layers.linux_sll, 1);
         }
-        self.errors.push((name, 1))?;
+        match &read.stop_err {
+            Some((error, _)) => self.stopped.count(error),
+            None => Ok(()),
+        }
+    }
+
+    /// Counts a packet of which not one layer stands.
+    pub fn count_refusal(&mut self, error: &SliceError) -> Result<(), AllocError> {
+        if self.wanted {
+            self.refused.count(error)?;
+        }
         Ok(())
     }
 
@@ -152,11 +162,8 @@ impl Summary {
         let (packets, kept, original) = (self.packets, self.kept, self.original);
         write!(text, "packets: {packets}\nbytes: {kept} of {original}\n")?;
         self.layers.push_text(&mut text)?;
-        push_count(&mut text, "refused", self.refused)?;
-        for (name, times) in &self.errors {
-            text.push_str("  ")?;
-            push_count(&mut text, name, *times)?;
-        }
+        self.refused.push_text(&mut text, "refused")?;
+        self.stopped.push_text(&mut text, "stopped")?;
         self.push_unread(&mut text)?;
         if let Some(fragments) = &self.fragments {
             push_count(&mut text, "reassembled", fragments.reassembled)?;
@@ -183,30 +190,64 @@ impl Summary {
     }
 }
 
+impl Refusals {
+    /// None.
+    fn new(alloc: Global) -> Refusals {
+        Refusals {
+            all: 0,
+            errors: Vec::new(alloc),
+        }
+    }
+
+    /// Counts a refusal.
+    fn count(&mut self, error: &SliceError) -> Result<(), AllocError> {
+        more(&mut self.all, 1);
+        let name = error_name(error);
+        for (known, times) in self.errors.iter_mut() {
+            if *known == name {
+                more(times, 1);
+                return Ok(());
+            }
+        }
+        self.errors.push((name, 1))?;
+        Ok(())
+    }
+
+    /// Appends how many there were, and how often for each error.
+    fn push_text(&self, text: &mut String, row: &str) -> Result<(), AllocError> {
+        push_count(text, row, self.all)?;
+        for (name, times) in &self.errors {
+            text.push_str("  ")?;
+            push_count(text, name, *times)?;
+        }
+        Ok(())
+    }
+}
+
 impl Layers {
-    /// Counts the layers of a frame.
-    fn count(&mut self, frame: &SlicedPacket<'_>) {
-        match &frame.link {
+    /// Counts the layers of a packet.
+    fn count(&mut self, read: &LaxSlicedPacket<'_>) {
+        match &read.link {
             Some(LinkSlice::Ethernet2(_)) => more(&mut self.ethernet, 1),
             Some(LinkSlice::LinuxSll(_)) => more(&mut self.linux_sll, 1),
             _ => {}
         }
-        for extension in frame.link_exts.as_slice() {
+        for extension in read.link_exts.as_slice() {
             match extension {
-                LinkExtSlice::Vlan(_) => more(&mut self.vlan, 1),
-                LinkExtSlice::Macsec(_) => more(&mut self.macsec, 1),
+                LaxLinkExtSlice::Vlan(_) => more(&mut self.vlan, 1),
+                LaxLinkExtSlice::Macsec(_) => more(&mut self.macsec, 1),
             }
         }
-        match &frame.net {
-            Some(NetSlice::Ipv4(_)) => more(&mut self.ipv4, 1),
-            Some(NetSlice::Ipv6(_)) => more(&mut self.ipv6, 1),
-            Some(NetSlice::Arp(_)) => more(&mut self.arp, 1),
+        match &read.net {
+            Some(LaxNetSlice::Ipv4(_)) => more(&mut self.ipv4, 1),
+            Some(LaxNetSlice::Ipv6(_)) => more(&mut self.ipv6, 1),
+            Some(LaxNetSlice::Arp(_)) => more(&mut self.arp, 1),
             None => {}
         }
-        if frame.is_ip_payload_fragmented() {
+        if read.is_ip_payload_fragmented() {
             more(&mut self.fragment, 1);
         }
-        match &frame.transport {
+        match &read.transport {
             Some(TransportSlice::Udp(_)) => more(&mut self.udp, 1),
             Some(TransportSlice::Tcp(_)) => more(&mut self.tcp, 1),
             Some(TransportSlice::Icmpv4(_)) => more(&mut self.icmpv4, 1),

@@ -1,13 +1,17 @@
 //! The text of transport layers.
 
-ghost use Rattle.std.specs.Prelude.{◌≡◌, ◌++◌, OnOk};
-ghost use Rattle.etherparse.specs.TcpSlices.{tcp_slice_header};
+ghost use Rattle.std.specs.Prelude.{◌≡◌, ◌<◌, ◌++◌, OnOk};
+ghost use Rattle.etherparse.specs.Tcp.{flag_at, tcp_header_of};
 ghost use Rattle.etherparse.specs.TransportParts.{transport_layer_of};
-ghost use Rattle.packet_dump.specs.Transports.{acknowledgment_text, flag_text, flags_text, len_text, ports_text};
-ghost use Rattle.packet_dump.specs.Transports.{state_text, tcp_text, transport_text};
+ghost use Rattle.etherparse.specs.UdpSlices.{udp_slice_header, udp_slice_payload};
+ghost use Rattle.etherparse.specs.Types.TransportHeader.TheVariants as header;
+ghost use Rattle.packet_dump.specs.Transports.{acknowledgment_text, flag_text, flags_text, header_front_text, len_text};
+ghost use Rattle.packet_dump.specs.Transports.{no_length_text, ports_at, ports_text, state_at, state_text, tcp_front_text};
+ghost use Rattle.packet_dump.specs.Transports.{tcp_text, transport_text, udp_front_text, udp_text};
 
+use crate::bytes::{byte_at, long_at, word_at};
 use crate::icmp_messages::{push_icmpv4, push_icmpv6};
-use etherparse::{TcpSlice, TransportSlice};
+use etherparse::{IpNumber, TransportSlice, UdpSlice};
 use line_io::decimals;
 use std::alloc::AllocError;
 
@@ -20,13 +24,9 @@ pub fn push_transport(
         ≡ output.old.items ++ transport_text (transport_layer_of transport.now)) }
 {
     match transport {
-        TransportSlice::Udp(datagram) => {
-            output.extend_from_slice(b" udp ")?;
-            push_ports(output, datagram.source_port(), datagram.destination_port())?;
-            push_len(output, datagram.payload())
-        }
+        TransportSlice::Udp(datagram) => push_datagram(output, datagram),
         TransportSlice::Tcp(segment) => {
-            push_tcp(output, segment)?;
+            push_tcp(output, segment.slice())?;
             push_len(output, segment.payload())
         }
         TransportSlice::Icmpv4(message) => {
@@ -55,39 +55,148 @@ pub fn push_len(output: &mut Vec<u8>, payload: &[u8]) -> Result<(), AllocError>
     decimals::push_behind(output, b" len ", payload.len() as u64)
 }
 
-/// Appends the text of a TCP header: ports, flags and sequence numbers.
-fn push_tcp(output: &mut Vec<u8>, segment: &TcpSlice<'_>) -> Result<(), AllocError>
-    ensures { OnOk result (output.new.items ≡ output.old.items ++ tcp_text (tcp_slice_header segment.now)) }
+/// Appends the text of a datagram, and the length of its payload.
+fn push_datagram(output: &mut Vec<u8>, datagram: &UdpSlice<'_>) -> Result<(), AllocError>
+    ensures { OnOk result (output.new.items ≡ output.old.items ++ (udp_text (udp_slice_header datagram.now)
+        ++ no_length_text (header.Udp (udp_slice_header datagram.now)) (udp_slice_payload datagram.now)
+        ++ len_text (udp_slice_payload datagram.now))) }
 {
-    output.extend_from_slice(b" tcp ")?;
-    push_ports(output, segment.source_port(), segment.destination_port())?;
-    push_state(output, segment)
+    push_udp(output, datagram)?;
+    push_no_length(output, datagram)?;
+    push_len(output, datagram.payload())
 }
 
-/// Appends the flags and the sequence numbers.
-fn push_state(output: &mut Vec<u8>, segment: &TcpSlice<'_>) -> Result<(), AllocError>
-    ensures { OnOk result (output.new.items ≡ output.old.items ++ state_text (tcp_slice_header segment.now)) }
+/// Appends the text of a UDP header: ports.
+fn push_udp(output: &mut Vec<u8>, datagram: &UdpSlice<'_>) -> Result<(), AllocError>
+    ensures { OnOk result (output.new.items ≡ output.old.items ++ udp_text (udp_slice_header datagram.now)) }
+{
+    output.extend_from_slice(b" udp ")?;
+    push_ports(output, datagram.source_port(), datagram.destination_port())
+}
+
+/// Appends that the length field of UDP is 0, where bytes stand behind the header.
+fn push_no_length(output: &mut Vec<u8>, datagram: &UdpSlice<'_>) -> Result<(), AllocError>
+    ensures { OnOk result (output.new.items ≡ output.old.items
+        ++ no_length_text (header.Udp (udp_slice_header datagram.now)) (udp_slice_payload datagram.now)) }
+{
+    if datagram.length() == 0 && datagram.payload().len() > 0 {
+        output.extend_from_slice(b" length 0")?;
+    }
+    Ok(())
+}
+
+/// Appends what is told of the front of a header of a protocol that is not read: of UDP and TCP the ports, where their 4
+/// bytes are there.
+pub fn push_header_front(
+    output: &mut Vec<u8>,
+    number: IpNumber,
+    bytes: &[u8],
+) -> Result<(), AllocError>
+    ensures { OnOk result (output.new.items ≡ output.old.items ++ header_front_text number.0 bytes.now) }
+{
+    if bytes.len() < 4 {
+        return Ok(());
+    }
+    if number.0 == 17 {
+        return push_udp_front(output, bytes);
+    }
+    if number.0 == 6 {
+        return push_tcp_front(output, bytes);
+    }
+    Ok(())
+}
+
+/// The same of UDP.
+fn push_udp_front(output: &mut Vec<u8>, bytes: &[u8]) -> Result<(), AllocError>
+    ensures { OnOk result (output.new.items ≡ output.old.items ++ udp_front_text bytes.now) }
+{
+    output.extend_from_slice(b" udp ")?;
+    push_ports_at(output, bytes)
+}
+
+/// The same of TCP, with flags and sequence numbers, where their 14 bytes are there.
+fn push_tcp_front(output: &mut Vec<u8>, bytes: &[u8]) -> Result<(), AllocError>
+    ensures { OnOk result (output.new.items ≡ output.old.items ++ tcp_front_text bytes.now) }
+{
+    output.extend_from_slice(b" tcp ")?;
+    push_ports_at(output, bytes)?;
+    push_state_at(output, bytes)
+}
+
+/// Appends the ports that stand at the front of bytes.
+fn push_ports_at(output: &mut Vec<u8>, bytes: &[u8]) -> Result<(), AllocError>
+    ensures { OnOk result (output.new.items ≡ output.old.items ++ ports_at bytes.now) }
+{
+    push_ports(output, word_at(bytes, 0), word_at(bytes, 2))
+}
+
+/// Appends the flags and the sequence numbers of TCP, where their 14 bytes are there.
+fn push_state_at(output: &mut Vec<u8>, bytes: &[u8]) -> Result<(), AllocError>
+    ensures { OnOk result (output.new.items ≡ output.old.items ++ state_at bytes.now) }
+{
+    if bytes.len() >= 14 {
+        push_state(output, bytes)?;
+    }
+    Ok(())
+}
+
+/// Appends the text of the TCP header at the front of bytes: ports, flags and sequence numbers.
+fn push_tcp(output: &mut Vec<u8>, bytes: &[u8]) -> Result<(), AllocError>
+    ensures { OnOk result (output.new.items ≡ output.old.items ++ tcp_text (tcp_header_of bytes.now)) }
+{
+    output.extend_from_slice(b" tcp ")?;
+    push_ports_at(output, bytes)?;
+    push_state(output, bytes)
+}
+
+/// Appends the flags and the sequence numbers of the TCP header at the front of bytes.
+fn push_state(output: &mut Vec<u8>, bytes: &[u8]) -> Result<(), AllocError>
+    ensures { OnOk result (output.new.items ≡ output.old.items ++ state_text (tcp_header_of bytes.now)) }
 {
     output.extend_from_slice(b" [")?;
-    push_flags(output, segment)?;
-    decimals::push_behind(output, b"] seq ", u64::from(segment.sequence_number()))?;
-    push_acknowledgment(output, segment)
+    push_flags(output, bytes)?;
+    decimals::push_behind(output, b"] seq ", u64::from(long_at(bytes, 4)))?;
+    push_acknowledgment(output, bytes)
 }
 
 /// Appends a letter for each flag that is set.
 #[tactic(auto, unfolding(crate::specs::Transports::flags_text))]
-fn push_flags(output: &mut Vec<u8>, segment: &TcpSlice<'_>) -> Result<(), AllocError>
-    ensures { OnOk result (output.new.items ≡ output.old.items ++ flags_text (tcp_slice_header segment.now)) }
+fn push_flags(output: &mut Vec<u8>, bytes: &[u8]) -> Result<(), AllocError>
+    ensures { OnOk result (output.new.items ≡ output.old.items ++ flags_text (tcp_header_of bytes.now)) }
 {
-    push_flag(output, segment.syn(), b'S')?;
-    push_flag(output, segment.fin(), b'F')?;
-    push_flag(output, segment.rst(), b'R')?;
-    push_flag(output, segment.psh(), b'P')?;
-    push_flag(output, segment.ack(), b'A')?;
-    push_flag(output, segment.urg(), b'U')?;
-    push_flag(output, segment.ece(), b'E')?;
-    push_flag(output, segment.cwr(), b'C')?;
-    push_flag(output, segment.ns(), b'N')
+    push_flag_at(output, bytes, 1, b'S')?;
+    push_flag_at(output, bytes, 0, b'F')?;
+    push_flag_at(output, bytes, 2, b'R')?;
+    push_flag_at(output, bytes, 3, b'P')?;
+    push_flag_at(output, bytes, 4, b'A')?;
+    push_flag_at(output, bytes, 5, b'U')?;
+    push_flag_at(output, bytes, 6, b'E')?;
+    push_flag_at(output, bytes, 7, b'C')?;
+    push_nonce(output, bytes)
+}
+
+/// Appends a letter, where the flag is set that is this bit of byte 13.
+fn push_flag_at(output: &mut Vec<u8>, bytes: &[u8], bit: u32, letter: u8) -> Result<(), AllocError>
+    requires { bit < 8 }
+    ensures { OnOk result (output.new.items ≡ output.old.items ++ flag_text (flag_at bytes.now bit) letter) }
+{
+    push_flag(output, flag_at(bytes, bit), letter)
+}
+
+/// Whether the flag is set that is this bit of byte 13.
+fn flag_at(bytes: &[u8], bit: u32) -> bool
+    requires { bit < 8 }
+    ensures { result ≡ flag_at bytes.now bit }
+{
+    (byte_at(bytes, 13) >> bit) % 2 == 1
+}
+
+/// Appends the letter of the nonce sum, where its flag is set.
+fn push_nonce(output: &mut Vec<u8>, bytes: &[u8]) -> Result<(), AllocError>
+    ensures { OnOk result (output.new.items
+        ≡ output.old.items ++ flag_text (tcp_header_of bytes.now).ns 78) }
+{
+    push_flag(output, byte_at(bytes, 12) % 2 == 1, b'N')
 }
 
 /// Appends a letter, where its flag is set.
@@ -101,13 +210,12 @@ fn push_flag(output: &mut Vec<u8>, set: bool, letter: u8) -> Result<(), AllocErr
 }
 
 /// Appends the acknowledgment number, where it counts.
-fn push_acknowledgment(output: &mut Vec<u8>, segment: &TcpSlice<'_>) -> Result<(), AllocError>
+fn push_acknowledgment(output: &mut Vec<u8>, bytes: &[u8]) -> Result<(), AllocError>
     ensures { OnOk result (output.new.items
-        ≡ output.old.items ++ acknowledgment_text (tcp_slice_header segment.now)) }
+        ≡ output.old.items ++ acknowledgment_text (tcp_header_of bytes.now)) }
 {
-    if segment.ack() {
-        let number = segment.acknowledgment_number();
-        decimals::push_behind(output, b" ack ", u64::from(number))?;
+    if byte_at(bytes, 13) / 16 % 2 == 1 {
+        decimals::push_behind(output, b" ack ", u64::from(long_at(bytes, 8)))?;
     }
     Ok(())
 }

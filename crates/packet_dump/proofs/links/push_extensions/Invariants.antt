@@ -1,10 +1,10 @@
 use Rattle.std.proofs.Common.{◌≡◌, ◌++◌, map, drop}
-use Rattle.etherparse.specs.LinkExtensions.{link_extension_of}
+use Rattle.etherparse.specs.LaxViews.{lax_extension_of}
 use Rattle.packet_dump.specs.Links.{extensions_text}
 use Rattle.packet_dump.proofs.links.push_extensions.Given as goal
 
 -- what is appended and what is still to be appended are what is to be appended from here on
 abbrev pub invariant-loop-extension : goal.invariant-loop-extension
 invariant-loop-extension l =
-    l.output.items ++ extensions_text (map link_extension_of (drop l.extension-index l.extensions))
-    ≡ l.initial.output.items ++ extensions_text (map link_extension_of l.extensions)
+    l.output.items ++ extensions_text (map lax_extension_of (drop l.extension-index l.extensions))
+    ≡ l.initial.output.items ++ extensions_text (map lax_extension_of l.extensions)

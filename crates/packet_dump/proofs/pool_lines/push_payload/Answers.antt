@@ -1,7 +1,8 @@
 use Rattle.std.proofs.Common.{ℕ, List, ◌++◌, ap, subst, ◌∙◌}
 use Rattle.std.specs.Option.{option_map}
 use Rattle.std.proofs.lemmas.Result.{on_ok_weaker}
-use Rattle.etherparse.specs.Layers.{layers_of}
+use Rattle.etherparse.specs.LaxPackets.{lax_layers_of}
+use Rattle.etherparse.specs.StrictFrames.{layers_in}
 use Rattle.etherparse.specs.TransportParts.{transport_layer_of}
 use Rattle.packet_dump.specs.PoolLines.{IsInner, part, payload_line, unread}
 use Rattle.packet_dump.proofs.pool_lines.push_payload.Goals as goal
@@ -17,7 +18,8 @@ returns-in-Ok c =
       subst (λ b. IsInner number b inner) same c.in-Ok.ensures.ok,
       pushed ∙ ap
           (λ (b : List ℕ). c.args.output.now.items
-          ++ payload_line c.args.further.now.options c.args.further.now.start.now (layers_of c.args.further.now.sliced.now) number b inner) same,
+          ++ payload_line c.args.further.now.options c.args.further.now.start.now (layers_in (lax_layers_of c.args.further.now.read.now)) number b
+          inner) same,
     )) c.push_part.ensures
 
 pub returns-in-Err : goal.returns-in-Err
@@ -31,5 +33,6 @@ returns-in-Err c =
       subst (λ b. IsInner number b inner) same c.in-Err.ensures.err,
       pushed ∙ ap
           (λ (b : List ℕ). c.args.output.now.items
-          ++ payload_line c.args.further.now.options c.args.further.now.start.now (layers_of c.args.further.now.sliced.now) number b inner) same,
+          ++ payload_line c.args.further.now.options c.args.further.now.start.now (layers_in (lax_layers_of c.args.further.now.read.now)) number b
+          inner) same,
     )) c.push_unread.ensures

@@ -2,7 +2,7 @@ use Rattle.std.proofs.Common.{◌++◌, ◌∙◌}
 use Rattle.std.proofs.lemmas.Result.{on_ok_weaker}
 use Rattle.std.specs.Prelude.{codes}
 use Rattle.std.specs.Fmt.{decimal}
-use Rattle.etherparse.specs.TcpSlices.{tcp_slice_header}
+use Rattle.etherparse.specs.Tcp.{tcp_header_of}
 use Rattle.packet_dump.specs.Transports.{acknowledgment_text, flags_text, state_text}
 use Rattle.packet_dump.proofs.LineLemmas.{four_parts}
 use Rattle.packet_dump.proofs.transports.push_state.Goals as goal
@@ -11,13 +11,13 @@ pub returns : goal.returns
 unfolding state_text
 returns c =
     let start = c.args.output.now.items in
-    let flags = flags_text (tcp_slice_header c.args.segment.now) in
-    let acknowledgment = acknowledgment_text (tcp_slice_header c.args.segment.now) in
-    let number = c.from.ensures ∙ c.sequence_number.ensures in
+    let header = tcp_header_of c.args.bytes.now in
+    let number = c.from.ensures ∙ c.long_at.ensures in
     on_ok_weaker c.push_acknowledgment.result
     (λ last.
     four_parts start c.extend_from_slice.new.self.items c.push_flags.new.output.items c.push_behind.new.output.items
-    c.push_acknowledgment.new.output.items (codes " [") flags (codes "] seq " ++ decimal c.from.result) acknowledgment
-    c.in_ok-extend_from_slice.ensures.items c.in_ok-push_flags.ensures c.in_ok-push_behind.ensures.text last
-    ∙ (λ i. start ++ (codes " [" ++ flags ++ (codes "] seq " ++ decimal (number i)) ++ acknowledgment)))
-    c.push_acknowledgment.ensures
+    c.push_acknowledgment.new.output.items (codes " [") (flags_text header) (codes "] seq " ++ decimal c.from.result)
+    (acknowledgment_text header) c.in_ok-extend_from_slice.ensures.items c.in_ok-push_flags.ensures
+    c.in_ok-push_behind.ensures.text last
+    ∙ (λ i. start ++ (codes " [" ++ flags_text header ++ (codes "] seq " ++ decimal (number i))
+    ++ acknowledgment_text header))) c.push_acknowledgment.ensures

@@ -1,7 +1,7 @@
 use Rattle.std.proofs.Common.{subst}
 use Rattle.etherparse.specs.Calls.{Answer}
-use Rattle.etherparse.specs.Pools.{fragment_in}
-use Rattle.etherparse.specs.Layers.{layers_of}
+use Rattle.etherparse.specs.Pools.{fragment_in, plain_frame_answer}
+use Rattle.etherparse.specs.Layers.{Layers, layers_of}
 use Rattle.packet_dump.specs.PacketLines.{parts_start}
 use Rattle.packet_dump.specs.PacketCalls.{frame_call, with_call}
 use Rattle.packet_dump.specs.PoolLines.{IsAnswerText}
@@ -21,7 +21,9 @@ returns c = λ before held.
     let told = c.in_ok-push_answer.ensures.text in (
       told.0,
       subst (λ (a : Answer). IsAnswerText c.args.options.now start layers a told.0)
-          (frame_answered old new carried c.args.parts.now.latest 0 answer takes enough before held.held) told.1,
+          (frame_answered old new carried c.args.parts.now.latest 0 answer takes enough before held.held)
+          (subst (λ (l : Layers). IsAnswerText c.args.options.now start l (plain_frame_answer answer) told.0)
+          c.requires.same told.1),
       c.give_back.ensures (with_call before (frame_call layers c.args.parts.now.latest)) (record {
         swept = held.swept;
         held = HoldsHistory-frame c.one_more_call.ensures old new carried c.args.parts.now.latest 0 answer takes enough before held.held;

@@ -1,0 +1,28 @@
+//! Numbers that stand in bytes, most significant byte first. A byte that is not there counts as 0.
+
+ghost use Rattle.std.specs.Prelude.{◌≡◌, ◌+◌, ◌<◌, ◌^◌, slice_index};
+ghost use Rattle.etherparse.specs.Bytes.{word_at};
+ghost use Rattle.etherparse.specs.Tcp.{long_at};
+
+/// The byte at a place.
+pub fn byte_at(bytes: &[u8], at: usize) -> u8
+    ensures { result ≡ slice_index bytes.now at }
+{
+    if at < bytes.len() { bytes[at] } else { 0 }
+}
+
+/// The number of the two bytes from a place on.
+pub fn word_at(bytes: &[u8], at: usize) -> u16
+    requires { at < 2 ^ 16 }
+    ensures { result ≡ word_at bytes.now at }
+{
+    256 * u16::from(byte_at(bytes, at)) + u16::from(byte_at(bytes, at + 1))
+}
+
+/// The number of the four bytes from a place on.
+pub fn long_at(bytes: &[u8], at: usize) -> u32
+    requires { at + 2 < 2 ^ 16 }
+    ensures { result ≡ long_at bytes.now at }
+{
+    65_536 * u32::from(word_at(bytes, at)) + u32::from(word_at(bytes, at + 2))
+}
