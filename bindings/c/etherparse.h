@@ -15,8 +15,8 @@
  * - A call that takes memory, or has a pool, is not for a signal handler, nor for the forked child of a process with
  *   threads.
  * - size_t has 64 bits.
- * - A call needs at most ETHERPARSE_STACK bytes of stack (slicing and pushing some 1,600, building 1,000, a text 400,
- *   the others 400; measured on x86-64), but for etherparse_build_fragment, whose headers are large values, and which
+ * - A call needs at most ETHERPARSE_STACK bytes of stack (slicing and pushing some 1,700, building 1,100, a text 500,
+ *   the others 300; measured on x86-64), but for etherparse_build_fragment, whose headers are large values, and which
  *   needs at most ETHERPARSE_STACK_OF_FRAGMENTS. Where functions of the C library are bound at their first call, that
  *   takes some 3,000 more.
  *
