@@ -257,10 +257,10 @@ enum etherparse_layer {
     ETHERPARSE_LAYER_ICMPV6 = 21
 };
 
-/* Why bytes are no frame, or why etherparse_slice_lax stopped; all 0 of a frame. Of the kind LEN required_len is above len, but for timestamps of ICMPv4,
- * which have exactly 20 bytes: there len may be the greater one, so compare before you subtract. len_source is what set
- * the end of the len bytes, but that a MACsec short length did is told as ETHERPARSE_END_SLICE; ETHERPARSE_END_ARP says
- * what set required_len. */
+/* Why bytes are no frame, or why etherparse_slice_lax stopped; all 0 of a frame. Of the kind LEN required_len is above
+ * len, but for timestamps of ICMPv4, which have exactly 20 bytes: there len may be the greater one, so compare before
+ * you subtract. len_source is what set the end of the len bytes, but that a MACsec short length did is told as
+ * ETHERPARSE_END_SLICE; ETHERPARSE_END_ARP says what set required_len. */
 struct etherparse_refusal {
     uint32_t kind;             /* enum etherparse_refusal_kind */
     uint32_t layer;            /* kind LEN: enum etherparse_layer */
