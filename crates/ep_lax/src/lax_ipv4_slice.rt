@@ -62,6 +62,8 @@ impl<'a> LaxIpv4Slice<'a> {
             Err(error) => return Err(error),
         };
         let header_len = header.header_len();
+        // First, so that between the extension headers and the walk's look at their refusal nothing is left but moves.
+        let fragmented = header.is_fragmenting_payload();
         let field = LengthField {
             least: header_len,
             says: header.total_len() as usize,
@@ -76,7 +78,7 @@ impl<'a> LaxIpv4Slice<'a> {
         let payload = LaxIpPayloadSlice {
             incomplete: content.incomplete,
             ip_number,
-            fragmented: header.is_fragmenting_payload(),
+            fragmented,
             len_source: content.len_source,
             payload,
         };

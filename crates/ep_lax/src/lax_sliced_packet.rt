@@ -136,10 +136,18 @@ impl<'a> LaxSlicedPacket<'a> {
         match self.fill(entry, bytes) {
             Ok(()) => Ok(()),
             Err(error) => {
-                *self = LaxSlicedPacket::new();
+                self.clear();
                 Err(error)
             }
         }
+    }
+
+    /// Takes all layers away. Apart, since inlined it would have the room of the new value zeroed for each packet.
+    #[inline(never)]
+    fn clear(&mut self)
+        ensures { lax_layers_of self.new ≡ no_lax_layers }
+    {
+        *self = LaxSlicedPacket::new();
     }
 
     /// Fills in the layers of the packet that begins with what `entry` says, whatever net and transport layer there

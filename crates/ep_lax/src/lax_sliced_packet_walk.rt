@@ -24,7 +24,7 @@ use crate::lax_ipv4_slice::LaxIpv4Slice;
 use crate::lax_ipv6_slice::LaxIpv6Slice;
 use crate::lax_link_ext_slice::LaxLinkExtSlice;
 use crate::lax_net_slice::LaxNetSlice;
-use crate::lax_stop::{auth_stop, chain_stop, extension_stop, told};
+use crate::lax_stop::{auth_stop, chain_stop, extension_stop, forget_stop, told};
 use crate::lax_transport::fill_behind_ip;
 use arrayvec::ArrayVec;
 use ep_base::err::{Layer, LenError, ip, ip_auth, ipv4, ipv6, ipv6_exts};
@@ -129,12 +129,25 @@ fn fill_net<'a>(
         Some(ether_type::IPV4) => fill_ipv4(net, transport, stop_err, inside),
         Some(ether_type::IPV6) => fill_ipv6(net, transport, stop_err, inside),
         Some(ether_type::ARP) => fill_arp(net, transport, stop_err, inside),
-        _ => {
-            *net = None;
-            *transport = None;
-            *stop_err = None;
-        }
+        _ => fill_nothing(net, transport, stop_err),
     }
+}
+
+/// Fills in that there is no net layer, and nothing inside it. Apart, since inlined it would have the room of these
+/// values zeroed for each packet.
+#[inline(never)]
+fn fill_nothing<'a>(
+    net: &mut Option<LaxNetSlice<'a>>,
+    transport: &mut Option<TransportSlice<'a>>,
+    stop_err: &mut Option<(SliceError, Layer)>,
+)
+    ensures net { net.new ≡ None }
+    ensures transport { transport.new ≡ None }
+    ensures stop { stop_err.new ≡ None }
+{
+    *net = None;
+    *transport = None;
+    *stop_err = None;
 }
 
 /// Fills in the IPv4 packet that bytes are, and what is inside it.
@@ -199,7 +212,7 @@ fn fill_arp<'a>(
     match ArpPacketSlice::from_slice(inside.slice) {
         Ok(packet) => {
             *net = Some(LaxNetSlice::Arp(packet));
-            *stop_err = None;
+            forget_stop(stop_err);
         }
         Err(error) => {
             *net = None;

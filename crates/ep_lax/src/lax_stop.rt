@@ -1,6 +1,6 @@
 //! Refusals at which the lax walk over a packet stops.
 
-ghost use Rattle.std.specs.Prelude.{◌≡◌, ◌+◌, ◌<◌, ◌^◌, Option};
+ghost use Rattle.std.specs.Prelude.{◌≡◌, ◌+◌, ◌<◌, ◌^◌, None, Option};
 ghost use Rattle.std.specs.Option.{ForSome, option_map};
 ghost use Rattle.ep_base.specs.declared.err.ipv6_exts.HeaderSliceError.{HeaderSliceError};
 ghost use Rattle.ep_ext.specs.Chains.{ipv4, ipv6, offset_of};
@@ -21,6 +21,16 @@ pub(crate) fn told(error: SliceError) -> (SliceError, Layer)
 {
     let layer = stop_layer(&error);
     (error, layer)
+}
+
+/// Forgets where an earlier walk stopped. Where it did not, as for most packets, none of the value's room is written.
+#[inline(always)]
+pub(crate) fn forget_stop(stop_err: &mut Option<(SliceError, Layer)>)
+    ensures { stop_err.new ≡ None }
+{
+    if stop_err.is_some() {
+        *stop_err = None;
+    }
 }
 
 /// The layer that a refusal is of.

@@ -10,7 +10,7 @@ ghost use Rattle.ep_lax.specs.LaxSlices.{lax_ip_payload_of};
 ghost use Rattle.ep_lax.specs.LaxWalk.{IsBehindIp};
 
 use crate::lax_ip_payload_slice::LaxIpPayloadSlice;
-use crate::lax_stop::told;
+use crate::lax_stop::{forget_stop, told};
 use ep_base::IpNumber;
 use ep_base::err::{Layer, tcp};
 use ep_packet::err::SliceError;
@@ -56,8 +56,7 @@ fn fill_transport<'a>(
     let error = match transport_in(payload) {
         Ok(found) => {
             *transport = found;
-            *stop_err = None;
-            return;
+            return forget_stop(stop_err);
         }
         Err(tcp::HeaderSliceError::Len(error)) => {
             SliceError::Len(error.behind_header(offset, payload.len_source))

@@ -40,6 +40,7 @@ returns-clause-ok c =
     let n = c.header_len-header_len.result in
     let ok = c.in-Ok.ensures.ok in
     let front = ipv4_header_slice_bytes c.in-Ok.header in
+    let fragmenting = c.is_fragmenting_payload-fragmented in
     let cutting = c.cut-content.ensures in
     let content = c.cut-content.result.payload.now in
     let read = c.from_slice_lax-refused.result in
@@ -51,6 +52,6 @@ returns-clause-ok c =
           c.header_len-header_len.ensures.bytes c.header_len-header_len.ensures.value _ c.total_len.ensures
           (lax_cut_of c.cut-content.result cutting.0) cutting.1 c.protocol.result.0
           (ap (λ (number : IpNumber). number.0) c.protocol.ensures) chain (option_map auth_refusal read.3)
-          c.from_slice_lax-refused.ensures.chain c.is_fragmenting_payload.result c.is_fragmenting_payload.ensures
+          c.from_slice_lax-refused.ensures.chain fragmenting.result fragmenting.ensures
           (option_map auth_refusal c.behind_header-stop.result) c.behind_header-stop.ensures,
     )
