@@ -1,0 +1,6 @@
+pub mod HeaderDetails
+pub mod TcpDetails
+pub mod ChecksumTexts
+pub mod Quoted
+pub mod PacketChecksums
+pub mod PacketDetails

@@ -1,0 +1,40 @@
+-- What is told of the checksum of a packet's transport layer.
+use Rattle.std.specs.Prelude.{ℕ, if◌then◌else◌, Bool, true, false, List, [], Option, Some, None}
+use Rattle.std.specs.List.{list_any}
+use Rattle.ep_ext.specs.ExtensionParts.{ExtensionPart, routing}
+use Rattle.ep_transport.specs.declared.transport_slice.TransportSlice.{TransportSlice}
+use Rattle.ep_packet.specs.Layers.{NetLayer, ipv4, ipv6, arp}
+use Rattle.ep_lax.specs.declared.lax_sliced_packet.LaxSlicedPacket.{LaxSlicedPacket}
+use Rattle.ep_lax.specs.LaxPackets.{lax_layers_of}
+use Rattle.detail_texts.specs.ChecksumTexts.{checksum_text_ipv4, checksum_text_ipv6}
+
+-- whether an extension header is a routing header
+abbrev pub is_routing : ExtensionPart → Bool
+is_routing (routing header) = true
+is_routing part = false
+
+-- whether a routing header is among extension headers
+abbrev pub has_routing : List ExtensionPart → Bool
+has_routing parts = list_any is_routing parts
+
+-- The checksum of a transport layer in a net layer. None is told behind a routing header, which may hold the destination
+-- that is summed (RFC 8200, 8.1).
+abbrev pub net_checksum_text : Option NetLayer → TransportSlice → List ℕ
+net_checksum_text (Some (ipv4 header extensions payload)) transport =
+    checksum_text_ipv4 header.source header.destination transport
+net_checksum_text (Some (ipv6 header extensions payload)) transport =
+    if has_routing extensions then [] else checksum_text_ipv6 header.source header.destination transport
+net_checksum_text (Some (arp packet)) transport = []
+net_checksum_text None transport = []
+
+-- the same of a transport layer, where there is one
+abbrev pub inner_checksum_text : Option NetLayer → Option TransportSlice → List ℕ
+inner_checksum_text net (Some transport) = net_checksum_text net transport
+inner_checksum_text net None = []
+
+-- The checksum of a packet's transport layer, which a fragment has not. None is told where bytes of the payload are
+-- missing.
+abbrev pub packet_checksum_text : LaxSlicedPacket → List ℕ
+packet_checksum_text packet =
+    let net = (lax_layers_of packet).net in
+    if net.inside.incomplete then [] else inner_checksum_text net.layer packet.transport

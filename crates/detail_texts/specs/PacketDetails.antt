@@ -1,0 +1,59 @@
+-- What is told of a packet beside the addresses, ports and lengths of its layers.
+use Rattle.std.specs.Prelude.{◌≡◌, ℕ, List, [], ◌∷◌, ◌++◌, Option, Some, None}
+use Rattle.ep_link.specs.VlanSlices.{vlan_slice_header}
+use Rattle.ep_transport.specs.TcpSlices.{tcp_slice_header}
+use Rattle.ep_transport.specs.declared.transport_slice.TransportSlice.{TransportSlice}
+use Rattle.ep_transport.specs.declared.transport_slice.TransportSlice.TheVariants as transport
+use Rattle.ep_lax.specs.LaxSlices.{lax_ipv4_slice_bytes, lax_ipv4_slice_content, lax_ipv4_slice_header}
+use Rattle.ep_lax.specs.LaxSlices.{lax_ipv6_slice_header}
+use Rattle.ep_lax.specs.declared.lax_ipv4_slice.LaxIpv4Slice.{LaxIpv4Slice}
+use Rattle.ep_lax.specs.declared.lax_link_ext_slice.LaxLinkExtSlice.{LaxLinkExtSlice}
+use Rattle.ep_lax.specs.declared.lax_link_ext_slice.LaxLinkExtSlice.TheVariants as extension
+use Rattle.ep_lax.specs.declared.lax_net_slice.LaxNetSlice.{LaxNetSlice}
+use Rattle.ep_lax.specs.declared.lax_net_slice.LaxNetSlice.TheVariants as net
+use Rattle.ep_lax.specs.declared.lax_sliced_packet.LaxSlicedPacket.{LaxSlicedPacket}
+use Rattle.detail_texts.specs.ChecksumTexts.{header_checksum_text}
+use Rattle.detail_texts.specs.HeaderDetails.{ipv4_details, ipv6_details, vlan_details}
+use Rattle.detail_texts.specs.PacketChecksums.{packet_checksum_text}
+use Rattle.detail_texts.specs.TcpDetails.{IsTcpDetails}
+
+-- a link extension: of a VLAN its priority
+abbrev pub tag_details : LaxLinkExtSlice → List ℕ
+tag_details (extension.Vlan tag) = vlan_details (vlan_slice_header tag)
+tag_details (extension.Macsec packet) = []
+
+-- link extensions, from the outside in
+abbrev pub tags_details : List LaxLinkExtSlice → List ℕ
+tags_details [] = []
+tags_details (tag ∷ others) = tag_details tag ++ tags_details others
+
+-- the bytes in front of what is behind the header of an IPv4 packet
+abbrev pub AreHeaderBytes : LaxIpv4Slice → List ℕ → Type 0
+AreHeaderBytes packet bytes = bytes ++ lax_ipv4_slice_content packet ≡ lax_ipv4_slice_bytes packet
+
+-- a net layer: of IPv4 its header and the header's checksum, of IPv6 its header
+abbrev pub IsNetDetails : LaxNetSlice → List ℕ → Type 0
+IsNetDetails (net.Ipv4 packet) text =
+    (header : List ℕ) × AreHeaderBytes packet header
+    × (text ≡ ipv4_details (lax_ipv4_slice_header packet) ++ header_checksum_text header)
+IsNetDetails (net.Ipv6 packet) text = text ≡ ipv6_details (lax_ipv6_slice_header packet)
+IsNetDetails (net.Arp packet) text = text ≡ []
+
+-- the same of one, where there is one
+abbrev pub AreNetDetails : Option LaxNetSlice → List ℕ → Type 0
+AreNetDetails (Some layer) text = IsNetDetails layer text
+AreNetDetails None text = text ≡ []
+
+-- a transport layer: of TCP its window and options
+abbrev pub IsTransportDetails : Option TransportSlice → List ℕ → Type 0
+IsTransportDetails (Some (transport.Udp datagram)) text = text ≡ []
+IsTransportDetails (Some (transport.Tcp segment)) text = IsTcpDetails (tcp_slice_header segment) text
+IsTransportDetails (Some (transport.Icmpv4 message)) text = text ≡ []
+IsTransportDetails (Some (transport.Icmpv6 message)) text = text ≡ []
+IsTransportDetails None text = text ≡ []
+
+-- the layers of a packet, from the outside in, and the checksum of its transport layer
+abbrev pub IsPacketDetails : LaxSlicedPacket → List ℕ → Type 0
+IsPacketDetails packet text =
+    (net transport : List ℕ) × AreNetDetails packet.net net × IsTransportDetails packet.transport transport
+    × (text ≡ tags_details packet.link_exts.items ++ net ++ transport ++ packet_checksum_text packet)

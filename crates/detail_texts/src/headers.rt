@@ -1,0 +1,87 @@
+//! What is told of headers beside their addresses.
+
+ghost use Rattle.std.specs.Prelude.{◌≡◌, ◌++◌, OnOk};
+ghost use Rattle.ep_ip.specs.Ipv4Slices.{ipv4_header_slice_header};
+ghost use Rattle.ep_ip.specs.Ipv6Slices.{ipv6_header_slice_header};
+ghost use Rattle.ep_link.specs.VlanSlices.{vlan_slice_header};
+ghost use Rattle.detail_texts.specs.HeaderDetails.{flag_text, ipv4_details, ipv4_fields_text, ipv6_details, ipv6_fields_text};
+ghost use Rattle.detail_texts.specs.HeaderDetails.{vlan_details, vlan_fields_text};
+
+use ep_ip::{Ipv4HeaderSlice, Ipv6HeaderSlice};
+use ep_link::SingleVlanSlice;
+use line_io::decimals;
+use std::alloc::AllocError;
+
+/// Appends how many further hops a packet of IPv4 may take, its identification, and whether it must not be cut.
+pub fn push_ipv4(output: &mut Vec<u8>, header: &Ipv4HeaderSlice<'_>) -> Result<(), AllocError>
+    ensures { OnOk result (output.new.items ≡ output.old.items ++ ipv4_details (ipv4_header_slice_header header.now)) }
+{
+    push_ipv4_fields(
+        output,
+        header.time_to_live(),
+        header.identification(),
+        header.dont_fragment(),
+    )
+}
+
+/// Appends the same from the fields.
+#[tactic(auto, unfolding(crate::specs::HeaderDetails::ipv4_fields_text))]
+fn push_ipv4_fields(
+    output: &mut Vec<u8>,
+    time_to_live: u8,
+    identification: u16,
+    dont_fragment: bool,
+) -> Result<(), AllocError>
+    ensures { OnOk result (output.new.items
+        ≡ output.old.items ++ ipv4_fields_text time_to_live identification dont_fragment) }
+{
+    decimals::push_behind(output, b" ttl ", u64::from(time_to_live))?;
+    decimals::push_behind(output, b" id ", u64::from(identification))?;
+    push_flag(output, dont_fragment, b" df")
+}
+
+/// Appends how many further hops a packet of IPv6 may take, and its flow label.
+pub fn push_ipv6(output: &mut Vec<u8>, header: &Ipv6HeaderSlice<'_>) -> Result<(), AllocError>
+    ensures { OnOk result (output.new.items ≡ output.old.items ++ ipv6_details (ipv6_header_slice_header header.now)) }
+{
+    push_ipv6_fields(output, header.hop_limit(), header.flow_label().value())
+}
+
+/// Appends the same from the fields.
+#[tactic(auto, unfolding(crate::specs::HeaderDetails::ipv6_fields_text))]
+fn push_ipv6_fields(output: &mut Vec<u8>, hop_limit: u8, flow_label: u32) -> Result<(), AllocError>
+    ensures { OnOk result (output.new.items ≡ output.old.items ++ ipv6_fields_text hop_limit flow_label) }
+{
+    decimals::push_behind(output, b" hop-limit ", u64::from(hop_limit))?;
+    decimals::push_behind(output, b" flow ", u64::from(flow_label))
+}
+
+/// Appends the priority of a VLAN tag, and whether its frame may be dropped first.
+pub fn push_vlan(output: &mut Vec<u8>, tag: &SingleVlanSlice<'_>) -> Result<(), AllocError>
+    ensures { OnOk result (output.new.items ≡ output.old.items ++ vlan_details (vlan_slice_header tag.now)) }
+{
+    push_vlan_fields(output, tag.pcp().value(), tag.drop_eligible_indicator())
+}
+
+/// Appends the same from the fields.
+#[tactic(auto, unfolding(crate::specs::HeaderDetails::vlan_fields_text))]
+fn push_vlan_fields(
+    output: &mut Vec<u8>,
+    priority: u8,
+    drop_eligible: bool,
+) -> Result<(), AllocError>
+    ensures { OnOk result (output.new.items ≡ output.old.items ++ vlan_fields_text priority drop_eligible) }
+{
+    decimals::push_behind(output, b" pcp ", u64::from(priority))?;
+    push_flag(output, drop_eligible, b" dei")
+}
+
+/// Appends a text, where its flag is set.
+fn push_flag(output: &mut Vec<u8>, set: bool, text: &[u8]) -> Result<(), AllocError>
+    ensures { OnOk result (output.new.items ≡ output.old.items ++ flag_text set text.now) }
+{
+    if set {
+        output.extend_from_slice(text)?;
+    }
+    Ok(())
+}

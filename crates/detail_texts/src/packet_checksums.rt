@@ -1,0 +1,84 @@
+//! What is told of the checksum of a packet's transport layer.
+
+ghost use Rattle.std.specs.Prelude.{◌≡◌, ◌++◌, OnOk};
+ghost use Rattle.std.specs.Option.{option_map};
+ghost use Rattle.ep_ext.specs.Ipv6ExtensionSlices.{extension_slice_part, ipv6_slice_parts};
+ghost use Rattle.ep_lax.specs.LaxViews.{lax_net_layer_of};
+ghost use Rattle.detail_texts.specs.PacketChecksums.{has_routing, inner_checksum_text, is_routing, net_checksum_text};
+ghost use Rattle.detail_texts.specs.PacketChecksums.{packet_checksum_text};
+
+use crate::checksums::{push_checksum_ipv4, push_checksum_ipv6};
+use ep_ext::{Ipv6ExtensionSlice, Ipv6ExtensionsSlice};
+use ep_lax::{LaxNetSlice, LaxSlicedPacket};
+use ep_transport::TransportSlice;
+use std::alloc::AllocError;
+
+/// Appends whether the checksum of a packet's transport layer is the right one, where it has one and no byte of it is
+/// missing. None is told behind a routing header.
+pub fn push_checksum(output: &mut Vec<u8>, packet: &LaxSlicedPacket<'_>) -> Result<(), AllocError>
+    ensures { OnOk result (output.new.items ≡ output.old.items ++ packet_checksum_text packet.now) }
+{
+    if packet.is_incomplete() {
+        return Ok(());
+    }
+    push_inner(output, &packet.net, &packet.transport)
+}
+
+/// Appends the same of a transport layer in a net layer, where there is one.
+fn push_inner(
+    output: &mut Vec<u8>,
+    net: &Option<LaxNetSlice<'_>>,
+    transport: &Option<TransportSlice<'_>>,
+) -> Result<(), AllocError>
+    ensures { OnOk result (output.new.items
+        ≡ output.old.items ++ inner_checksum_text (option_map lax_net_layer_of net.now) transport.now) }
+{
+    match transport {
+        Some(transport) => push_behind(output, net, transport),
+        None => Ok(()),
+    }
+}
+
+/// Appends the same behind a net layer.
+fn push_behind(
+    output: &mut Vec<u8>,
+    net: &Option<LaxNetSlice<'_>>,
+    transport: &TransportSlice<'_>,
+) -> Result<(), AllocError>
+    ensures { OnOk result (output.new.items
+        ≡ output.old.items ++ net_checksum_text (option_map lax_net_layer_of net.now) transport.now) }
+{
+    match net {
+        Some(LaxNetSlice::Ipv4(packet)) => {
+            let header = packet.header();
+            push_checksum_ipv4(output, header.source(), header.destination(), transport)
+        }
+        Some(LaxNetSlice::Ipv6(packet)) => {
+            if has_routing(packet.extensions()) {
+                return Ok(());
+            }
+            let header = packet.header();
+            push_checksum_ipv6(output, header.source(), header.destination(), transport)
+        }
+        Some(LaxNetSlice::Arp(_)) | None => Ok(()),
+    }
+}
+
+/// Whether a routing header is among extension headers.
+fn has_routing(extensions: Ipv6ExtensionsSlice<'_>) -> bool
+    ensures { result ≡ has_routing (ipv6_slice_parts extensions.entry) }
+{
+    for extension in extensions {
+        if is_routing(&extension) {
+            return true;
+        }
+    }
+    false
+}
+
+/// Whether an extension header is a routing header.
+fn is_routing(extension: &Ipv6ExtensionSlice<'_>) -> bool
+    ensures { result ≡ is_routing (extension_slice_part extension.now) }
+{
+    matches!(extension, Ipv6ExtensionSlice::Routing(_))
+}

@@ -1,0 +1,2 @@
+pub mod NetworkLemmas
+pub mod WordLemmas

@@ -1,0 +1,11 @@
+-- Bytes that are compared with those of a network.
+use Rattle.std.proofs.Common.{◌≡◌, ℕ, ◌≤◌, List, [], ◌∷◌, length, false, refl, arith}
+use Rattle.std.specs.Str.{bytes_eq}
+use Rattle.packet_filter.specs.Networks.{network_bytes}
+
+-- some bytes are not the bytes of no address
+pub not_alike : (bits : ℕ) (bytes network : List ℕ) → 1 ≤ length bytes → length network ≡ 0
+    → false ≡ bytes_eq (network_bytes bits bytes) network
+not_alike bits [] network some none = absurd (omega (arith, some))
+not_alike bits (byte ∷ bytes) [] some none = refl
+not_alike bits (byte ∷ bytes) (first ∷ network) some none = absurd (omega (arith, none))

@@ -1,0 +1,3 @@
+pub mod Networks
+pub mod Words
+pub mod Passing

@@ -1,0 +1,3 @@
+pub mod Instants
+pub mod Calendar
+pub mod TimeTexts
