@@ -12,9 +12,6 @@ microseconds and nanoseconds, and pcapng.
 
 python3 compare.py --reassembled PROGRAM CAPTURE.. compares the payloads that are put together from fragments: behind
 which packet each comes, its transport header and its bytes, with those of tshark, which keeps fragments without an end.
-
-python3 compare.py --corpus TIMES FILE.. writes beside each file of slice_bench's corpora.py a capture of its frames, as
-many times over.
 """
 import os
 import re
@@ -354,13 +351,13 @@ def in_forms(tally, program, path):
 
 def payloads_of(program, path):
     """The payloads that packet_dump puts together, by the packets behind which they come, and fragments refused."""
-    command = [program, "--reassemble", "--timeout", "4294967295", "--hex", path]
+    command = [program, "--reassemble", "--timeout", "4294967295", "--streams", "4294967295", "--hex", path]
     run = subprocess.run(command, capture_output=True, text=True)
     found, refused, rows = {}, [], None
     for line in run.stdout.splitlines():
         if line.startswith(" "):
             if rows is not None:
-                rows.append("".join(line.split()[1:]))
+                rows.append("".join(line[10:58].split()))
             continue
         rows = None
         if head := re.match(r"(\d+) .* reassembled (.*)$", line):
@@ -399,19 +396,6 @@ def reassembled(tally, program, path):
                 tally.compared(path, at, name, found[name], value, value is not None and found[name] == number(value))
 
 
-def corpus(path, times):
-    """The capture of the frames of a corpus of slice_bench, as many times over."""
-    data, frames, start = open(path, "rb").read(), [], 0
-    while start < len(data):
-        (length,) = struct.unpack_from("<I", data, start)
-        frames.append(data[start + 4:start + 4 + length])
-        start += 4 + length
-    with open(path + ".pcap", "wb") as out:
-        out.write(struct.pack("<IHHIIII", 0xA1B2C3D4, 2, 4, 0, 0, 262144, 1))
-        for index, frame in enumerate(frames * times):
-            out.write(struct.pack("<IIII", index // 1000, index % 1000 * 1000, len(frame), len(frame)) + frame)
-
-
 def files_of(paths):
     """The files that are named, and those in folders."""
     for path in paths:
@@ -422,17 +406,13 @@ def files_of(paths):
             yield path
 
 
-if sys.argv[1] == "--corpus":
-    for path in sys.argv[3:]:
-        corpus(path, int(sys.argv[2]))
-else:
-    ways = {"--forms": in_forms, "--reassembled": reassembled}
-    way, arguments = ways.get(sys.argv[1], compare), sys.argv[1:]
-    total = Tally()
-    if arguments[0] in ways:
-        arguments = arguments[1:]
-    for path in files_of(arguments[1:]):
-        way(total, arguments[0], path)
-    for reason, count in sorted(total.reasons.items(), key=lambda entry: (entry[0].split(":")[0], -entry[1])):
-        print(f"{count:8} {reason}")
-    print(", ".join(f"{value} {name}" for name, value in total.counted.items()))
+ways = {"--forms": in_forms, "--reassembled": reassembled}
+way, arguments = ways.get(sys.argv[1], compare), sys.argv[1:]
+total = Tally()
+if arguments[0] in ways:
+    arguments = arguments[1:]
+for path in files_of(arguments[1:]):
+    way(total, arguments[0], path)
+for reason, count in sorted(total.reasons.items(), key=lambda entry: (entry[0].split(":")[0], -entry[1])):
+    print(f"{count:8} {reason}")
+print(", ".join(f"{value} {name}" for name, value in total.counted.items()))

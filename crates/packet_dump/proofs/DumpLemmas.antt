@@ -12,6 +12,7 @@ use Rattle.packet_dump.specs.Dumps.{AreAllTexts, AreShown, BeginsDump, IsDump, I
 use Rattle.packet_dump.specs.PacketCalls.{PoolHistory, new_pool}
 use Rattle.packet_dump.specs.Sessions.{Drains, Stands, ending_of, ends_run}
 use Rattle.packet_dump.specs.declared.ending.Ending.{Ending}
+use Rattle.packet_dump.specs.declared.saving.Saving.{Saving}
 use Rattle.packet_dump.specs.declared.session.Session.{Session}
 use Rattle.packet_dump.specs.declared.session.Standing.{Standing}
 use Rattle.packet_dump.specs.declared.session.Standing.TheVariants.{MayEnd, Enough, Cut, Refused}
@@ -25,16 +26,17 @@ are_shown options session read items text history stands texts =
     (subst (λ n. n ≤ options.most) stands.number stands.within, history, texts)
 
 -- what is refused whatever follows is so where the reader has ended, and where it has not
-is_refused : (ended : Bool) (read : List ℕ) (found : List Item × CaptureError)
+pub is_refused : (ended : Bool) (read : List ℕ) (found : List Item × CaptureError)
     → ((more : List ℕ) → RefusesCapture (read ++ more) found) → IsRefused ended read found
 is_refused true read found refused = refused_here read found refused
 is_refused false read found refused = refused
 
 -- where the capture stands so, and a run ends there, this is its dump
 dump_of : (options : DumpOptions) (ended : Bool) (standing : Standing) (session : Session) (read : List ℕ) (items : List Item)
-    (text : List ℕ) → ends_run standing ended ≡ true → Drains options session standing read items text
+    (text : List ℕ) (start saving : Saving) → ends_run standing ended ≡ true
+    → Drains options session standing read items text start saving
     → IsDump options ended (ending_of standing session.number) read (text ++ session.output.items)
-dump_of options ended MayEnd session read items text ends drains = (
+dump_of options ended MayEnd session read items text start saving ends drains = (
   ends,
   items ++ drains.0.more,
   drains.1.1,
@@ -42,14 +44,14 @@ dump_of options ended MayEnd session read items text ends drains = (
   are_shown options session read (items ++ drains.0.more) (text ++ session.output.items) drains.0.after drains.0.stands
       drains.0.texts,
 )
-dump_of options ended Enough session read items text ends drains = (
+dump_of options ended Enough session read items text start saving ends drains = (
   items ++ drains.0.more,
   drains.1.0,
   drains.1.1,
   are_shown options session read (items ++ drains.0.more) (text ++ session.output.items) drains.0.after drains.0.stands
       drains.0.texts,
 )
-dump_of options ended (Cut error) session read items text ends drains = (
+dump_of options ended (Cut error) session read items text start saving ends drains = (
   items ++ drains.0.more,
   subst (λ e. IsRefused e read (items ++ drains.0.more, error)) (sym ends) drains.1.1,
   drains.1.0,
@@ -57,7 +59,7 @@ dump_of options ended (Cut error) session read items text ends drains = (
   are_shown options session read (items ++ drains.0.more) (text ++ session.output.items) drains.0.after drains.0.stands
       drains.0.texts,
 )
-dump_of options ended (Refused error) session read items text ends drains = (
+dump_of options ended (Refused error) session read items text start saving ends drains = (
   items ++ drains.0.more,
   is_refused ended read (items ++ drains.0.more, error) drains.1.1,
   drains.1.0,
@@ -90,10 +92,11 @@ Told options session read written =
     × AreAllTexts options items written history
 
 -- what draining a session does
-abbrev pub Draining : Session → Session → Standing → Type 0
-Draining old new standing = (options : DumpOptions) (read : List ℕ) (items : List Item) (text : List ℕ) (history : PoolHistory)
+abbrev pub Draining : Session → Session → Standing → Saving → Saving → Type 0
+Draining old new standing start saving = (options : DumpOptions) (read : List ℕ) (items : List Item) (text : List ℕ)
+    (history : PoolHistory)
     → Stands options old read items history → AreAllTexts options items text history
-    → Drains options new standing read items text
+    → Drains options new standing read items text start saving
 
 -- nothing was read or written
 pub Moves-new : (options : DumpOptions) (session : Session) (had held : Option (List ℕ))
@@ -114,11 +117,18 @@ Moves-begun options session had has held holds (read, written, consumed, appende
 )
 
 -- the lines that were put together were written in part
-pub Moves-front : (options : DumpOptions) (old new : Session) (standing : Standing) (had has held holds then_holds : Option (List ℕ))
+pub Moves-front : (options : DumpOptions) (old new : Session) (standing : Standing) (start saving : Saving)
+    (had has held holds then_holds : Option (List ℕ))
     → Moves (Told options old) had has held holds
-    → Draining old new standing
+    → Draining old new standing start saving
     → AppendsFront holds then_holds new.output.items → Moves (BeginsDump options) had has held then_holds
-Moves-front options old new standing had has held holds then_holds (read, written, consumed, appended, (items, history, stands, texts))
+Moves-front options old new standing start saving had has held holds then_holds (
+  read,
+  written,
+  consumed,
+  appended,
+  (items, history, stands, texts),
+)
     drain (front, rest, more, parts) =
     let drained = (drain options read items written history stands texts).0 in
     let regrouped : written ++ new.output.items ≡ (written ++ front) ++ rest =
@@ -133,11 +143,18 @@ Moves-front options old new standing had has held holds then_holds (read, writte
     )
 
 -- they were written whole
-pub Moves-drained : (options : DumpOptions) (old new : Session) (standing : Standing) (had has held holds then_holds : Option (List ℕ))
+pub Moves-drained : (options : DumpOptions) (old new : Session) (standing : Standing) (start saving : Saving)
+    (had has held holds then_holds : Option (List ℕ))
     → Moves (Told options old) had has held holds
-    → Draining old new standing
+    → Draining old new standing start saving
     → Appends holds then_holds new.output.items → Moves (Told options new) had has held then_holds
-Moves-drained options old new standing had has held holds then_holds (read, written, consumed, appended, (items, history, stands, texts))
+Moves-drained options old new standing start saving had has held holds then_holds (
+  read,
+  written,
+  consumed,
+  appended,
+  (items, history, stands, texts),
+)
     drain more =
     let drained = (drain options read items written history stands texts).0 in (
       read,
@@ -149,17 +166,19 @@ Moves-drained options old new standing had has held holds then_holds (read, writ
 
 -- and the capture stands so
 pub Moves-ended : (options : DumpOptions) (ended : Bool) (old new : Session) (standing : Standing)
+    (start saving : Saving)
     (had has held holds then_holds : Option (List ℕ)) → Moves (Told options old) had has held holds
-    → Draining old new standing → ends_run standing ended ≡ true
+    → Draining old new standing start saving → ends_run standing ended ≡ true
     → Appends holds then_holds new.output.items
     → Moves (IsDump options ended (ending_of standing new.number)) had has held then_holds
-Moves-ended options ended old new standing had has held holds then_holds
+Moves-ended options ended old new standing start saving had has held holds then_holds
     (read, written, consumed, appended, (items, history, stands, texts)) drain ends more = (
       read,
       written ++ new.output.items,
       consumed,
       Appends-trans held holds then_holds written new.output.items appended more,
-      dump_of options ended standing new read items written ends (drain options read items written history stands texts),
+      dump_of options ended standing new read items written start saving ends (drain options read items written
+          history stands texts),
     )
 
 -- no more was read

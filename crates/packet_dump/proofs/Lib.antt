@@ -1,7 +1,12 @@
 pub mod SessionLemmas
 pub mod DumpLemmas
+pub mod SavingLemmas
+pub mod CopyLemmas
 pub mod LineLemmas
+pub mod OpenLemmas
 pub mod PoolLemmas
 pub mod ReadingLemmas
 pub mod ValueLemmas
+pub mod JoinedLemmas
 pub mod OptionLemmas
+pub mod FilterLemmas

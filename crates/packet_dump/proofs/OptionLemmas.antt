@@ -1,24 +1,29 @@
 -- What words come to, read one at a time, is what they ask, or how they are wrong.
-use Rattle.std.proofs.Common.{◌≡◌, ℕ, ◌+◌, ◌<◌, ◌≤◌, Bool, true, false, ◌||◌, ◌⊎◌, inl, inr, cond, List, [], ◌∷◌}
+use Rattle.std.proofs.Common.{◌≡◌, ℕ, ◌+◌, ◌<◌, ◌≤◌, Bool, true, false, if◌then◌else◌, ◌||◌, ◌⊎◌, inl, inr, cond, List, [], ◌∷◌}
 use Rattle.std.proofs.Common.{◌++◌, length, drop, get_or, suc, Option, Some, None, Result, Ok, Err, refl, ap, ◌∙◌}
 use Rattle.std.proofs.Common.{sym, subst, arith, add_assoc, add-zero, zero-add, add-one, drop-cons}
 use Rattle.std.specs.Prelude.{IfErr, IfOk, String, codes, fold, string_bytes}
 use Rattle.std.proofs.lemmas.List.{drop_all}
 use Rattle.std.proofs.lemmas.List.Sums.{sum_by-cons}
-use Rattle.packet_dump.specs.Options.{Asked, Asks, Begin, Fault, IsFault, IsItem, IsOption, IsRequest, IsValue, Item}
-use Rattle.packet_dump.specs.Options.{RefusesWords, Settings, answer_of, asked_of, bad_value, count, default_settings, dump}
-use Rattle.packet_dump.specs.Options.{fault_of, file, help, hex, inputs, is_dashed, is_input, limit, no_value, only}
-use Rattle.packet_dump.specs.Options.{option_word, reassemble, second_file, standard_input, strict, summary, texts, timeout}
-use Rattle.packet_dump.specs.Options.{unknown_option, version, with_item}
-use Rattle.packet_dump.specs.OptionSteps.{State, Step, behind_value, behind_word, done, finished, first_state, more, step}
+use Rattle.packet_dump.specs.Options.{AreSpelled, Asked, Asks, Begin, Fault, IsFault, IsItem, IsOption, IsRequest, IsValue, Item}
+use Rattle.packet_dump.specs.Options.{IsOptionWord, RefusesWords, Settings, answer_of, asked_of, bad_value, count, crowded_filter}
+use Rattle.packet_dump.specs.Options.{default_settings, dump, filter, options_with, settings_of}
+use Rattle.packet_dump.specs.Options.{fault_of, file, help, hex, hex_frame, inputs, is_dashed, is_input, is_known, limit}
+use Rattle.packet_dump.specs.Options.{no_names, no_value, only, option_word, quiet, reassemble, second_file, standard_input}
+use Rattle.packet_dump.specs.Options.{streams, strict, summary, texts, time, timeout, unknown_option, verbose, version}
+use Rattle.packet_dump.specs.Options.{with_item, write}
+use Rattle.packet_dump.specs.OptionSteps.{State, Step, behind_item, behind_joined, behind_value, behind_word, done, filtered, finished}
+use Rattle.packet_dump.specs.OptionSteps.{first_state, input_in, joined_in, more, step}
 use Rattle.packet_dump.specs.OptionSteps.{value_in, word_named}
 use Rattle.packet_dump.specs.declared.options.Awaited.{Awaited}
-use Rattle.packet_dump.specs.declared.options.Awaited.TheVariants.{Count, Only, Timeout, Limit}
+use Rattle.packet_dump.specs.declared.options.Awaited.TheVariants.{Count, Only, Time, Timeout, Limit, Write, Streams, Filter, Input}
 use Rattle.packet_dump.specs.declared.options.Request.{Request}
 use Rattle.packet_dump.specs.declared.options.UsageError.{UsageError}
 use Rattle.packet_dump.specs.declared.options.Word.{Word}
+use Rattle.packet_dump.specs.declared.dump_options.DumpOptions.{DumpOptions}
 use Rattle.packet_dump.specs.declared.options.Word.TheVariants as word
-use Rattle.packet_dump.proofs.ValueLemmas.{IsWord, file_word, is_word, unknown_word, value_in-is, value_in-none}
+use Rattle.packet_dump.proofs.JoinedLemmas.{joined_is, joined_none, joined_so, option_named}
+use Rattle.packet_dump.proofs.ValueLemmas.{IsWord, file_word, input_is, is_word, unknown_word, value_in-is, value_in-none}
 use Rattle.packet_dump.proofs.ValueLemmas.{value_in-some}
 
 -- ---- what the words come to
@@ -34,17 +39,17 @@ outcome (text ∷ words) state = continue (λ next. outcome words next) (step st
 abbrev at : Settings → Bool → Option Awaited → State
 at settings named awaited = record { settings = settings; named = named; awaited = awaited }
 
--- the option whose value is awaited
-abbrev awaited_words : Option Awaited → List (List ℕ)
-awaited_words None = []
-awaited_words (Some option) = option_word option ∷ []
+-- these words lead to where such a value is awaited, or none is
+abbrev Awaits : Option Awaited → List (List ℕ) → Type 0
+Awaits None lead = lead ≡ []
+Awaits (Some option) lead = (name : List ℕ) × IsOptionWord option name × (lead ≡ name ∷ [])
 
 abbrev named_count : Bool → ℕ
 named_count named = cond named 1 0
 
 abbrev Ends : Settings → ℕ → List (List ℕ) → Result Asked Fault → Type 0
 Ends settings before rest (Ok asked) = Asks settings rest asked
-Ends settings before rest (Err fault) = IsFault before rest fault
+Ends settings before rest (Err fault) = IsFault settings before rest fault
 
 -- the words have this answer behind items that ask for these settings
 record From (settings : Settings) (named : Bool) (words : List (List ℕ)) (answer : Result Asked Fault) : Type 0 where
@@ -53,6 +58,11 @@ record From (settings : Settings) (named : Bool) (words : List (List ℕ)) (answ
   begin : Begin words items rest
   one : named_count named + inputs items ≤ 1
   ends : Ends (fold with_item settings items) (named_count named + inputs items) rest answer
+
+-- what words come to behind any such
+abbrev Later : List (List ℕ) → Type 0
+Later words = (settings : Settings) (named : Bool) (awaited : Option Awaited) (lead : List (List ℕ)) → Awaits awaited lead
+    → From settings named (lead ++ words) (outcome words (at settings named awaited))
 
 inputs-cons : (item : Item) (items : List Item) → inputs (item ∷ items) ≡ named_count (is_input item) + inputs items
 inputs-cons item items = sum_by-cons (λ x. cond (is_input x) 1 0) item items
@@ -92,39 +102,85 @@ add_item settings named later own words answer item is counted from =
           from.ends;
     }
 
-value_item : (option : Awaited) (value : List ℕ) (item : Item) → IsValue option value item
-    → IsItem (option_word option ∷ value ∷ []) item × (is_input item ≡ false)
-value_item Count value (count number) says = ((Count, value, refl, says), refl)
-value_item Only value (only sought) says = ((Only, value, refl, says), refl)
-value_item Timeout value (timeout seconds) says = ((Timeout, value, refl, says), refl)
-value_item Limit value (limit bytes) says = ((Limit, value, refl, says), refl)
-value_item option value item says = absurd says
+value_item : (option : Awaited) (value : List ℕ) (item : Item) (own : List (List ℕ)) → AreSpelled option value own
+    → IsValue option value item → IsItem own item
+value_item Count value (count number) own spelled says = (Count, value, spelled, says)
+value_item Only value (only sought) own spelled says = (Only, value, spelled, says)
+value_item Time value (time form) own spelled says = (Time, value, spelled, says)
+value_item Timeout value (timeout seconds) own spelled says = (Timeout, value, spelled, says)
+value_item Limit value (limit bytes) own spelled says = (Limit, value, spelled, says)
+value_item Write value (write name) own spelled says = (Write, value, spelled, says)
+value_item Streams value (streams number) own spelled says = (Streams, value, spelled, says)
+value_item (Filter kind) value (filter other said) own spelled says = (Filter kind, value, spelled, says)
+value_item Input value (file name) own spelled says = inr (Input, value, spelled, says)
+value_item Input value standard_input own spelled says = inr (Input, value, spelled, says)
+value_item option value item own spelled says = absurd says
+
+-- one option alone says what is read
+inputs_only : (option : Awaited) (value : List ℕ) (item : Item) → IsValue option value item → is_input item ≡ true
+    → option ≡ Input
+inputs_only Input value item says is = refl
+inputs_only Count value (count number) says is = let never : ⊥ = cc in absurd never
+inputs_only Only value (only sought) says is = let never : ⊥ = cc in absurd never
+inputs_only Time value (time form) says is = let never : ⊥ = cc in absurd never
+inputs_only Timeout value (timeout seconds) says is = let never : ⊥ = cc in absurd never
+inputs_only Limit value (limit bytes) says is = let never : ⊥ = cc in absurd never
+inputs_only Write value (write name) says is = let never : ⊥ = cc in absurd never
+inputs_only Streams value (streams number) says is = let never : ⊥ = cc in absurd never
+inputs_only (Filter kind) value (filter other said) says is = let never : ⊥ = cc in absurd never
+inputs_only option value item says is = absurd says
 
 not_both : {A : Type 0} (o : Option A) (x : A) → o ≡ Some x → o ≡ None → ⊥
 not_both o x some none = let clash : Some x ≡ None = sym some ∙ none in cc
 
-sound_value : (words : List (List ℕ)) (settings : Settings) (named : Bool) (option : Awaited) (value : List ℕ)
-    (said : Option Item) → value_in option value ≡ said
-    → ((item : Item) → From (with_item settings item) named words
-    (outcome words (at (with_item settings item) named None)))
-    → From settings named (option_word option ∷ value ∷ words)
-    (continue (λ next. outcome words next) (behind_value (at settings named (Some option)) option value said))
-sound_value words settings named option value (Some item) is later =
-    let parts = value_item option value item (value_in-is option value item is) in
-    add_item settings named named (option_word option ∷ value ∷ []) words _ item parts.0
-    (ap (λ b. named_count named + named_count b) parts.1 ∙ add-zero (named_count named)) (later item)
-sound_value words settings named option value None is later =
-    end_here settings named (option_word option ∷ value ∷ words) (Err (bad_value option value))
-    (words, refl, λ item says. not_both (value_in option value) item (value_in-some option value item says) is)
+sound_item : (words : List (List ℕ)) (settings : Settings) (named : Bool) (awaited : Option Awaited) (option : Awaited)
+    (value : List ℕ) (own : List (List ℕ)) → AreSpelled option value own → (item : Item) → IsValue option value item
+    → (input : Bool) → is_input item ≡ input
+    → ((n : Bool) → From (with_item settings item) n words (outcome words (at (with_item settings item) n None)))
+    → From settings named (own ++ words)
+    (continue (λ next. outcome words next) (behind_item (at settings named awaited) value item input))
+sound_item words settings named awaited option value own spelled item says false is later =
+    add_item settings named named own words _ item (value_item option value item own spelled says)
+    (ap (λ b. named_count named + named_count b) is ∙ add-zero (named_count named)) (later named)
+sound_item words settings true awaited option value own spelled item says true is later =
+    let input = inputs_only option value item says is in
+    end_here settings true (own ++ words) (Err (second_file value))
+    (inr (own, words, subst (λ (o : Awaited). AreSpelled o value own) input spelled, refl), refl)
+sound_item words settings false awaited option value own spelled item says true is later =
+    add_item settings false true own words _ item (value_item option value item own spelled says)
+    (ap (λ b. named_count false + named_count b) is) (later true)
 
-as_word : (text known : List ℕ) (words : List (List ℕ)) (settings : Settings) (named : Bool)
-    (answer : Result Asked Fault) → text ≡ known → From settings named (known ∷ words) answer → From settings named (text ∷ words) answer
-as_word text known words settings named answer is from =
-    subst (λ (t : List ℕ). From settings named (t ∷ words) answer) (sym is) from
+sound_value : (words : List (List ℕ)) (settings : Settings) (named : Bool) (awaited : Option Awaited) (option : Awaited)
+    (value : List ℕ) (own : List (List ℕ)) → AreSpelled option value own → (said : Option Item) → value_in option value ≡ said
+    → ((item : Item) (n : Bool) → From (with_item settings item) n words
+    (outcome words (at (with_item settings item) n None)))
+    → From settings named (own ++ words)
+    (continue (λ next. outcome words next) (behind_value (at settings named awaited) option value said))
+sound_value words settings named awaited option value own spelled (Some item) is later =
+    sound_item words settings named awaited option value own spelled item (value_in-is option value item is) (is_input item)
+    refl (λ n. later item n)
+sound_value words settings named awaited option value own spelled None is later =
+    end_here settings named (own ++ words) (Err (bad_value option value))
+    (own, words, spelled, refl, λ item says. not_both (value_in option value) item (value_in-some option value item says) is)
+
+-- of a word that begins with `-` and is in no row
+sound_joined : (words : List (List ℕ)) (settings : Settings) (named : Bool) (text : List ℕ)
+    (found : Option (Awaited × List ℕ)) → joined_in text ≡ found → is_dashed text ≡ true → is_known text ≡ false
+    → Later words → From settings named (text ∷ words)
+    (continue (λ next. outcome words next) (behind_joined (at settings named None) text found))
+sound_joined words settings named text (Some (option, value)) is dashed unknown later =
+    sound_value words settings named None option value (text ∷ []) (inr (text, joined_is text option value is, refl))
+    (value_in option value) refl (λ item n. later (with_item settings item) n None [] refl)
+sound_joined words settings named text None is dashed unknown later =
+    end_here settings named (text ∷ words) (Err (unknown_option text)) (
+      (words, refl),
+      dashed,
+      unknown,
+      λ option value joined. not_both (joined_in text) (option, value) (joined_so option value text joined).1 is,
+    )
 
 sound_word : (words : List (List ℕ)) (settings : Settings) (named : Bool) (text : List ℕ) (w : Word) → IsWord text w
-    → ((s : Settings) (n : Bool) (a : Option Awaited) → From s n (awaited_words a ++ words) (outcome words (at s n a)))
-    → From settings named (text ∷ words)
+    → Later words → From settings named (text ∷ words)
     (continue (λ next. outcome words next) (behind_word (at settings named None) text w))
 sound_word words settings named text word.Help is later =
     end_here settings named (text ∷ words) (Ok help)
@@ -134,47 +190,66 @@ sound_word words settings named text word.Version is later =
     (elim is [ inl e ↦ inl (words, ap (λ t. t ∷ words) e) | inr e ↦ inr (words, ap (λ t. t ∷ words) e) ])
 sound_word words settings named text word.Hex is later =
     add_item settings named named (text ∷ []) words _ hex (ap (λ t. t ∷ []) is) (add-zero (named_count named))
-    (later (with_item settings hex) named None)
+    (later (with_item settings hex) named None [] refl)
+sound_word words settings named text word.HexFrame is later =
+    add_item settings named named (text ∷ []) words _ hex_frame (ap (λ t. t ∷ []) is) (add-zero (named_count named))
+    (later (with_item settings hex_frame) named None [] refl)
 sound_word words settings named text word.Strict is later =
     add_item settings named named (text ∷ []) words _ strict (ap (λ t. t ∷ []) is) (add-zero (named_count named))
-    (later (with_item settings strict) named None)
+    (later (with_item settings strict) named None [] refl)
+sound_word words settings named text word.Verbose is later =
+    add_item settings named named (text ∷ []) words _ verbose (ap (λ t. t ∷ []) is) (add-zero (named_count named))
+    (later (with_item settings verbose) named None [] refl)
 sound_word words settings named text word.Summary is later =
     add_item settings named named (text ∷ []) words _ summary (ap (λ t. t ∷ []) is) (add-zero (named_count named))
-    (later (with_item settings summary) named None)
+    (later (with_item settings summary) named None [] refl)
+sound_word words settings named text word.Quiet is later =
+    add_item settings named named (text ∷ []) words _ quiet (ap (λ t. t ∷ []) is) (add-zero (named_count named))
+    (later (with_item settings quiet) named None [] refl)
 sound_word words settings named text word.Reassemble is later =
     add_item settings named named (text ∷ []) words _ reassemble (ap (λ t. t ∷ []) is) (add-zero (named_count named))
-    (later (with_item settings reassemble) named None)
-sound_word words settings named text (word.Option Count) is later =
-    as_word text (codes "--count") words settings named _ is (later settings named (Some Count))
-sound_word words settings named text (word.Option Only) is later =
-    as_word text (codes "--only") words settings named _ is (later settings named (Some Only))
-sound_word words settings named text (word.Option Timeout) is later =
-    as_word text (codes "--timeout") words settings named _ is (later settings named (Some Timeout))
-sound_word words settings named text (word.Option Limit) is later =
-    as_word text (codes "--limit") words settings named _ is (later settings named (Some Limit))
+    (later (with_item settings reassemble) named None [] refl)
+sound_word words settings named text word.NoNames is later =
+    add_item settings named named (text ∷ []) words _ no_names
+    (elim is [ inl e ↦ inl (ap (λ t. t ∷ []) e) | inr e ↦ inr (ap (λ t. t ∷ []) e) ]) (add-zero (named_count named))
+    (later (with_item settings no_names) named None [] refl)
+sound_word words settings named text (word.Option option) is later =
+    later settings named (Some option) (text ∷ []) (text, is, refl)
 sound_word words settings true text word.StandardInput is later =
-    end_here settings true (text ∷ words) (Err (second_file text)) ((words, refl), inr is, refl)
+    end_here settings true (text ∷ words) (Err (second_file text)) (inl ((words, refl), inr is), refl)
 sound_word words settings false text word.StandardInput is later =
-    add_item settings false true (text ∷ []) words _ standard_input (ap (λ t. t ∷ []) is) refl
-    (later settings true None)
+    add_item settings false true (text ∷ []) words _ standard_input (inl (ap (λ t. t ∷ []) is)) refl
+    (later settings true None [] refl)
 sound_word words settings true text word.File is later =
-    end_here settings true (text ∷ words) (Err (second_file text)) ((words, refl), inl is, refl)
+    end_here settings true (text ∷ words) (Err (second_file text)) (inl ((words, refl), inl is), refl)
 sound_word words settings false text word.File is later =
-    add_item settings false true (text ∷ []) words _ (file text) (refl, is) refl
-    (later (with_item settings (file text)) true None)
+    add_item settings false true (text ∷ []) words _ (file text) (inl (refl, is)) refl
+    (later (with_item settings (file text)) true None [] refl)
 sound_word words settings named text word.Unknown is later =
-    end_here settings named (text ∷ words) (Err (unknown_option text)) ((words, refl), is.0, is.1)
+    sound_joined words settings named text (joined_in text) refl is.0 is.1 later
 
-sound : (words : List (List ℕ)) (settings : Settings) (named : Bool) (awaited : Option Awaited)
-    → From settings named (awaited_words awaited ++ words) (outcome words (at settings named awaited))
-sound [] settings named None = end_here settings named [] (Ok (dump settings)) (refl, refl)
-sound [] settings named (Some option) =
-    end_here settings named (option_word option ∷ []) (Err (no_value (option_word option))) (option, refl, refl)
-sound (text ∷ words) settings named None =
-    sound_word words settings named text (word_named text) (is_word text) (λ s n a. sound words s n a)
-sound (text ∷ words) settings named (Some option) =
-    sound_value words settings named option text (value_in option text) refl
-    (λ item. sound words (with_item settings item) named None)
+sound_end : (settings : Settings) (named crowded : Bool) → settings.crowded ≡ crowded
+    → From settings named [] (if crowded then Err crowded_filter else Ok (dump settings))
+sound_end settings named true is = end_here settings named [] (Err crowded_filter) (refl, is)
+sound_end settings named false is = end_here settings named [] (Ok (dump settings)) (refl, refl, is)
+
+sound : (words : List (List ℕ)) → Later words
+sound [] settings named None lead is =
+    subst (λ (l : List (List ℕ)). From settings named (l ++ []) (outcome [] (at settings named None))) (sym is)
+    (sound_end settings named settings.crowded refl)
+sound [] settings named (Some option) lead is =
+    subst (λ (l : List (List ℕ)). From settings named (l ++ []) (Err (no_value (option_word option)))) (sym is.2)
+    (end_here settings named (is.0 ∷ []) (Err (no_value (option_word option))) (option, is.0, is.1, refl, refl))
+sound (text ∷ words) settings named None lead is =
+    subst (λ (l : List (List ℕ)). From settings named (l ++ (text ∷ words)) (outcome (text ∷ words) (at settings named None)))
+    (sym is)
+    (sound_word words settings named text (word_named text) (is_word text) (λ s n a l w. sound words s n a l w))
+sound (text ∷ words) settings named (Some option) lead is =
+    subst
+    (λ (l : List (List ℕ)). From settings named (l ++ (text ∷ words)) (outcome (text ∷ words) (at settings named (Some option))))
+    (sym is.2)
+    (sound_value words settings named (Some option) option text (is.0 ∷ text ∷ []) (inl (is.0, is.1, refl))
+    (value_in option text) refl (λ item n. sound words (with_item settings item) n None [] refl))
 
 -- ---- what is so is what the words come to
 
@@ -184,52 +259,88 @@ one_step : (words : List (List ℕ)) (settings : Settings) (named : Bool) (text 
 one_step words settings named text w is =
     ap (λ v. continue (λ next. outcome words next) (behind_word (at settings named None) text v)) is
 
-value_step : (option : Awaited) (value : List ℕ) (words : List (List ℕ)) (settings : Settings) (named : Bool)
-    (said : Option Item) → value_in option value ≡ said
-    → outcome (option_word option ∷ value ∷ words) (at settings named None)
-    ≡ continue (λ next. outcome words next) (behind_value (at settings named (Some option)) option value said)
-value_step Count value words settings named said is =
-    ap (λ o. continue (λ next. outcome words next) (behind_value (at settings named (Some Count)) Count value o)) is
-value_step Only value words settings named said is =
-    ap (λ o. continue (λ next. outcome words next) (behind_value (at settings named (Some Only)) Only value o)) is
-value_step Timeout value words settings named said is =
-    ap (λ o. continue (λ next. outcome words next) (behind_value (at settings named (Some Timeout)) Timeout value o)) is
-value_step Limit value words settings named said is =
-    ap (λ o. continue (λ next. outcome words next) (behind_value (at settings named (Some Limit)) Limit value o)) is
+same_item : (settings : Settings) (named : Bool) (awaited : Option Awaited) (value : List ℕ) (item : Item) (input : Bool)
+    → behind_item (at settings named awaited) value item input ≡ behind_item (at settings named None) value item input
+same_item settings named awaited value item true = refl
+same_item settings named awaited value item false = refl
+
+same_behind : (settings : Settings) (named : Bool) (awaited : Option Awaited) (option : Awaited) (value : List ℕ)
+    (said : Option Item) → behind_value (at settings named awaited) option value said
+    ≡ behind_value (at settings named None) option value said
+same_behind settings named awaited option value None = refl
+same_behind settings named awaited option value (Some item) = same_item settings named awaited value item (is_input item)
+
+-- behind an option and its value
+value_step : (option : Awaited) (value : List ℕ) (own words : List (List ℕ)) (settings : Settings) (named : Bool)
+    → AreSpelled option value own → (said : Option Item) → value_in option value ≡ said
+    → outcome (own ++ words) (at settings named None)
+    ≡ continue (λ next. outcome words next) (behind_value (at settings named None) option value said)
+value_step option value own words settings named (inl (name, fits, spelled)) said is =
+    ap (λ o. outcome (o ++ words) (at settings named None)) spelled
+    ∙ one_step (value ∷ words) settings named name (word.Option option) (option_named option name fits)
+    ∙ ap (λ o. continue (λ next. outcome words next) (behind_value (at settings named (Some option)) option value o)) is
+    ∙ ap (λ s. continue (λ next. outcome words next) s) (same_behind settings named (Some option) option value said)
+value_step option value own words settings named (inr (text, joined, spelled)) said is =
+    let so = joined_so option value text joined in
+    ap (λ o. outcome (o ++ words) (at settings named None)) spelled
+    ∙ one_step words settings named text word.Unknown so.0
+    ∙ ap (λ f. continue (λ next. outcome words next) (behind_joined (at settings named None) text f)) so.1
+    ∙ ap (λ o. continue (λ next. outcome words next) (behind_value (at settings named None) option value o)) is
+
+item_behind : (words : List (List ℕ)) (settings : Settings) (named : Bool) (value : List ℕ) (item : Item) (input : Bool)
+    → named_count named + named_count input ≤ 1
+    → continue (λ next. outcome words next) (behind_item (at settings named None) value item input)
+    ≡ outcome words (at (with_item settings item) (input || named) None)
+item_behind words settings named value item false fits = refl
+item_behind words settings true value item true fits = absurd (omega arith)
+item_behind words settings false value item true fits = refl
 
 option_step : (item : Item) (own words : List (List ℕ)) (settings : Settings) (named : Bool) → IsOption own item
+    → named_count named + named_count (is_input item) ≤ 1
     → outcome (own ++ words) (at settings named None)
-    ≡ continue (λ next. outcome words next) (more (at (with_item settings item) named None))
-option_step item own words settings named is =
-    ap (λ o. outcome (o ++ words) (at settings named None)) is.2
-    ∙ value_step is.0 is.1 words settings named (Some item) (value_in-some is.0 is.1 item is.3)
+    ≡ outcome words (at (with_item settings item) (is_input item || named) None)
+option_step item own words settings named is fits =
+    value_step is.0 is.1 own words settings named is.2 (Some item) (value_in-some is.0 is.1 item is.3)
+    ∙ item_behind words settings named is.1 item (is_input item) fits
 
 item_step : (item : Item) (own words : List (List ℕ)) (settings : Settings) (named : Bool) → IsItem own item
     → named_count named + named_count (is_input item) ≤ 1
     → outcome (own ++ words) (at settings named None)
     ≡ outcome words (at (with_item settings item) (is_input item || named) None)
 item_step hex own words settings named is fits = ap (λ o. outcome (o ++ words) (at settings named None)) is
+item_step hex_frame own words settings named is fits = ap (λ o. outcome (o ++ words) (at settings named None)) is
 item_step strict own words settings named is fits = ap (λ o. outcome (o ++ words) (at settings named None)) is
+item_step verbose own words settings named is fits = ap (λ o. outcome (o ++ words) (at settings named None)) is
 item_step summary own words settings named is fits = ap (λ o. outcome (o ++ words) (at settings named None)) is
+item_step quiet own words settings named is fits = ap (λ o. outcome (o ++ words) (at settings named None)) is
 item_step reassemble own words settings named is fits = ap (λ o. outcome (o ++ words) (at settings named None)) is
-item_step (count number) own words settings named is fits = option_step (count number) own words settings named is
-item_step (only sought) own words settings named is fits = option_step (only sought) own words settings named is
+item_step no_names own words settings named (inl is) fits = ap (λ o. outcome (o ++ words) (at settings named None)) is
+item_step no_names own words settings named (inr is) fits = ap (λ o. outcome (o ++ words) (at settings named None)) is
+item_step (count number) own words settings named is fits =
+    option_step (count number) own words settings named is fits
+item_step (only sought) own words settings named is fits =
+    option_step (only sought) own words settings named is fits
+item_step (time form) own words settings named is fits =
+    option_step (time form) own words settings named is fits
 item_step (timeout seconds) own words settings named is fits =
-    option_step (timeout seconds) own words settings named is
-item_step (limit bytes) own words settings named is fits = option_step (limit bytes) own words settings named is
-item_step (file name) own words settings true is fits = absurd (omega arith)
-item_step (file name) own words settings false is fits =
+    option_step (timeout seconds) own words settings named is fits
+item_step (limit bytes) own words settings named is fits =
+    option_step (limit bytes) own words settings named is fits
+item_step (streams number) own words settings named is fits =
+    option_step (streams number) own words settings named is fits
+item_step (write name) own words settings named is fits = option_step (write name) own words settings named is fits
+item_step (filter kind text) own words settings named is fits =
+    option_step (filter kind text) own words settings named is fits
+item_step (file name) own words settings true (inl is) fits = absurd (omega arith)
+item_step (file name) own words settings false (inl is) fits =
     ap (λ o. outcome (o ++ words) (at settings false None)) is.0
     ∙ one_step words settings false name word.File (file_word name is.1)
-item_step standard_input own words settings true is fits = absurd (omega arith)
-item_step standard_input own words settings false is fits = ap (λ o. outcome (o ++ words) (at settings false None)) is
-
-no_value_step : (option : Awaited) (settings : Settings) (named : Bool)
-    → outcome (option_word option ∷ []) (at settings named None) ≡ Err (no_value (option_word option))
-no_value_step Count settings named = refl
-no_value_step Only settings named = refl
-no_value_step Timeout settings named = refl
-no_value_step Limit settings named = refl
+item_step (file name) own words settings named (inr is) fits = option_step (file name) own words settings named is fits
+item_step standard_input own words settings true (inl is) fits = absurd (omega arith)
+item_step standard_input own words settings false (inl is) fits =
+    ap (λ o. outcome (o ++ words) (at settings false None)) is
+item_step standard_input own words settings named (inr is) fits =
+    option_step standard_input own words settings named is fits
 
 second_step : (text : List ℕ) (words : List (List ℕ)) (settings : Settings) (named : Bool)
     → (is_dashed text ≡ false) ⊎ (text ≡ codes "-") → named_count named ≡ 1
@@ -240,6 +351,14 @@ second_step text words settings true (inl plain) counted =
 second_step text words settings true (inr same) counted =
     one_step words settings true text word.StandardInput (ap word_named same)
 
+-- what is read a second time
+second_item : (words : List (List ℕ)) (settings : Settings) (named : Bool) (text : List ℕ) (item : Item) (input : Bool)
+    → input ≡ true → named_count named ≡ 1
+    → continue (λ next. outcome words next) (behind_item (at settings named None) text item input) ≡ Err (second_file text)
+second_item words settings true text item true is counted = refl
+second_item words settings false text item true is counted = absurd (omega arith)
+second_item words settings named text item false is counted = let never : ⊥ = cc in absurd never
+
 complete_end : (rest : List (List ℕ)) (settings : Settings) (named : Bool) (answer : Result Asked Fault)
     → Ends settings (named_count named) rest answer → outcome rest (at settings named None) ≡ answer
 complete_end rest settings named (Ok help) (inl e) = ap (λ w. outcome w (at settings named None)) e.1
@@ -247,20 +366,31 @@ complete_end rest settings named (Ok help) (inr e) = ap (λ w. outcome w (at set
 complete_end rest settings named (Ok version) (inl e) = ap (λ w. outcome w (at settings named None)) e.1
 complete_end rest settings named (Ok version) (inr e) = ap (λ w. outcome w (at settings named None)) e.1
 complete_end rest settings named (Ok (dump asked)) ends =
-    ap (λ w. outcome w (at settings named None)) ends.0 ∙ ap (λ s. Ok (dump s)) (sym ends.1)
+    ap (λ w. outcome w (at settings named None)) ends.0
+    ∙ ap (λ (b : Bool). if b then Err crowded_filter else Ok (dump settings)) ends.2
+    ∙ ap (λ s. Ok (dump s)) (sym ends.1)
+complete_end rest settings named (Err crowded_filter) ends =
+    ap (λ w. outcome w (at settings named None)) ends.0
+    ∙ ap (λ (b : Bool). if b then Err crowded_filter else Ok (dump settings)) ends.1
 complete_end rest settings named (Err (unknown_option text)) ends =
     ap (λ w. outcome w (at settings named None)) ends.0.1
     ∙ one_step ends.0.0 settings named text word.Unknown (unknown_word text ends.1 ends.2)
+    ∙ ap (λ f. continue (λ next. outcome ends.0.0 next) (behind_joined (at settings named None) text f))
+    (joined_none text ends.3)
 complete_end rest settings named (Err (no_value text)) ends =
-    ap (λ w. outcome w (at settings named None)) ends.2
-    ∙ ap (λ t. outcome (t ∷ []) (at settings named None)) ends.1
-    ∙ no_value_step ends.0 settings named ∙ ap (λ t. Err (no_value t)) (sym ends.1)
+    ap (λ w. outcome w (at settings named None)) ends.3
+    ∙ one_step [] settings named ends.1 (word.Option ends.0) (option_named ends.0 ends.1 ends.2)
+    ∙ ap (λ t. Err (no_value t)) (sym ends.4)
 complete_end rest settings named (Err (bad_value option text)) ends =
-    ap (λ w. outcome w (at settings named None)) ends.1
-    ∙ value_step option text ends.0 settings named None (value_in-none option text ends.2)
-complete_end rest settings named (Err (second_file text)) ends =
-    ap (λ w. outcome w (at settings named None)) ends.0.1
-    ∙ second_step text ends.0.0 settings named ends.1 ends.2
+    ap (λ w. outcome w (at settings named None)) ends.3
+    ∙ value_step option text ends.0 ends.1 settings named ends.2 None (value_in-none option text ends.4)
+complete_end rest settings named (Err (second_file text)) (inl leads, counted) =
+    ap (λ w. outcome w (at settings named None)) leads.0.1
+    ∙ second_step text leads.0.0 settings named leads.1 counted
+complete_end rest settings named (Err (second_file text)) (inr (own, others, spelled, is), counted) =
+    ap (λ w. outcome w (at settings named None)) is
+    ∙ value_step Input text own others settings named spelled (Some (input_in text)) refl
+    ∙ second_item others settings named text (input_in text) (is_input (input_in text)) (input_is text) counted
 
 fits_both : (b named : Bool) (n : ℕ) → named_count named + (named_count b + n) ≤ 1
     → (named_count named + named_count b ≤ 1)
@@ -298,7 +428,7 @@ pub ok_from : (words : List (List ℕ)) (result : Result Request UsageError)
 ok_from words (Ok request) is =
     let from : From default_settings false words (Ok (asked_of request)) =
     subst (λ (a : Result Asked Fault). From default_settings false words a) is
-    (sound words default_settings false None) in (
+    (sound words default_settings false None [] refl) in (
       from.items,
       from.rest,
       record {
@@ -315,14 +445,14 @@ err_from words (Ok request) is = tt
 err_from words (Err error) is =
     let from : From default_settings false words (Err (fault_of error)) =
     subst (λ (a : Result Asked Fault). From default_settings false words a) is
-    (sound words default_settings false None) in (
+    (sound words default_settings false None [] refl) in (
       from.items,
       from.rest,
       record {
         items_first = from.begin;
         one_input = subst (λ (n : ℕ). n ≤ 1) (zero-add (inputs from.items)) from.one;
       },
-      subst (λ (n : ℕ). IsFault n from.rest (fault_of error)) (zero-add (inputs from.items)) from.ends,
+      subst (λ (n : ℕ). IsFault (settings_of from.items) n from.rest (fault_of error)) (zero-add (inputs from.items)) from.ends,
     )
 
 pub asked_from : (words : List (List ℕ)) (answer : Result Asked Fault) → outcome words first_state ≡ answer
@@ -336,7 +466,51 @@ pub refused_from : (words : List (List ℕ)) (answer : Result Asked Fault) → o
 refused_from words answer is fault refuses =
     sym is ∙ complete refuses.0 words refuses.1 default_settings false (Err fault) refuses.2.items_first
     (subst (λ (n : ℕ). n ≤ 1) (sym (zero-add (inputs refuses.0))) refuses.2.one_input)
-    (subst (λ (n : ℕ). IsFault n refuses.1 fault) (sym (zero-add (inputs refuses.0))) refuses.3)
+    (subst (λ (n : ℕ). IsFault (settings_of refuses.0) n refuses.1 fault) (sym (zero-add (inputs refuses.0))) refuses.3)
+
+-- ---- the value of an option
+
+-- what is set, and the word of a filter that is added, are what the item says
+pub set_item : (option : Awaited) (text : List ℕ) (item : Item) (state : State) (options : DumpOptions)
+    → IsValue option text item → options ≡ options_with state.settings.options item → is_input item ≡ false
+    → filtered (record state { settings = record state.settings { options = options } }) option text
+    ≡ record state { settings = with_item state.settings item }
+set_item Count text (count number) state options says is plain =
+    ap (λ o. record state { settings = record state.settings { options = o } }) is
+set_item Only text (only sought) state options says is plain =
+    ap (λ o. record state { settings = record state.settings { options = o } }) is
+set_item Time text (time form) state options says is plain =
+    ap (λ o. record state { settings = record state.settings { options = o } }) is
+set_item Timeout text (timeout seconds) state options says is plain =
+    ap (λ o. record state { settings = record state.settings { options = o } }) is
+set_item Limit text (limit bytes) state options says is plain =
+    ap (λ o. record state { settings = record state.settings { options = o } }) is
+set_item Streams text (streams number) state options says is plain =
+    ap (λ o. record state { settings = record state.settings { options = o } }) is
+set_item Write text (write name) state options says is plain =
+    ap (λ o. filtered (record state { settings = record state.settings { options = o } }) Write text) is
+    ∙ ap (λ t. record state { settings = with_item state.settings (write t) }) says
+set_item (Filter kind) text (filter other said) state options says is plain =
+    ap (λ o. filtered (record state { settings = record state.settings { options = o } }) (Filter kind) text) is
+    ∙ ap (λ k. record state { settings = with_item state.settings (filter k text) }) says.0
+    ∙ ap (λ t. record state { settings = with_item state.settings (filter other t) }) says.1
+set_item Input text (file name) state options says is plain = let never : ⊥ = cc in absurd never
+set_item Input text standard_input state options says is plain = let never : ⊥ = cc in absurd never
+set_item option text item state options says is plain = absurd says
+
+-- no other option says what is read
+pub no_input : (option : Awaited) (value : List ℕ) (item : Item) → IsValue option value item → (option ≡ Input → ⊥)
+    → is_input item ≡ false
+no_input Input value item says never = absurd (never refl)
+no_input Count value (count number) says never = refl
+no_input Only value (only sought) says never = refl
+no_input Time value (time form) says never = refl
+no_input Timeout value (timeout seconds) says never = refl
+no_input Limit value (limit bytes) says never = refl
+no_input Write value (write name) says never = refl
+no_input Streams value (streams number) says never = refl
+no_input (Filter kind) value (filter other said) says never = refl
+no_input option value item says never = absurd says
 
 -- ---- a word of several
 
@@ -355,6 +529,17 @@ stops words i text said state answer within is reads steps before =
     sym before ∙ ap (λ w. outcome w state) (word_first words i text within is)
     ∙ ap (λ t. continue (λ n. outcome (texts (drop (i + 1) words)) n) (step state t)) (sym reads)
     ∙ ap (λ s. continue (λ n. outcome (texts (drop (i + 1) words)) n) s) steps
+
+-- the words behind one that was read come to the same
+pub goes_on : {A : Type 0} (words : List (String A)) (i : ℕ) (text : String A) (said : List ℕ) (state next : State)
+    → i < length words → text ≡ get_or words i text → said ≡ string_bytes text → step state said ≡ more next
+    → outcome (texts (drop i words)) state ≡ outcome (texts words) first_state
+    → outcome (texts (drop (i + 1) words)) next ≡ outcome (texts words) first_state
+goes_on words i text said state next within is reads steps before =
+    sym (ap (λ w. outcome w state) (word_first words i text within is)
+    ∙ ap (λ t. continue (λ n. outcome (texts (drop (i + 1) words)) n) (step state t)) (sym reads)
+    ∙ ap (λ s. continue (λ n. outcome (texts (drop (i + 1) words)) n) s) steps)
+    ∙ before
 
 -- no word follows
 pub runs_out : {A : Type 0} (words : List (String A)) (i : ℕ) (state : State) → length words ≤ i

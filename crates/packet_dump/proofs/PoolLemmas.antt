@@ -1,36 +1,59 @@
 -- The program's pool after the calls that packets make.
-use Rattle.std.proofs.Common.{◌≡◌, ℕ, Bool, true, false, if◌then◌else◌, nat_eq, nat_le, nat_lt, ◌/◌, List, [], ◌∷◌, ◌++◌, Option, Some, None, refl, sym, ap, ◌∙◌, subst}
-use Rattle.std.specs.Prelude.{IsFalse, Result}
+use Rattle.std.proofs.Common.{◌≡◌, ℕ, ◌+◌, ◌<◌, ◌≤◌, arith, Bool, true, false, if◌then◌else◌, cond, ◌&&◌, nat_eq}
+use Rattle.std.proofs.Common.{nat_le, nat_lt, ◌/◌, List, [], ◌∷◌, ◌++◌, length, drop, Option, Some, None, is_some, inl}
+use Rattle.std.proofs.Common.{inr, refl, sym, ap, ◌∙◌, subst}
+use Rattle.std.specs.Prelude.{IsFalse, Ok, Result}
+use Rattle.std.specs.BTreeMap.{BTreeMap, IsLowerBound, IsOrdered, btree_map_len, get, keys}
+use Rattle.std.specs.Cmp.{unsigned_tied}
+use Rattle.std.specs.Map.{keys_of}
+use Rattle.std.specs.Option.{option_map}
+use Rattle.std.specs.Ordering.{eq_by_cmp, nat_cmp}
+use Rattle.std.proofs.lemmas.Bool.{and_from, and_left, cases_Bool, cases_eq, cond-false, cond-true, false≢true, le-leb}
+use Rattle.std.proofs.lemmas.Bool.{le-ltb, lt-leb, lt-ltb}
+use Rattle.std.proofs.lemmas.Cmp.{nat_cmp_total}
+use Rattle.std.proofs.lemmas.Map.Entries.{length-keys_of}
+use Rattle.std.proofs.lemmas.Map.Keys.{le_from_not_gt}
+use Rattle.std.proofs.lemmas.Map.Lookups.{exact_unsigned}
+use Rattle.std.proofs.lemmas.Map.Views.{btree_map_contains_key_iff}
+use Rattle.capture_reader.specs.Captures.{PlainShown}
 use Rattle.etherparse.specs.Types.IpDefragError.{IpDefragError}
 use Rattle.etherparse.specs.Types.IpDefragPayloadVec.{IpDefragPayloadVec}
 use Rattle.etherparse.specs.Types.IpDefragPool.{IpDefragPool}
 use Rattle.etherparse.specs.Types.IpFragId.{IpFragId}
-use Rattle.etherparse.specs.Calls.{gives_frame, drops_streams, table_after, answer_to, table_with}
-use Rattle.etherparse.specs.Pools.{limit_of, HoldsEntry, HoldsTable, TakesFrame, plain_frame_answer, stream_named, wants_memory}
-use Rattle.etherparse.specs.Streams.{PacketFragment}
+use Rattle.etherparse.specs.Calls.{gives_frame, drops_streams, table_after, answer_to, table_with, Kept, kept_by}
+use Rattle.etherparse.specs.Pools.{limit_of, ChangesStream, HoldsEntry, HoldsTable, TakesFragment, TakesFrame}
+use Rattle.etherparse.specs.Pools.{plain_frame_answer, stream_named, wants_memory}
+use Rattle.etherparse.specs.Streams.{PacketFragment, name_of, same_stream}
 use Rattle.etherparse.specs.Frame.{IsFrame}
 use Rattle.etherparse.specs.FrameRefusals.{RefusesFrame}
 use Rattle.etherparse.specs.Layers.{Layers}
 use Rattle.etherparse.specs.Types.SliceError.{SliceError}
-use Rattle.packet_dump.specs.PacketCalls.{NumberCall, PoolHistory, frame_call, with_call, with_sweep, HoldsHistory, table_behind}
-use Rattle.packet_dump.specs.PoolLines.{GivesFrame, GivesWhere, IsCallText, oldest_from, swept_at}
+use Rattle.packet_dump.specs.OpenStreams.{number_at, open_at, with_one, without}
+use Rattle.packet_dump.specs.PacketCalls.{AreOpen, HoldsHistory, IsBounded, NumberCall, PoolHistory}
+use Rattle.packet_dump.specs.PacketCalls.{given_up, is_since, number_of, since_instant, since_packet, table_behind}
+use Rattle.packet_dump.specs.PacketCalls.{with_call, with_frame, with_sweep}
+use Rattle.packet_dump.specs.PoolLines.{GivesFound, GivesFrame, GivesWhere, IsCallText, IsPooled, oldest_from, swept_at}
 use Rattle.packet_dump.specs.Sessions.{HoldsPooling}
 use Rattle.packet_dump.specs.declared.openings.Opening.{Opening}
+use Rattle.packet_dump.specs.declared.pooling.Arrival.{Arrival}
 use Rattle.packet_dump.specs.declared.pooling.Pooling.{Pooling}
 use Rattle.packet_dump.specs.declared.dump_options.DumpOptions.{DumpOptions}
+use Rattle.packet_dump.proofs.OpenLemmas.{among_numbered, dropped_among, entry_number, name_decides, number_held}
+use Rattle.packet_dump.proofs.OpenLemmas.{others_same, relisted, swept_listed, taken_fresh, taken_numbered}
+use Rattle.packet_dump.proofs.OpenLemmas.{taken_others}
 
 -- ---- one call more
 
 -- what one more call makes of what is kept of each stream, as the library's law says it
 abbrev pub OneMoreCall : Type 0
-OneMoreCall = (limit : ℕ) (keep : ℕ → ℕ → Bool) (calls : List NumberCall) (call : NumberCall) (name : IpFragId ℕ)
-    → table_after limit nat_eq keep (calls ++ call ∷ []) name
+OneMoreCall = (limit : ℕ) (keep : Arrival → Arrival → Bool) (calls : List NumberCall) (call : NumberCall)
+    (name : IpFragId ℕ) → table_after limit nat_eq keep (calls ++ call ∷ []) name
     ≡ table_with limit nat_eq keep (table_after limit nat_eq keep calls) call name
 
 -- a pool of this limit that holds what one more call makes of the table is what the history and the call made
-pub HoldsHistory-push : OneMoreCall → (pool : IpDefragPool ℕ ℕ) (history : PoolHistory) (call : NumberCall)
+pub HoldsHistory-push : OneMoreCall → (pool : IpDefragPool Arrival ℕ) (history : PoolHistory) (call : NumberCall)
     → limit_of pool ≡ history.limit
-    → HoldsTable nat_eq pool (table_with history.limit nat_eq nat_le (table_behind history) call)
+    → HoldsTable nat_eq pool (table_with history.limit nat_eq is_since (table_behind history) call)
     → HoldsHistory (with_call history call) pool
 HoldsHistory-push law pool history call limit held = record {
   limit = limit;
@@ -38,13 +61,13 @@ HoldsHistory-push law pool history call limit held = record {
     apart = held.apart;
     each = λ name.
         subst (λ kept. HoldsEntry (limit_of pool) (stream_named nat_eq name pool) kept)
-        (sym (law history.limit nat_le history.calls call name)) (held.each name);
+        (sym (law history.limit is_since history.calls call name)) (held.each name);
   };
 }
 
 -- a frame that lacked no memory: what the pool then holds, and what it answers
-pub HoldsHistory-frame : OneMoreCall → (old new : IpDefragPool ℕ ℕ) (carried : Option PacketFragment)
-    (timestamp channel : ℕ)
+pub HoldsHistory-frame : OneMoreCall → (old new : IpDefragPool Arrival ℕ) (carried : Option PacketFragment)
+    (timestamp : Arrival) (channel : ℕ)
     (result : Result (Option IpDefragPayloadVec) IpDefragError)
     → TakesFrame nat_eq old new carried timestamp channel result → IsFalse (wants_memory result)
     → (history : PoolHistory) → HoldsHistory history old
@@ -56,78 +79,331 @@ HoldsHistory-frame law old new (Some carried) timestamp channel result takes eno
     HoldsHistory-push law new history (gives_frame (Some carried) timestamp channel) (takes.limit ∙ held.limit)
     (rw held.limit at (takes.holds enough (table_behind history) held.table))
 
-pub frame_answered : (old new : IpDefragPool ℕ ℕ) (carried : Option PacketFragment) (timestamp channel : ℕ)
+pub frame_answered : (old new : IpDefragPool Arrival ℕ) (carried : Option PacketFragment) (timestamp : Arrival)
+    (channel : ℕ)
     (result : Result (Option IpDefragPayloadVec) IpDefragError)
     → TakesFrame nat_eq old new carried timestamp channel result → IsFalse (wants_memory result)
     → (history : PoolHistory) → HoldsHistory history old
     → plain_frame_answer result
-    ≡ answer_to {V = ℕ} history.limit (table_behind history) (gives_frame carried timestamp channel)
+    ≡ answer_to {V = Arrival} history.limit (table_behind history) (gives_frame carried timestamp channel)
 frame_answered old new None timestamp channel result takes enough history held = ap plain_frame_answer takes.0
 frame_answered old new (Some carried) timestamp channel result takes enough history held =
     rw held.limit at (takes.answer enough (table_behind history) held.table)
 
 -- ---- drops
 
+-- a drop of what is older than an instant
+pub since_answers : (oldest : ℕ) (at : Arrival) → is_since (since_instant oldest) at ≡ nat_le oldest at.instant
+since_answers oldest at =
+    ap (λ (b : Bool). b && nat_le oldest at.instant) (le-leb 0 at.number (omega arith))
+
+abbrev swept_if : Bool → PoolHistory → ℕ → ℕ → PoolHistory
+swept_if later before second oldest =
+    if later then with_call (record before { swept = second }) (drops_streams (since_instant oldest)) else before
+
 -- a second that is no later than those before drops nothing
 pub sweeps_nothing : (pooling : Pooling) (before : PoolHistory) (second oldest : ℕ) → HoldsPooling before pooling
     → nat_lt pooling.swept second ≡ false → HoldsPooling (with_sweep before second oldest) pooling
 sweeps_nothing pooling before second oldest held not =
     let is : nat_lt before.swept second ≡ false = ap (λ (n : ℕ). nat_lt n second) (sym held.swept) ∙ not in
-    subst (λ (h : PoolHistory). HoldsPooling h pooling)
-    (sym (ap (λ (b : Bool). if b then with_call (record before { swept = second }) (drops_streams oldest) else before) is)) held
+    subst (λ (h : PoolHistory). HoldsPooling h pooling) (sym (ap (λ b. swept_if b before second oldest) is)) held
 
 -- a later one drops what is too old
 pub sweeps : OneMoreCall → (old new : Pooling) (before : PoolHistory) (second oldest : ℕ) → HoldsPooling before old
     → nat_lt old.swept second ≡ true → new.swept ≡ second → limit_of new.pool ≡ limit_of old.pool
     → HoldsTable nat_eq new.pool
-    (table_with before.limit nat_eq nat_le (table_behind before) (drops_streams oldest))
+    (table_with before.limit nat_eq is_since (table_behind before) (drops_streams (since_instant oldest)))
+    → ((number : ℕ) → get nat_cmp new.names number ≡ open_at new.pool (get nat_cmp old.names number))
     → HoldsPooling (with_sweep before second oldest) new
-sweeps law old new before second oldest held later swept limit table =
+sweeps law old new before second oldest held later swept limit table names =
     let is : nat_lt before.swept second ≡ true = ap (λ (n : ℕ). nat_lt n second) (sym held.swept) ∙ later in
-    subst (λ (h : PoolHistory). HoldsPooling h new)
-    (sym (ap (λ (b : Bool). if b then with_call (record before { swept = second }) (drops_streams oldest) else before) is)) (record {
+    let among =
+    dropped_among old.pool new.pool (table_behind before) (is_since (since_instant oldest)) held.held.table table in
+    subst (λ (h : PoolHistory). HoldsPooling h new) (sym (ap (λ b. swept_if b before second oldest) is)) (record {
       swept = swept;
-      held = HoldsHistory-push law new.pool (record before { swept = second }) (drops_streams oldest)
+      held = HoldsHistory-push law new.pool (record before { swept = second }) (drops_streams (since_instant oldest))
           (limit ∙ held.held.limit) table;
+      listed = swept_listed old.names new.names old.pool new.pool among held.listed names;
+      numbered = λ name number at. held.numbered name number (among_numbered old.pool new.pool among name number at);
     })
+
+-- ---- a fragment
+
+-- What becomes of a pool that takes a fragment of the stream of this name, which is then listed as it stands.
+pub frame_pooled : OneMoreCall → (old new : Pooling) (between : BTreeMap ℕ (IpFragId ℕ))
+    (carried : Option PacketFragment) (at : Arrival) (result : Result (Option IpDefragPayloadVec) IpDefragError)
+    (name : IpFragId ℕ) (stood stands : Option ℕ) → TakesFrame nat_eq old.pool new.pool carried at 0 result
+    → IsFalse (wants_memory result) → option_map (λ c. name_of c 0) carried ≡ Some name → (before : PoolHistory)
+    → HoldsPooling before old → before.number < at.number → new.swept ≡ old.swept
+    → stood ≡ number_at name old.pool → stands ≡ number_at name new.pool
+    → ((number : ℕ) → get nat_cmp between number ≡ without (get nat_cmp old.names) stood number)
+    → ((number : ℕ) → get nat_cmp new.names number ≡ with_one (get nat_cmp between) name stands number)
+    → HoldsPooling (record before { number = at.number; calls = before.calls ++ gives_frame carried at 0 ∷ [] }) new
+frame_pooled law old new between None at result name stood stands takes enough named before held later swept stood_is
+    stands_is taken put = let never : ⊥ = cc in absurd never
+frame_pooled law old new between (Some carried) at result name stood stands takes enough named before held later swept
+    stood_is stands_is taken put =
+    let same : name_of carried 0 ≡ name = cc in
+    let own : TakesFragment nat_eq old.pool new.pool name carried.fragment at result =
+    subst (λ n. TakesFragment nat_eq old.pool new.pool n carried.fragment at result) same takes in
+    let differ = held.held.table.apart in
+    let after =
+    HoldsHistory-frame law old.pool new.pool (Some carried) at 0 result takes enough before held.held in
+    record {
+      swept = swept ∙ held.swept;
+      held = record { limit = after.limit; table = after.table };
+      listed = relisted old.names between new.names old.pool new.pool name stood stands held.listed (sym stood_is)
+          (sym stands_is) taken put (taken_others old.pool new.pool name carried.fragment at result own)
+          (λ number is.
+          taken_fresh old.pool new.pool name carried.fragment at result own differ before.number later held.numbered
+          old.names held.listed number (sym stands_is ∙ is));
+      numbered = taken_numbered old.pool new.pool name carried.fragment at result own differ before.number later
+          held.numbered;
+    }
+
+pub no_fragment : (carried : Option PacketFragment) → option_map (λ c. name_of {C = ℕ} c 0) carried ≡ None
+    → carried ≡ None
+no_fragment None is = refl
+no_fragment (Some carried) is = let never : ⊥ = cc in absurd never
+
+-- a frame without a fragment changes nothing
+pub frame_passed : OneMoreCall → (pooling : Pooling) (carried : Option PacketFragment) (at : Arrival)
+    → TakesFrame nat_eq pooling.pool pooling.pool carried at 0 (Ok None) → (before : PoolHistory)
+    → HoldsPooling before pooling → before.number < at.number
+    → HoldsPooling (record before { number = at.number; calls = before.calls ++ gives_frame carried at 0 ∷ [] }) pooling
+frame_passed law pooling carried at takes before held later =
+    let after =
+    HoldsHistory-frame law pooling.pool pooling.pool carried at 0 (Ok None) takes refl before held.held in
+    record {
+      swept = held.swept;
+      held = record { limit = after.limit; table = after.table };
+      listed = held.listed;
+      numbered = λ name number is. let most = held.numbered name number is in omega arith;
+    }
+
+-- ---- the oldest stream
+
+-- so few streams are left
+pub none_given_up : (most : ℕ) (before : PoolHistory) (numbers : List ℕ) → length numbers ≤ most
+    → given_up most before numbers ≡ before
+none_given_up most before [] few = refl
+none_given_up most before (oldest ∷ later) few =
+    cond-true (nat_lt (length later) most) before (with_call before (drops_streams (since_packet (oldest + 1))))
+    (lt-ltb (length later) most (omega arith))
+
+-- of more the first is given up
+first_given_up : (most : ℕ) (before : PoolHistory) (oldest : ℕ) (later : List ℕ) → most < length (oldest ∷ later)
+    → given_up most before (oldest ∷ later) ≡ with_call before (drops_streams (since_packet (oldest + 1)))
+first_given_up most before oldest later many =
+    cond-false (nat_lt (length later) most) before (with_call before (drops_streams (since_packet (oldest + 1))))
+    (le-ltb (length later) most (omega arith))
+
+some_value : {X : Type 0} (o : Option X) → is_some o ≡ true → (x : X) × (o ≡ Some x)
+some_value None there = absurd (false≢true there)
+some_value (Some x) there = (x, refl)
+
+-- the numbers of the list are those of the open streams
+pub are_open : (pooling : Pooling) (before : PoolHistory) → HoldsPooling before pooling
+    → IsOrdered nat_cmp pooling.names → AreOpen (table_behind before) (keys pooling.names)
+are_open pooling before held ordered = record {
+  ascending = ordered;
+  each = λ number.
+      let has = btree_map_contains_key_iff nat_cmp_total exact_unsigned pooling.names number in (
+        λ contained.
+            let found = some_value (get nat_cmp pooling.names number) (has.1 contained) in (
+              found.0,
+              sym (number_held pooling.pool (table_behind before) held.held.table found.0)
+                  ∙ (held.listed number found.0).0 found.1,
+            ),
+        λ named.
+            has.0 (ap is_some ((held.listed number named.0).1
+            (number_held pooling.pool (table_behind before) held.held.table named.0 ∙ named.1))),
+      );
+}
+
+-- a drop of what came with no later packet than this one
+dropped : (oldest : ℕ) (kept : Option (Kept Arrival)) → number_of kept ≡ Some oldest
+    → kept_by (is_since (since_packet (oldest + 1))) kept ≡ None
+dropped oldest None is = refl
+dropped oldest (Some kept) is =
+    let number : kept.timestamp.number ≡ oldest = cc in
+    cond-false (is_since (since_packet (oldest + 1)) kept.timestamp) (Some kept) None
+    (and_left (nat_le (oldest + 1) kept.timestamp.number) (nat_le 0 kept.timestamp.instant)
+    (lt-leb (oldest + 1) kept.timestamp.number (omega arith)))
+
+-- keeps what came later
+stays : (oldest : ℕ) (kept : Option (Kept Arrival)) → ((number : ℕ) → number_of kept ≡ Some number → oldest < number)
+    → kept_by (is_since (since_packet (oldest + 1))) kept ≡ kept
+stays oldest None later = refl
+stays oldest (Some kept) later =
+    let above = later kept.timestamp.number refl in
+    cond-true (is_since (since_packet (oldest + 1)) kept.timestamp) (Some kept) None
+    (and_from (nat_le (oldest + 1) kept.timestamp.number) (nat_le 0 kept.timestamp.instant)
+    (le-leb (oldest + 1) kept.timestamp.number (omega arith)) (le-leb 0 kept.timestamp.instant (omega arith)))
+
+module _ (old : Pooling) (before : PoolHistory) (held : HoldsPooling before old) (oldest : ℕ) (name : IpFragId ℕ)
+    (here : get nat_cmp old.names oldest ≡ Some name) (least : IsLowerBound nat_cmp old.names oldest) where
+  -- all but the first of the list came later
+  later_than : (other : IpFragId ℕ) → same_stream nat_eq name other ≡ false → (number : ℕ)
+      → number_of (table_behind before other) ≡ Some number → oldest < number
+  later_than other apart number is =
+      let there = (held.listed number other).1
+      (number_held old.pool (table_behind before) held.held.table other ∙ is) in
+      let above = le_from_not_gt oldest number (least number (ap is_some there)) in
+      elim (cases_eq oldest number) [
+        | inl same ↦
+            let both : Some name ≡ Some other = sym here ∙ ap (get nat_cmp old.names) same ∙ there in
+            let alike : name ≡ other = cc in
+            absurd (false≢true (sym apart ∙ (name_decides name other).1 alike))
+        | inr differ ↦ omega arith
+      ]
+
+  -- so that without it is what such a drop leaves
+  left : (other : IpFragId ℕ)
+      → (if same_stream nat_eq name other then None else table_behind before other)
+      ≡ kept_by (is_since (since_packet (oldest + 1))) (table_behind before other)
+  left other =
+      let kept = table_behind before other in
+      elim (cases_Bool (same_stream nat_eq name other)) [
+        | inl same ↦
+            let own : number_of kept ≡ Some oldest =
+            sym (number_held old.pool (table_behind before) held.held.table other)
+            ∙ ap (λ n. number_at n old.pool) (sym ((name_decides name other).0 same))
+            ∙ (held.listed oldest name).0 here in
+            cond-true (same_stream nat_eq name other) None kept same ∙ sym (dropped oldest kept own)
+        | inr apart ↦
+            cond-false (same_stream nat_eq name other) None kept apart
+            ∙ sym (stays oldest kept (λ number is. later_than other apart number is))
+      ]
+
+  -- it is given up
+  pub gives_up : OneMoreCall → (new : Pooling) (most : ℕ) → IsOrdered nat_cmp old.names
+      → most < btree_map_len old.names → old.names.entries ≡ (oldest, name) ∷ new.names.entries
+      → ((number : ℕ) → get nat_cmp new.names number
+      ≡ cond (eq_by_cmp nat_cmp oldest number) None (get nat_cmp old.names number)) → new.swept ≡ old.swept
+      → HoldsTable nat_eq new.pool
+      (λ other. if same_stream nat_eq name other then None else table_behind before other)
+      → ChangesStream nat_eq old.pool new.pool name None
+      → (after : PoolHistory) × IsBounded most before after × HoldsPooling after new
+  gives_up law new most ordered many first taken swept table ends =
+      let call = drops_streams (since_packet (oldest + 1)) in
+      let others = others_same old.pool new.pool name ends.others in
+      let gone : number_at name new.pool ≡ None = ap entry_number ends.here in (
+        with_call before call,
+        (
+          keys old.names,
+          are_open old before held ordered,
+          sym (ap (λ es. given_up most before (keys_of es)) first
+              ∙ first_given_up most before oldest (keys new.names)
+              (omega (arith, many, ap length first, length-keys_of new.names.entries))),
+        ),
+        record {
+          swept = swept ∙ held.swept;
+          held = HoldsHistory-push law new.pool before call (ends.limit ∙ held.held.limit) (record {
+            apart = table.apart;
+            each = λ other.
+                subst (λ kept. HoldsEntry (limit_of new.pool) (stream_named nat_eq other new.pool) kept) (left other)
+                (table.each other);
+          });
+          listed = relisted old.names new.names new.names old.pool new.pool name (Some oldest) None held.listed
+              ((held.listed oldest name).0 here) gone
+              (λ number. taken number
+              ∙ ap (λ b. cond b None (get nat_cmp old.names number)) (unsigned_tied oldest number)) (λ number. refl)
+              others (λ number is. let never : ⊥ = cc in absurd never);
+          numbered = λ other number is. elim (others other) [
+            | inl alike ↦
+                let clash : None ≡ Some number = sym gone ∙ ap (λ n. number_at n new.pool) (sym alike) ∙ is in
+                let never : ⊥ = cc in
+                absurd never
+            | inr apart ↦ held.numbered other number (sym apart.1 ∙ is)
+          ];
+        },
+      )
+
+-- ---- numbers of packets
+
+number_if : (few : Bool) (before : PoolHistory) (call : NumberCall)
+    → (if few then before else with_call before call).number ≡ before.number
+number_if true before call = refl
+number_if false before call = refl
+
+given_up_number : (most : ℕ) (before : PoolHistory) (numbers : List ℕ)
+    → (given_up most before numbers).number ≡ before.number
+given_up_number most before [] = refl
+given_up_number most before (oldest ∷ later) =
+    number_if (nat_lt (length later) most) before (drops_streams (since_packet (oldest + 1)))
+
+pub swept_number : (later : Bool) (before : PoolHistory) (second oldest : ℕ)
+    → (swept_if later before second oldest).number ≡ before.number
+swept_number true before second oldest = refl
+swept_number false before second oldest = refl
+
+found_number : (options : DumpOptions) (start : List ℕ) (before : PoolHistory) (at : Arrival) (frame : Option Layers)
+    (text : List ℕ) (after : PoolHistory) → GivesFound options start before at frame text after
+    → before.number < at.number → after.number ≤ at.number
+found_number options start before at (Some layers) text after gives later =
+    let bounded = gives.1 in
+    let number : after.number ≡ at.number =
+    ap (λ h. h.number) bounded.2
+    ∙ given_up_number options.streams (with_frame (swept_at options before at.instant) layers at) bounded.0 in
+    omega arith
+found_number options start before at None text after gives later =
+    let number : after.number ≡ before.number = ap (λ h. h.number) gives.1 in omega arith
+
+where_number : (wanted : Bool) (options : DumpOptions) (start : List ℕ) (before : PoolHistory) (at : Arrival)
+    (opening : Opening) (bytes text : List ℕ) (after : PoolHistory)
+    → GivesWhere wanted options start before at opening bytes text after → before.number < at.number
+    → after.number ≤ at.number
+where_number false options start before at opening bytes text after gives later =
+    let number : after.number ≡ before.number = ap (λ h. h.number) gives.1 in omega arith
+where_number true options start before at opening bytes text after gives later =
+    found_number options start before at gives.0 text after gives.2 later
+
+-- no frame came with a later packet
+pub pooled_number : (options : DumpOptions) (start : List ℕ) (before : PoolHistory) (at : Arrival) (shown : PlainShown)
+    (text : List ℕ) (after : PoolHistory) → IsPooled options start before at shown text after
+    → before.number < at.number → after.number ≤ at.number
+pooled_number options start before at shown text after pooled later = elim pooled [
+  | inl read ↦
+      where_number options.reassemble options start before at read.0 (drop read.0.skipped shown.bytes) text after read.2
+      later
+  | inr other ↦ let number : after.number ≡ before.number = ap (λ h. h.number) other.1.1 in omega arith
+]
 
 -- ---- packets
 
 -- a frame was given behind a drop
-pub gives : (options : DumpOptions) (start : List ℕ) (before : PoolHistory) (this : ℕ) (layers : Layers) (oldest : ℕ)
-    (text : List ℕ) (new : Pooling) → oldest ≡ oldest_from options this
-    → IsCallText options start (with_sweep before (this / 1000000000) oldest) layers this text
-    → HoldsPooling (with_call (with_sweep before (this / 1000000000) oldest) (frame_call layers this)) new
-    → (after : PoolHistory) × GivesFrame options start before this layers text after × HoldsPooling after new
-gives options start before this layers oldest text new same told held = (
-  with_call (swept_at options before this) (frame_call layers this),
-  (
-    subst (λ (o : ℕ). IsCallText options start (with_sweep before (this / 1000000000) o) layers this text) same told,
-    refl,
-  ),
+pub gives : (options : DumpOptions) (start : List ℕ) (before : PoolHistory) (at : Arrival) (layers : Layers)
+    (oldest : ℕ) (text : List ℕ) (after : PoolHistory) → oldest ≡ oldest_from options at.instant
+    → IsCallText options start (with_sweep before (at.instant / 1000000000) oldest) layers at text
+    → IsBounded options.streams (with_frame (with_sweep before (at.instant / 1000000000) oldest) layers at) after
+    → GivesFrame options start before at layers text after
+gives options start before at layers oldest text after same told bounded = (
+  subst (λ (o : ℕ). IsCallText options start (with_sweep before (at.instant / 1000000000) o) layers at text) same told,
   subst
-      (λ (o : ℕ). HoldsPooling (with_call (with_sweep before (this / 1000000000) o) (frame_call layers this)) new) same
-      held,
+      (λ (o : ℕ).
+      IsBounded options.streams (with_frame (with_sweep before (at.instant / 1000000000) o) layers at) after) same
+      bounded,
 )
 
 -- where payloads are put together, a frame is given
-pub given : (wanted : Bool) (options : DumpOptions) (start : List ℕ) (before : PoolHistory) (this : ℕ) (opening : Opening)
-    (bytes : List ℕ) (layers : Layers) (text : List ℕ) (after : PoolHistory) → wanted ≡ true
-    → IsFrame opening.entry bytes layers → GivesFrame options start before this layers text after
-    → GivesWhere wanted options start before this opening bytes text after
-given wanted options start before this opening bytes layers text after is frame told =
-    subst (λ w. GivesWhere w options start before this opening bytes text after) (sym is) (Some layers, frame, told)
+pub given : (wanted : Bool) (options : DumpOptions) (start : List ℕ) (before : PoolHistory) (at : Arrival)
+    (opening : Opening) (bytes : List ℕ) (layers : Layers) (text : List ℕ) (after : PoolHistory) → wanted ≡ true
+    → IsFrame opening.entry bytes layers → GivesFrame options start before at layers text after
+    → GivesWhere wanted options start before at opening bytes text after
+given wanted options start before at opening bytes layers text after is frame told =
+    subst (λ w. GivesWhere w options start before at opening bytes text after) (sym is) (Some layers, frame, told)
 
 -- where they are not, nothing is
-pub not_given : (wanted : Bool) (options : DumpOptions) (start : List ℕ) (before : PoolHistory) (this : ℕ)
+pub not_given : (wanted : Bool) (options : DumpOptions) (start : List ℕ) (before : PoolHistory) (at : Arrival)
     (opening : Opening) (bytes : List ℕ) → wanted ≡ false
-    → GivesWhere wanted options start before this opening bytes [] before
-not_given wanted options start before this opening bytes is =
-    subst (λ w. GivesWhere w options start before this opening bytes [] before) (sym is) (refl, refl)
+    → GivesWhere wanted options start before at opening bytes [] before
+not_given wanted options start before at opening bytes is =
+    subst (λ w. GivesWhere w options start before at opening bytes [] before) (sym is) (refl, refl)
 
 -- what is no frame is not given
-pub no_frame : (wanted : Bool) (options : DumpOptions) (start : List ℕ) (before : PoolHistory) (this : ℕ)
+pub no_frame : (wanted : Bool) (options : DumpOptions) (start : List ℕ) (before : PoolHistory) (at : Arrival)
     (opening : Opening) (bytes : List ℕ) (error : SliceError) → RefusesFrame opening.entry bytes error
-    → GivesWhere wanted options start before this opening bytes [] before
-no_frame true options start before this opening bytes error refuses = (None, (error, refuses), (refl, refl))
-no_frame false options start before this opening bytes error refuses = (refl, refl)
+    → GivesWhere wanted options start before at opening bytes [] before
+no_frame true options start before at opening bytes error refuses = (None, (error, refuses), (refl, refl))
+no_frame false options start before at opening bytes error refuses = (refl, refl)

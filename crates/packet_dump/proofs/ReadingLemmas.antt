@@ -1,12 +1,13 @@
 -- What packets hold that are read laxly.
-use Rattle.std.proofs.Common.{◌≡◌, ◌||◌, inr, ℕ, nat_lt, length, Bool, true, false, List, [], ◌∷◌, map, Option, Some, None, Result, Ok, Err, refl, sym, ap, subst, ◌∙◌, arith}
+use Rattle.std.proofs.Common.{◌≡◌, ◌||◌, ◌&&◌, inr, ℕ, nat_lt, length, Bool, true, false, List, [], ◌∷◌, map, Option, Some, None, Result, Ok, Err, refl, sym, ap, subst, ◌∙◌, arith}
 use Rattle.std.proofs.lemmas.Bool.{lt-ltb}
-use Rattle.std.specs.Prelude.{IsOkAnd}
+use Rattle.std.specs.Prelude.{IfOk, IsOkAnd}
 use Rattle.std.specs.Option.{option_and_then, option_map}
 use Rattle.etherparse.specs.EtherPayloads.{EtherPayload}
 use Rattle.etherparse.specs.Frame.{IsFrame}
 use Rattle.etherparse.specs.Lax.{IsLax}
 use Rattle.etherparse.specs.LaxLayers.{LaxLayers}
+use Rattle.etherparse.specs.LaxPackets.{ShowsLax, lax_layers_of}
 use Rattle.etherparse.specs.LaxPayloads.{LaxEtherPayload, last_behind, lax_ether_payload_behind, lax_ether_payload_in, lax_ether_payload_of}
 use Rattle.etherparse.specs.LaxPayloads.{source_behind, typed_payload, whole_payload}
 use Rattle.etherparse.specs.LaxViews.{extension_incomplete, lax_extension_of, lax_extensions_of}
@@ -20,11 +21,16 @@ use Rattle.etherparse.specs.Types.Entry.{Entry}
 use Rattle.etherparse.specs.Types.EtherType.{EtherType}
 use Rattle.etherparse.specs.Types.LaxEtherPayloadSlice.{LaxEtherPayloadSlice}
 use Rattle.etherparse.specs.Types.LaxLinkExtSlice.{LaxLinkExtSlice}
+use Rattle.etherparse.specs.Types.LaxSlicedPacket.{LaxSlicedPacket}
+use Rattle.etherparse.specs.Types.Layer.{Layer}
 use Rattle.etherparse.specs.Types.LenSource.{LenSource}
 use Rattle.etherparse.specs.Types.LenSource.TheVariants as source
 use Rattle.etherparse.specs.Types.SliceError.{SliceError}
+use Rattle.packet_dump.specs.Details.{AreTold, IsDetailed}
 use Rattle.packet_dump.specs.PacketContents.{HoldsBehind, HoldsStrictly, content_of, content_with, has_extensions}
-use Rattle.packet_dump.specs.PacketContents.{has_layer}
+use Rattle.packet_dump.specs.PacketContents.{has_layer, packet}
+use Rattle.packet_dump.specs.PacketLines.{tells_details}
+use Rattle.packet_dump.specs.declared.dump_options.DumpOptions.{DumpOptions}
 use Rattle.packet_dump.specs.declared.openings.Opening.{Opening}
 
 -- ---- contents
@@ -66,6 +72,42 @@ frame_read entry bytes layers read outcome law frame only =
       same = ap layers_in is ∙ found.2;
       whole = subst (λ (r : LaxLayers). IsWhole r) (sym is) found.3;
     }
+
+-- what holds where slicing succeeded, where it must
+pub where_sliced : (outcome : Result (Unit {0}) SliceError) (P Q : Type 0) → IsOkAnd outcome (λ _. Q)
+    → IfOk outcome (λ _. P) → P
+where_sliced (Ok done) P Q must is = is
+where_sliced (Err error) P Q must is = absurd must
+
+-- ---- details
+
+-- the details of a packet are those of what its bytes hold
+packet_detailed : (told : Bool) (bytes : List ℕ) (slices : LaxSlicedPacket) (text : List ℕ) → ShowsLax bytes slices
+    → AreTold told slices text → IsDetailed told bytes (packet (lax_layers_of slices)) text
+packet_detailed true bytes slices text shows are = (slices, shows, refl, are)
+packet_detailed false bytes slices text shows are = are
+
+pub detailed : (options : DumpOptions) (bytes : List ℕ) (slices : LaxSlicedPacket) (text : List ℕ)
+    (stop : Option (SliceError × Layer)) (stands : Bool) → ShowsLax bytes slices
+    → AreTold (tells_details options (content_of stop stands (lax_layers_of slices))) slices text
+    → IsDetailed (tells_details options (content_of stop stands (lax_layers_of slices))) bytes
+    (content_of stop stands (lax_layers_of slices)) text
+detailed options bytes slices text None stands shows are =
+    packet_detailed (tells_details options (packet (lax_layers_of slices))) bytes slices text shows are
+detailed options bytes slices text (Some stop) true shows are =
+    packet_detailed (tells_details options (packet (lax_layers_of slices))) bytes slices text shows are
+detailed options bytes slices text (Some stop) false shows are = are
+
+-- of a packet that is shown details are told where they are asked for
+pub told_shown : (verbose shows : Bool) (slices : LaxSlicedPacket) (text : List ℕ) → shows ≡ true
+    → AreTold verbose slices text → AreTold (verbose && shows) slices text
+told_shown true shows slices text is are = subst (λ b. AreTold b slices text) (sym is) are
+told_shown false shows slices text is are = are
+
+-- and of others none are
+pub not_told : (verbose shows : Bool) (slices : LaxSlicedPacket) → shows ≡ false → AreTold (verbose && shows) slices []
+not_told true shows slices is = subst (λ b. AreTold b slices []) (sym is) refl
+not_told false shows slices is = refl
 
 -- neither of two holds
 pub neither : (a b : Bool) → (a || b) ≡ false → (a ≡ false) × (b ≡ false)

@@ -1,5 +1,6 @@
 -- The lines of the items of a capture, one behind the other.
-use Rattle.std.proofs.Common.{◌≡◌, ◌≢◌, ℕ, ◌+◌, ◌<◌, ◌≤◌, arith, List, [], ◌∷◌, ◌++◌, Option, Some, None, refl, sym, ap, subst, ◌∙◌, append_assoc}
+use Rattle.std.proofs.Common.{◌≡◌, ◌≢◌, false, ℕ, ◌+◌, ◌<◌, ◌≤◌, arith, List, [], ◌∷◌, ◌++◌, Option, Some, None, refl}
+use Rattle.std.proofs.Common.{sym, ap, subst, ◌∙◌, append_assoc}
 use Rattle.std.proofs.lemmas.List.{append-nil}
 use Rattle.capture_reader.specs.Captures.{Item, PlainShown, Stage, at_start, RefusesCapture, shown_in}
 use Rattle.capture_reader.specs.Captures.{stage_after, stage_behind}
@@ -10,12 +11,18 @@ use Rattle.capture_reader.specs.declared.refusal.CaptureError.{CaptureError}
 use Rattle.packet_dump.specs.Dumps.{AreAllTexts, AreFewer, AreTexts, IsItemText, IsLine, IsShownText, Progress, none_read}
 use Rattle.packet_dump.specs.Dumps.{packets_in, progress_after, progress_behind, progress_with}
 use Rattle.packet_dump.specs.PacketCalls.{PoolHistory, new_pool}
-use Rattle.packet_dump.specs.Sessions.{Counts, Drained, Drains, HoldsPooling, PushesLine, Stands, StandsSo}
+use Rattle.packet_dump.specs.PacketLines.{start_text}
+use Rattle.packet_dump.specs.Saves.{GoesOn, Saves, Selects}
+use Rattle.packet_dump.specs.Sessions.{AwaitsPacket, Counts, Drained, Drains, HoldsPooling, PushesLine, Stands}
+use Rattle.packet_dump.specs.Sessions.{StandsSo}
 use Rattle.packet_dump.specs.Shown.{first_after, instant_in, latest_after}
+use Rattle.packet_dump.specs.declared.saving.Saving.{Saving}
 use Rattle.packet_dump.specs.declared.session.Session.{Session}
 use Rattle.packet_dump.specs.declared.session.Standing.{Standing}
 use Rattle.packet_dump.specs.declared.session.Standing.TheVariants.{Enough}
 use Rattle.packet_dump.specs.declared.dump_options.DumpOptions.{DumpOptions}
+use Rattle.packet_dump.proofs.SavingLemmas.{saves_stays}
+use Rattle.packet_dump.proofs.PoolLemmas.{pooled_number}
 
 -- ---- an item more
 
@@ -97,6 +104,7 @@ takes old new piece same number first latest pooling take options read items his
   first = first ∙ stands.first;
   latest = latest ∙ stands.latest;
   pooled = subst (HoldsPooling history) (sym pooling) stands.pooled;
+  given = subst (λ n. history.number ≤ n) (sym number) stands.given;
 }
 
 -- a number that is not yet the greatest may grow by one
@@ -104,13 +112,24 @@ one_more : (number most wanted next : ℕ) → number ≢ most → number ≤ wa
     → next ≤ wanted
 one_more number most wanted next fewer within same more = omega (arith, fewer, within, same, more)
 
+-- what is saved goes on over an item more
+goes_on : (options : DumpOptions) (start saving next : Saving) (items more : List Item) (item : Item)
+    → GoesOn options start saving items (items ++ more)
+    → GoesOn options saving next (items ++ more) ((items ++ more) ++ item ∷ [])
+    → GoesOn options start next items (items ++ (more ++ item ∷ []))
+goes_on options start saving next items more item first second wanted saved saves =
+    subst (λ (i : List Item). Saves options wanted false next.state i (saved ++ next.bytes.items))
+    (append_assoc items more (item ∷ [])) (second wanted saved (first wanted saved saves))
+
 -- an item that shows this was read, and its text put together
 drains_shown : (options : DumpOptions) (old new : Session) (read : List ℕ) (items : List Item) (text : List ℕ)
-    → (drained : Drained options old read items text) → (item : Item) (shown : PlainShown)
+    (start saving next : Saving) → (drained : Drained options old read items text start saving)
+    → (item : Item) (shown : PlainShown)
     → shown_in (stage_behind at_start (items ++ drained.more)) item ≡ Some shown
     → ReadsMore new.capture read (items ++ drained.more) item → PushesLine old new drained.after shown
-    → old.number ≢ old.options.most → Drained options new read items text
-drains_shown options old new read items text drained item shown shows reads line fewer =
+    → GoesOn options saving next (items ++ drained.more) ((items ++ drained.more) ++ item ∷ [])
+    → old.number ≢ old.options.most → Drained options new read items text start next
+drains_shown options old new read items text start saving next drained item shown shows reads line saves fewer =
     let before = items ++ drained.more in
     let known = progress_behind none_read before in
     let stands = drained.stands in
@@ -153,23 +172,29 @@ drains_shown options old new read items text drained item shown shows reads line
         first = line.first ∙ first ∙ sym (ap (λ p. p.first) behind);
         latest = line.latest ∙ latest ∙ sym (ap (λ p. p.latest) behind);
         pooled = line.pooled;
+        given = line.given;
       });
       texts = subst (λ s. AreAllTexts options s (text ++ new.output.items) line.after) all
           (subst (λ (t : List ℕ). AreAllTexts options (before ++ item ∷ []) t line.after) output texts);
+      saves = goes_on options start saving next items drained.more item drained.saves saves;
     }
 
 -- a packet was read, and its text put together
 pub drains_packet : (options : DumpOptions) (old new : Session) (moved : CaptureReader) (read : List ℕ) (items : List Item)
-    (text : List ℕ) → (drained : Drained options old read items text)
+    (text : List ℕ) (start saving next : Saving) → (drained : Drained options old read items text start saving)
     → (found : (item : Item) × ReadsMore moved read (items ++ drained.more) item
     × ShowsItem moved (stage_behind at_start (items ++ drained.more)) item)
-    → ((before : PoolHistory) → HoldsPooling before old.pooling
+    → ((before : PoolHistory) → AwaitsPacket before (old.number + 1) old.pooling
     → PushesLine (record old { capture = moved }) new before (reader_shown moved))
-    → new.capture ≡ moved → old.number ≢ old.options.most → Drained options new read items text
-drains_packet options old new moved read items text drained found push capture fewer =
+    → ((items : List Item) (item : Item) → old.number ≡ packets_in items
+    → shown_in (stage_behind at_start items) item ≡ Some (reader_shown moved)
+    → GoesOn old.options saving next items (items ++ item ∷ []))
+    → new.capture ≡ moved → old.number ≢ old.options.most → Drained options new read items text start next
+drains_packet options old new moved read items text start saving next drained found push save capture fewer =
     let before = items ++ drained.more in
-    let line = push drained.after drained.stands.pooled in
-    drains_shown options old new read items text drained found.0 (reader_shown moved) found.2.shown
+    let given : drained.after.number ≤ old.number = drained.stands.given in
+    let line = push drained.after (record { holds = drained.stands.pooled; later = omega arith }) in
+    drains_shown options old new read items text start saving next drained found.0 (reader_shown moved) found.2.shown
     (subst (λ r. ReadsMore r read before found.0) (sym capture) found.1)
     (record {
       options = line.options;
@@ -177,20 +202,24 @@ drains_packet options old new moved read items text drained found push capture f
       after = line.after;
       is = line.is;
       pooled = line.pooled;
+      given = line.given;
       output = line.output;
       number = line.number;
       first = line.first;
       latest = line.latest;
-    }) fewer
+    })
+    (subst (λ o. GoesOn o saving next before (before ++ found.0 ∷ [])) drained.stands.options_is
+    (save before found.0 drained.stands.number found.2.shown)) fewer
 
 -- something else was read, and the session knows what it knew
 pub drains_other : (options : DumpOptions) (old new : Session) (read : List ℕ) (items : List Item) (text : List ℕ)
-    → (drained : Drained options old read items text) → (item : Item)
+    (start saving : Saving) → (drained : Drained options old read items text start saving) → (item : Item)
     → IsOther (stage_behind at_start (items ++ drained.more)) item
     → ReadsMore new.capture read (items ++ drained.more) item → new.options ≡ old.options → new.number ≡ old.number
     → new.first ≡ old.first → new.latest ≡ old.latest → new.pooling ≡ old.pooling
-    → new.output.items ≡ old.output.items → Drained options new read items text
-drains_other options old new read items text drained item shows reads same number first latest pooling output =
+    → new.output.items ≡ old.output.items → Drained options new read items text start saving
+drains_other options old new read items text start saving drained item shows reads same number first latest pooling
+    output =
     let before = items ++ drained.more in
     let stands = drained.stands in
     let behind = behind_item before item None shows in
@@ -210,37 +239,46 @@ drains_other options old new read items text drained item shows reads same numbe
         first = first ∙ stands.first ∙ sym (ap (λ p. p.first) behind);
         latest = latest ∙ stands.latest ∙ sym (ap (λ p. p.latest) behind);
         pooled = subst (HoldsPooling drained.after) (sym pooling) stands.pooled;
+        given = subst (λ n. drained.after.number ≤ n) (sym number) stands.given;
       });
       texts = subst (λ s. AreAllTexts options s (text ++ new.output.items) drained.after) all
           (subst (λ (t : List ℕ). AreAllTexts options (before ++ item ∷ []) (text ++ t) drained.after) (sym output)
           (subst (λ (t : List ℕ). AreAllTexts options (before ++ item ∷ []) t drained.after)
           (append-nil (text ++ old.output.items)) texts));
+      saves = goes_on options start saving saving items drained.more item drained.saves
+          (λ wanted saved saves.
+          saves_stays options wanted false saving.state before item (saved ++ saving.bytes.items)
+          (λ link is_open. subst (λ s. Selects options s []) (sym shows) refl) saves);
     }
 
 -- nothing more was read, and the capture stands so
 pub drains_end : (options : DumpOptions) (old new : Session) (standing : Standing) (read : List ℕ) (items : List Item)
-    (text : List ℕ) → (drained : Drained options old read items text) → Reads new.capture read (items ++ drained.more)
+    (text : List ℕ) (start saving : Saving) → (drained : Drained options old read items text start saving) → Reads
+    new.capture read (items ++ drained.more)
     → new.options ≡ old.options → new.number ≡ old.number → new.first ≡ old.first → new.latest ≡ old.latest
     → new.pooling ≡ old.pooling → new.output.items ≡ old.output.items
-    → StandsSo options standing read (items ++ drained.more) → Drains options new standing read items text
-drains_end options old new standing read items text drained reads same number first latest pooling output so = (
-  record {
-    more = drained.more;
-    after = drained.after;
-    stands = record {
-      options_is = same ∙ drained.stands.options_is;
-      reads = reads;
-      within = subst (λ n. n ≤ options.most) (sym number) drained.stands.within;
-      number = number ∙ drained.stands.number;
-      first = first ∙ drained.stands.first;
-      latest = latest ∙ drained.stands.latest;
-      pooled = subst (HoldsPooling drained.after) (sym pooling) drained.stands.pooled;
-    };
-    texts = subst (λ (t : List ℕ). AreAllTexts options (items ++ drained.more) (text ++ t) drained.after) (sym output)
-        drained.texts;
-  },
-  so,
-)
+    → StandsSo options standing read (items ++ drained.more) → Drains options new standing read items text start saving
+drains_end options old new standing read items text start saving drained reads same number first latest pooling output
+    so = (
+      record {
+        more = drained.more;
+        after = drained.after;
+        stands = record {
+          options_is = same ∙ drained.stands.options_is;
+          reads = reads;
+          within = subst (λ n. n ≤ options.most) (sym number) drained.stands.within;
+          number = number ∙ drained.stands.number;
+          first = first ∙ drained.stands.first;
+          latest = latest ∙ drained.stands.latest;
+          pooled = subst (HoldsPooling drained.after) (sym pooling) drained.stands.pooled;
+          given = subst (λ n. drained.after.number ≤ n) (sym number) drained.stands.given;
+        };
+        texts = subst (λ (t : List ℕ). AreAllTexts options (items ++ drained.more) (text ++ t) drained.after) (sym output)
+            drained.texts;
+        saves = drained.saves;
+      },
+      so,
+    )
 
 -- as many packets were read as are wanted
 pub enough_read : (options : DumpOptions) (session : Session) (read : List ℕ) (items : List Item) (history : PoolHistory)
@@ -279,14 +317,15 @@ counts_packet old new moved number capture total less counts =
 
 -- the text of a packet was put together
 pub pushes : (old new : Session) (shown one : PlainShown) (this : Option ℕ) (first : Option ℕ) (latest : ℕ)
-    (before : PoolHistory) → new.options ≡ old.options → shown ≡ one → this ≡ instant_in shown → first ≡ first_after old.first this
+    (before : PoolHistory) → before.number < old.number + 1 → new.options ≡ old.options → shown ≡ one
+    → this ≡ instant_in shown → first ≡ first_after old.first this
     → latest ≡ latest_after old.latest this → new.number ≡ old.number + 1 → new.first ≡ first → new.latest ≡ latest
     → (line : List ℕ) × (after : PoolHistory)
     × IsLine old.options (old.number + 1) first latest before shown line after
     × HoldsPooling after new.pooling × (new.output.items ≡ old.output.items ++ line)
     → PushesLine old new before one
-pushes old new shown one this first latest before same same_one is_this is_first is_latest number new_first new_latest
-    (line, after, is, pooled, output) =
+pushes old new shown one this first latest before later same same_one is_this is_first is_latest number new_first
+    new_latest (line, after, is, pooled, output) =
     let when : this ≡ instant_in one = is_this ∙ ap instant_in same_one in
     let firsts : first ≡ first_after old.first (instant_in one) =
     is_first ∙ ap (λ (t : Option ℕ). first_after old.first t) when in
@@ -301,6 +340,9 @@ pushes old new shown one this first latest before same same_one is_this is_first
           (subst (λ (f : Option ℕ). IsLine old.options (old.number + 1) f latest before one line after) firsts
           (subst (λ p. IsLine old.options (old.number + 1) first latest before p line after) same_one is));
       pooled = pooled;
+      given = subst (λ n. after.number ≤ n) (sym number)
+          (pooled_number old.options (start_text old.options.time (old.number + 1) first shown) before
+          (record { number = old.number + 1; instant = latest }) shown is.2 after is.5 later);
       output = output;
       number = number;
       first = new_first ∙ firsts;
@@ -311,8 +353,10 @@ pushes old new shown one this first latest before same same_one is_this is_first
 pub drains_start : (options : DumpOptions) (old new : Session) → new.capture ≡ old.capture → new.options ≡ old.options
     → new.number ≡ old.number → new.first ≡ old.first → new.latest ≡ old.latest → new.pooling ≡ old.pooling
     → new.output.items ≡ [] → (read : List ℕ) (items : List Item) (text : List ℕ) (history : PoolHistory)
-    → Stands options old read items history → AreAllTexts options items text history → Drained options new read items text
-drains_start options old new capture same number first latest pooling output read items text history stands texts =
+    (saving : Saving) → Stands options old read items history → AreAllTexts options items text history
+    → Drained options new read items text saving saving
+drains_start options old new capture same number first latest pooling output read items text history saving stands
+    texts =
     let none = sym (append-nil items) in
     record {
       more = [];
@@ -325,8 +369,11 @@ drains_start options old new capture same number first latest pooling output rea
         first = first ∙ stands.first;
         latest = latest ∙ stands.latest;
         pooled = subst (HoldsPooling history) (sym pooling) stands.pooled;
+        given = subst (λ n. history.number ≤ n) (sym number) stands.given;
       });
       texts = subst (λ s. AreAllTexts options s (text ++ new.output.items) history) none
           (subst (λ (t : List ℕ). AreAllTexts options items t history)
           (sym (ap (λ (t : List ℕ). text ++ t) output ∙ append-nil text)) texts);
+      saves = λ wanted saved saves.
+          subst (λ (i : List Item). Saves options wanted false saving.state i (saved ++ saving.bytes.items)) none saves;
     }

@@ -10,21 +10,34 @@ use Rattle.std.specs.Str.{bytes_eq}
 use Rattle.std.specs.Str.Parse.{AllDigits, IsNumeral, digits_value, without_leading_plus}
 use Rattle.std.proofs.lemmas.Bool.Decides.{Decides-and, Decides-ltb}
 use Rattle.std.proofs.lemmas.Slice.Eq.{bytes_eq-Decides}
-use Rattle.packet_dump.specs.Options.{IsNumber, IsValue, Item, count, is_dashed, is_known, kind_name, limit, only, timeout}
-use Rattle.packet_dump.specs.OptionSteps.{kind_named, number_in, value_in, word_in, word_named, word_table}
+use Rattle.packet_dump.specs.Options.{IsNumber, IsOptionWord, IsValue, Item, count, form_name, is_dashed, is_known, kind_name, limit, only, time}
+use Rattle.packet_dump.specs.Options.{file, filter, is_input, options_with, standard_input}
+use Rattle.packet_dump.specs.Options.{streams, timeout, write}
+use Rattle.packet_dump.specs.OptionSteps.{form_named, input_in, kind_named, number_in, value_in, word_in, word_named, word_table}
 use Rattle.packet_dump.specs.declared.options.Awaited.{Awaited}
-use Rattle.packet_dump.specs.declared.options.Awaited.TheVariants.{Count, Only, Timeout, Limit}
+use Rattle.packet_dump.specs.declared.options.Awaited.TheVariants.{Count, Only, Time, Timeout, Limit, Write, Streams, Filter, Input}
+use Rattle.packet_dump.specs.declared.options.FilterKind.{FilterKind}
 use Rattle.packet_dump.specs.declared.options.Word.{Word}
 use Rattle.packet_dump.specs.declared.options.Word.TheVariants as word
+use Rattle.packet_dump.specs.declared.dump_options.DumpOptions.{DumpOptions}
 use Rattle.packet_dump.specs.declared.dump_options.Kind.{Kind}
 use Rattle.packet_dump.specs.declared.dump_options.Kind.TheVariants as kind
+use Rattle.packet_dump.specs.declared.dump_options.TimeForm.{TimeForm}
+use Rattle.packet_dump.specs.declared.dump_options.TimeForm.TheVariants.{Relative, Epoch, Utc}
 
 -- ---- a choice by a test
 
-branch : {A : Type 0} (P : A → Type 0) (b : Bool) (x y : A) → (b ≡ true → P x) → (b ≡ false → P y)
+pub branch : {A : Type 0} (P : A → Type 0) (b : Bool) (x y : A) → (b ≡ true → P x) → (b ≡ false → P y)
     → P (cond b x y)
 branch P true x y here there = here refl
 branch P false x y here there = there refl
+
+not_both_tests : (b : Bool) → b ≡ true → b ≡ false → ⊥
+not_both_tests b holds fails = let clash : true ≡ false = sym holds ∙ fails in cc
+
+test_fails : (b : Bool) → (b ≡ true → ⊥) → b ≡ false
+test_fails true never = absurd (never refl)
+test_fails false never = refl
 
 some_if : (b : Bool) (value : ℕ) → b ≡ true → cond b (Some value) None ≡ Some value
 some_if true value holds = refl
@@ -39,7 +52,7 @@ no_or : (a b : Bool) → (a || b) ≡ false → (a ≡ false) × (b ≡ false)
 no_or true b is = let never : ⊥ = cc in absurd never
 no_or false b is = (refl, is)
 
-some_of : {A B : Type 0} (f : A → B) (o : Option A) (x : B) → option_map f o ≡ Some x
+pub some_of : {A B : Type 0} (f : A → B) (o : Option A) (x : B) → option_map f o ≡ Some x
     → (y : A) × (o ≡ Some y) × (f y ≡ x)
 some_of f None x is = let never : ⊥ = cc in absurd never
 some_of f (Some y) x is = (y, refl, cc)
@@ -83,7 +96,7 @@ number_in-is bits text number is =
 
 -- ---- kinds
 
-found_passes : (test : Kind → Bool) (kinds : List Kind) (sought : Kind) → find test kinds ≡ Some sought
+found_passes : {A : Type 0} (test : A → Bool) (kinds : List A) (sought : A) → find test kinds ≡ Some sought
     → test sought ≡ true
 found_passes test [] sought is = let never : ⊥ = cc in absurd never
 found_passes test (first ∷ kinds) sought is =
@@ -107,15 +120,70 @@ kind_named-name kind.Stopped = refl
 kind_named-some : (name : List ℕ) (sought : Kind) → name ≡ kind_name sought → kind_named name ≡ Some sought
 kind_named-some name sought is = ap kind_named is ∙ kind_named-name sought
 
+-- ---- forms of times
+
+form_named-is : (name : List ℕ) (sought : TimeForm) → form_named name ≡ Some sought → name ≡ form_name sought
+form_named-is name sought is =
+    (bytes_eq-Decides name (form_name sought)).0 (found_passes (λ f. bytes_eq name (form_name f))
+    (Relative ∷ Epoch ∷ Utc ∷ []) sought is)
+
+form_named-name : (sought : TimeForm) → form_named (form_name sought) ≡ Some sought
+form_named-name Relative = refl
+form_named-name Epoch = refl
+form_named-name Utc = refl
+
+form_named-some : (name : List ℕ) (sought : TimeForm) → name ≡ form_name sought → form_named name ≡ Some sought
+form_named-some name sought is = ap form_named is ∙ form_named-name sought
+
+-- ---- what is read
+
+pub input_is : (text : List ℕ) → is_input (input_in text) ≡ true
+input_is text =
+    branch (λ item. is_input item ≡ true) (bytes_eq text (codes "-")) standard_input (file text) (λ same. refl) (λ other. refl)
+
+-- it is what the word says
+input_says : (text : List ℕ) → IsValue Input text (input_in text)
+input_says text =
+    branch (λ (item : Item). IsValue Input text item) (bytes_eq text (codes "-")) standard_input (file text)
+    (λ same. (bytes_eq-Decides text (codes "-")).0 same)
+    (λ other. (refl, λ is. not_both_tests (bytes_eq text (codes "-")) ((bytes_eq-Decides text (codes "-")).1 is) other))
+
+-- and no option
+pub input_keeps : (options : DumpOptions) (text : List ℕ) → options_with options (input_in text) ≡ options
+input_keeps options text =
+    branch (λ (item : Item). options_with options item ≡ options) (bytes_eq text (codes "-")) standard_input (file text)
+    (λ same. refl) (λ other. refl)
+
 -- ---- values of options
 
 pub value_in-some : (option : Awaited) (text : List ℕ) (item : Item) → IsValue option text item
     → value_in option text ≡ Some item
 value_in-some Count text (count number) says = ap (option_map count) (number_in-some 64 text number says)
 value_in-some Only text (only sought) says = ap (option_map only) (kind_named-some text sought says)
+value_in-some Time text (time sought) says = ap (option_map time) (form_named-some text sought says)
 value_in-some Timeout text (timeout number) says = ap (option_map timeout) (number_in-some 32 text number says)
 value_in-some Limit text (limit number) says = ap (option_map limit) (number_in-some 16 text number says)
+value_in-some Write text (write said) says = ap (λ t. Some (write t)) says
+value_in-some Streams text (streams number) says = ap (option_map streams) (number_in-some 64 text number says)
+value_in-some (Filter kind) text (filter other said) says =
+    ap (λ k. Some (filter k text)) says.0 ∙ ap (λ t. Some (filter other t)) says.1
+value_in-some Input text (file name) says =
+    ap (λ b. Some (cond b standard_input (file text)))
+    (test_fails (bytes_eq text (codes "-")) (λ same. says.1 ((bytes_eq-Decides text (codes "-")).0 same)))
+    ∙ ap (λ n. Some (file n)) says.0
+value_in-some Input text standard_input says =
+    ap (λ b. Some (cond b standard_input (file text))) ((bytes_eq-Decides text (codes "-")).1 says)
 value_in-some option text item says = absurd says
+
+-- the word of a filter is what its option's word says
+pub filter_value : (option : Awaited) (kind : FilterKind) (text : List ℕ) → option ≡ Filter kind
+    → IsValue option text (filter kind text)
+filter_value option kind text is =
+    subst (λ (o : Awaited). IsValue o text (filter kind text)) (sym is) (refl, refl)
+
+-- what is read is what the word of its option says
+pub input_value : (option : Awaited) (text : List ℕ) → option ≡ Input → IsValue option text (input_in text)
+input_value option text is = subst (λ (o : Awaited). IsValue o text (input_in text)) (sym is) (input_says text)
 
 pub value_in-is : (option : Awaited) (text : List ℕ) (item : Item) → value_in option text ≡ Some item
     → IsValue option text item
@@ -125,12 +193,30 @@ value_in-is Count text item is =
 value_in-is Only text item is =
     let (sought, there, same) = some_of only (kind_named text) item is in
     subst (λ (i : Item). IsValue Only text i) same (kind_named-is text sought there)
+value_in-is Time text item is =
+    let (sought, there, same) = some_of time (form_named text) item is in
+    subst (λ (i : Item). IsValue Time text i) same (form_named-is text sought there)
 value_in-is Timeout text item is =
     let (number, there, same) = some_of timeout (number_in 32 text) item is in
     subst (λ (i : Item). IsValue Timeout text i) same (number_in-is 32 text number there)
 value_in-is Limit text item is =
     let (number, there, same) = some_of limit (number_in 16 text) item is in
     subst (λ (i : Item). IsValue Limit text i) same (number_in-is 16 text number there)
+value_in-is Write text item is =
+    let same : write text ≡ item = cc in
+    subst (λ (i : Item). IsValue Write text i) same refl
+value_in-is Streams text item is =
+    let (number, there, same) = some_of streams (number_in 64 text) item is in
+    subst (λ (i : Item). IsValue Streams text i) same (number_in-is 64 text number there)
+value_in-is (Filter kind) text item is =
+    let same : filter kind text ≡ item = cc in
+    subst (λ (i : Item). IsValue (Filter kind) text i) same (refl, refl)
+value_in-is Input text item is =
+    let same : input_in text ≡ item = cc in
+    subst (λ (i : Item). IsValue Input text i) same (input_says text)
+
+pub write_value : (option : Awaited) (text : List ℕ) → option ≡ Write → IsValue option text (write text)
+write_value option text is = subst (λ o. IsValue o text (write text)) (sym is) refl
 
 none_from : (o : Option Item) → ((item : Item) → o ≡ Some item → ⊥) → o ≡ None
 none_from None never = refl
@@ -198,45 +284,19 @@ abbrev pub IsWord : List ℕ → Word → Type 0
 IsWord text word.Help = (text ≡ codes "-h") ⊎ (text ≡ codes "--help")
 IsWord text word.Version = (text ≡ codes "-V") ⊎ (text ≡ codes "--version")
 IsWord text word.Hex = text ≡ codes "--hex"
+IsWord text word.HexFrame = text ≡ codes "--hex=frame"
 IsWord text word.Strict = text ≡ codes "--strict"
+IsWord text word.Verbose = text ≡ codes "--verbose"
 IsWord text word.Summary = text ≡ codes "--summary"
+IsWord text word.Quiet = text ≡ codes "--quiet"
 IsWord text word.Reassemble = text ≡ codes "--reassemble"
-IsWord text (word.Option Count) = text ≡ codes "--count"
-IsWord text (word.Option Only) = text ≡ codes "--only"
-IsWord text (word.Option Timeout) = text ≡ codes "--timeout"
-IsWord text (word.Option Limit) = text ≡ codes "--limit"
+IsWord text word.NoNames = (text ≡ codes "-n") ⊎ (text ≡ codes "-nn")
+IsWord text (word.Option option) = IsOptionWord option text
 IsWord text word.StandardInput = text ≡ codes "-"
 IsWord text word.File = is_dashed text ≡ false
 IsWord text word.Unknown = (is_dashed text ≡ true) × (is_known text ≡ false)
 
 pub is_word : (text : List ℕ) → IsWord text (word_named text)
 is_word text =
-    by_rows text (IsWord text) word_table (
-      λ e. inl e,
-      (
-        λ e. inr e,
-        (
-          λ e. inl e,
-          (
-            λ e. inr e,
-            (
-              λ e. e,
-              (
-                λ e. e,
-                (
-                  λ e. e,
-                  (
-                    λ e. e,
-                    (
-                      λ e. e,
-                      (λ e. e, (λ e. e, (λ e. e, (λ e. e, tt)))),
-                    ),
-                  ),
-                ),
-              ),
-            ),
-          ),
-        ),
-      ),
-    )
+    by_rows text (IsWord text) word_table (λ e. inl e, (λ e. inr e, (λ e. inl e, (λ e. inr e, (λ e. e, (λ e. e, (λ e. e, (λ e. e, (λ e. e, (λ e. e, (λ e. e, (λ e. inl e, (λ e. inr e, (λ e. inl e, (λ e. e, (λ e. e, (λ e. e, (λ e. e, (λ e. e, (λ e. e, (λ e. e, (λ e. e, (λ e. e, (λ e. e, (λ e. inr e, (λ e. e, (λ e. e, tt)))))))))))))))))))))))))))
     (λ none. branch (IsWord text) (is_dashed text) word.Unknown word.File (λ dashed. (dashed, none)) (λ plain. plain))

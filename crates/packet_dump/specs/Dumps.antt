@@ -3,9 +3,11 @@ use Rattle.std.specs.Prelude.{◌≡◌, ℕ, ◌+◌, ◌<◌, ◌≤◌, Bool,
 use Rattle.capture_reader.specs.Captures.{Item, PlainShown, Stage, at_start, shown_in, stage_after}
 use Rattle.capture_reader.specs.Captures.{AreItems, IsCapture, RefusesCapture, items_bytes}
 use Rattle.packet_dump.specs.PacketContents.{Content, Holds, HoldsBehind}
-use Rattle.packet_dump.specs.PacketLines.{parts_start, parts_text, shown_text, start_text}
+use Rattle.packet_dump.specs.Details.{IsDetailed}
+use Rattle.packet_dump.specs.Openings.{read_bytes}
+use Rattle.packet_dump.specs.PacketLines.{parts_start, parts_text, shown_text, start_text, tells_details}
 use Rattle.packet_dump.specs.PacketCalls.{PoolHistory, new_pool}
-use Rattle.packet_dump.specs.PoolLines.{GivesWhere, IsPooled}
+use Rattle.packet_dump.specs.PoolLines.{GivesWhere, IsPooled, arrival_of}
 use Rattle.packet_dump.specs.Shown.{first_after, instant_in, latest_after}
 use Rattle.capture_reader.specs.declared.refusal.CaptureError.{CaptureError}
 use Rattle.packet_dump.specs.declared.lines.LineParts.{LineParts}
@@ -20,16 +22,24 @@ use Rattle.packet_dump.specs.declared.dump_options.DumpOptions.{DumpOptions}
 -- the fragment that it carries; and what became of the pool.
 abbrev pub IsLine : DumpOptions → ℕ → Option ℕ → ℕ → PoolHistory → PlainShown → List ℕ → PoolHistory → Type 0
 IsLine options number first latest before shown text after =
-    (content : Content) × (more : List ℕ) × Holds options.strict shown.link shown.bytes content
-    × IsPooled options (start_text number first shown) before latest shown more after
-    × (text ≡ shown_text options number first shown content ++ more)
+    (content : Content) × (details more : List ℕ) × Holds options.strict shown.link shown.bytes content
+    × IsDetailed (tells_details options content) (read_bytes shown.link shown.bytes) content details
+    × IsPooled options (start_text options.time number first shown) before
+    (record { number = number; instant = latest }) shown more after
+    × (text ≡ shown_text options number first shown content details ++ more)
 
--- The same of a packet whose bytes begin so, of what stands behind that.
+-- What stands behind what the bytes of a packet begin with holds this with these details.
+abbrev pub HoldsDetailed : DumpOptions → Opening → List ℕ → Content → List ℕ → Type 0
+HoldsDetailed options opening bytes content details =
+    HoldsBehind options.strict opening bytes content × IsDetailed (tells_details options content) bytes content details
+
+-- What is written of such a packet.
 abbrev pub IsTextBehind : DumpOptions → LineParts → Opening → List ℕ → PoolHistory → List ℕ → PoolHistory → Type 0
 IsTextBehind options parts opening bytes before text after =
-    (content : Content) × (more : List ℕ) × HoldsBehind options.strict opening bytes content
-    × GivesWhere options.reassemble options (parts_start parts) before parts.latest opening bytes more after
-    × (text ≡ parts_text options parts content ++ more)
+    (content : Content) × (details more : List ℕ) × HoldsDetailed options opening bytes content details
+    × GivesWhere options.reassemble options (parts_start options.time parts) before (arrival_of parts) opening bytes
+    more after
+    × (text ≡ parts_text options parts content details ++ more)
 
 -- ---- many lines
 

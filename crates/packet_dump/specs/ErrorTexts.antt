@@ -6,6 +6,8 @@ use Rattle.line_io.specs.declared.run_error.RunError.{RunError}
 use Rattle.line_io.specs.declared.run_error.RunError.TheVariants.{Read, Write, OutOfMemory}
 use Rattle.packet_dump.specs.declared.ending.Ending.{Ending}
 use Rattle.packet_dump.specs.declared.ending.Ending.TheVariants.{Whole, Enough, Broken}
+use Rattle.packet_dump.specs.declared.saving.SaveState.{SaveState}
+use Rattle.packet_dump.specs.declared.saving.SaveState.TheVariants.{Unasked, Open, Stopped}
 
 -- the line for standard error
 abbrev pub run_error_text : RunError → List ℕ
@@ -19,6 +21,12 @@ status_of (Ok Whole) = 0
 status_of (Ok Enough) = 0
 status_of (Ok (Broken packets error)) = 1
 status_of (Err error) = 1
+
+-- the same, where packets may have been saved: 1 where not all were that are shown
+abbrev pub status_with : Result Ending RunError → SaveState → ℕ
+status_with outcome Unasked = status_of outcome
+status_with outcome (Open link) = status_of outcome
+status_with outcome (Stopped fault) = 1
 
 -- what can be done about a file that begins so: with the first bytes of gzip (RFC 1952, 2.3.1) or of zstd (RFC 8878, 3.1.1)
 abbrev pub magic_hint : ℕ → Option (List ℕ)

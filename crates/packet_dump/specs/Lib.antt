@@ -1,5 +1,6 @@
 pub mod Addresses
 pub mod PacketContents
+pub mod Details
 pub mod Dumps
 pub mod IcmpTexts
 pub mod LayerTexts
@@ -7,12 +8,16 @@ pub mod Links
 pub mod Nets
 pub mod Openings
 pub mod PacketLines
+pub mod OpenStreams
 pub mod PacketCalls
 pub mod PoolLines
+pub mod Rows
 pub mod SliceErrorTexts
+pub mod Saves
 pub mod Sessions
 pub mod Shown
 pub mod ErrorTexts
 pub mod Transports
 pub mod Options
 pub mod OptionSteps
+pub mod Filters

@@ -1,6 +1,6 @@
 -- What packets of a link type begin with. Of some the program reads the header itself, and the library what is behind it.
 use Rattle.std.specs.Prelude.{ℕ, ◌+◌, ◌*◌, ◌==◌, ◌&&◌, ◌||◌, not, nat_le, if◌then◌else◌, Bool, List, [], ◌++◌, Option, Some}
-use Rattle.std.specs.Prelude.{None, codes, length, min, slice_index, slice_range, take}
+use Rattle.std.specs.Prelude.{None, codes, drop, length, min, slice_index, slice_range, take}
 use Rattle.std.specs.Fmt.{decimal}
 use Rattle.etherparse.specs.Bytes.{word_at}
 use Rattle.etherparse.specs.EtherTypes.{ipv4_type, ipv6_type}
@@ -78,6 +78,15 @@ opening_of link bytes =
     (if link == 113 then Some (sll_opening bytes) else
     (if (link == 0) || (link == 108) then loopback_opening bytes else
     (if link == 276 then sll2_opening bytes else None))))
+
+-- the bytes that the library reads, where they begin so; all where they are not read
+abbrev pub bytes_behind : Option Opening → List ℕ → List ℕ
+bytes_behind (Some opening) bytes = drop opening.skipped bytes
+bytes_behind None bytes = bytes
+
+-- the same of bytes of this link type
+abbrev pub read_bytes : ℕ → List ℕ → List ℕ
+read_bytes link bytes = bytes_behind (opening_of link bytes) bytes
 
 -- what is told of a header that is read here: which way the packet went, and the sender's address
 unfoldable pub sll_front : List ℕ → List ℕ

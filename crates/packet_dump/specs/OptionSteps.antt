@@ -1,17 +1,21 @@
 -- How the words of the command line are read, one at a time. Only private calls cite this.
-use Rattle.std.specs.Prelude.{◌≡◌, ℕ, ◌^◌, Bool, true, false, ◌&&◌, if◌then◌else◌, nat_lt, List, [], ◌∷◌, length}
+use Rattle.std.specs.Prelude.{◌≡◌, ℕ, ◌^◌, Bool, true, false, ◌&&◌, if◌then◌else◌, nat_eq, nat_lt, List, [], ◌∷◌, length}
 use Rattle.std.specs.Prelude.{Option, Some, None, Result, Ok, Err, codes, find}
 use Rattle.std.specs.Option.{option_map}
 use Rattle.std.specs.List.{list_all}
 use Rattle.std.specs.Char.{digit_value}
 use Rattle.std.specs.Str.{bytes_eq}
 use Rattle.std.specs.Str.Parse.{digits_value, without_leading_plus}
-use Rattle.packet_dump.specs.Options.{Asked, Fault, Item, Settings, asked_of, bad_value, count, default_settings, dump}
-use Rattle.packet_dump.specs.Options.{fault_of, file, help, hex, is_dashed, kind_name, limit, no_value, only, option_word}
-use Rattle.packet_dump.specs.Options.{reassemble, second_file, standard_input, strict, summary, timeout, unknown_option, version}
-use Rattle.packet_dump.specs.Options.{with_item}
+use Rattle.packet_dump.specs.Options.{Asked, Fault, Item, Settings, asked_of, bad_value, count, crowded_filter}
+use Rattle.packet_dump.specs.Options.{default_settings, dump, filter, filter_texts}
+use Rattle.packet_dump.specs.Options.{fault_of, file, form_name, help, hex, hex_frame, is_dashed, is_input, kind_name}
+use Rattle.packet_dump.specs.Options.{limit, no_names, no_value, only, option_word, quiet, reassemble, second_file}
+use Rattle.packet_dump.specs.Options.{standard_input, streams, strict, summary, time, timeout, unknown_option, verbose}
+use Rattle.packet_dump.specs.Options.{version, with_item, write}
 use Rattle.packet_dump.specs.declared.options.Awaited.{Awaited}
-use Rattle.packet_dump.specs.declared.options.Awaited.TheVariants.{Count, Only, Timeout, Limit}
+use Rattle.packet_dump.specs.declared.options.Awaited.TheVariants.{Count, Only, Time, Timeout, Limit, Write, Streams, Filter, Input}
+use Rattle.packet_dump.specs.declared.options.FilterKind.TheVariants.{Host, Port, Vlan, Net}
+use Rattle.packet_dump.specs.declared.options.Joined.{Joined}
 use Rattle.packet_dump.specs.declared.options.Reading.{Reading}
 use Rattle.packet_dump.specs.declared.options.Request.{Request}
 use Rattle.packet_dump.specs.declared.options.UsageError.{UsageError}
@@ -19,17 +23,24 @@ use Rattle.packet_dump.specs.declared.options.Word.{Word}
 use Rattle.packet_dump.specs.declared.options.Word.TheVariants as word
 use Rattle.packet_dump.specs.declared.dump_options.Kind.{Kind}
 use Rattle.packet_dump.specs.declared.dump_options.Kind.TheVariants as kind
+use Rattle.packet_dump.specs.declared.dump_options.TimeForm.{TimeForm}
+use Rattle.packet_dump.specs.declared.dump_options.TimeForm.TheVariants.{Relative, Epoch, Utc}
 
 -- the words that begin with `-`, with what they are
 abbrev pub word_table : List (List ℕ × Word)
 word_table =
     (codes "-h", word.Help) ∷ (codes "--help", word.Help) ∷ (codes "-V", word.Version)
-    ∷ (codes "--version", word.Version) ∷ (codes "--hex", word.Hex) ∷ (codes "--strict", word.Strict)
-    ∷ (codes "--summary", word.Summary)
-    ∷ (codes "--reassemble", word.Reassemble)
+    ∷ (codes "--version", word.Version) ∷ (codes "--hex", word.Hex) ∷ (codes "--hex=frame", word.HexFrame)
+    ∷ (codes "--strict", word.Strict) ∷ (codes "--verbose", word.Verbose) ∷ (codes "--summary", word.Summary)
+    ∷ (codes "--quiet", word.Quiet)
+    ∷ (codes "--reassemble", word.Reassemble) ∷ (codes "-n", word.NoNames) ∷ (codes "-nn", word.NoNames)
     ∷ (codes "--count", word.Option Count) ∷ (codes "--only", word.Option Only)
-    ∷ (codes "--timeout", word.Option Timeout) ∷ (codes "--limit", word.Option Limit)
-    ∷ (codes "-", word.StandardInput) ∷ []
+    ∷ (codes "--time", word.Option Time) ∷ (codes "--timeout", word.Option Timeout)
+    ∷ (codes "--limit", word.Option Limit) ∷ (codes "--write", word.Option Write)
+    ∷ (codes "--streams", word.Option Streams)
+    ∷ (codes "--host", word.Option (Filter Host)) ∷ (codes "--port", word.Option (Filter Port))
+    ∷ (codes "--vlan", word.Option (Filter Vlan)) ∷ (codes "--net", word.Option (Filter Net))
+    ∷ (codes "-c", word.Option Count) ∷ (codes "-r", word.Option Input) ∷ (codes "-", word.StandardInput) ∷ []
 
 -- what a word is that is no option's value, by such a table
 abbrev pub word_in : List (List ℕ × Word) → List ℕ → Word
@@ -38,6 +49,27 @@ word_in (row ∷ rows) text = if bytes_eq text row.0 then row.1 else word_in row
 
 abbrev pub word_named : List ℕ → Word
 word_named text = word_in word_table text
+
+-- what stands in front of the first `=` and behind it, where there is one
+abbrev pub parts_at_equals : List ℕ → Option (List ℕ × List ℕ)
+parts_at_equals [] = None
+parts_at_equals (byte ∷ bytes) =
+    if nat_eq byte 61
+    then Some ([], bytes)
+    else option_map (λ parts. (byte ∷ parts.0, parts.1)) (parts_at_equals bytes)
+
+-- the option that such a word is, with this value
+abbrev pub option_with : Word → List ℕ → Option (Awaited × List ℕ)
+option_with (word.Option option) value = Some (option, value)
+option_with other value = None
+
+-- an option and its value, which stand in one word with `=` between
+abbrev pub joined_from : Option (List ℕ × List ℕ) → Option (Awaited × List ℕ)
+joined_from (Some parts) = option_with (word_named parts.0) parts.1
+joined_from None = None
+
+abbrev pub joined_in : List ℕ → Option (Awaited × List ℕ)
+joined_in text = joined_from (parts_at_equals text)
 
 -- the number that a word says, of so many bits
 abbrev pub number_in : ℕ → List ℕ → Option ℕ
@@ -53,12 +85,25 @@ abbrev pub kind_named : List ℕ → Option Kind
 kind_named name =
     find (λ kind. bytes_eq name (kind_name kind)) (kind.Udp ∷ kind.Tcp ∷ kind.Icmp ∷ kind.Arp ∷ kind.Refused ∷ kind.Stopped ∷ [])
 
+-- the form of times of this name
+abbrev pub form_named : List ℕ → Option TimeForm
+form_named name = find (λ form. bytes_eq name (form_name form)) (Relative ∷ Epoch ∷ Utc ∷ [])
+
+-- the input that a word names
+abbrev pub input_in : List ℕ → Item
+input_in word = if bytes_eq word (codes "-") then standard_input else file word
+
 -- what a word says of an option
 abbrev pub value_in : Awaited → List ℕ → Option Item
 value_in Count word = option_map count (number_in 64 word)
 value_in Only word = option_map only (kind_named word)
+value_in Time word = option_map time (form_named word)
 value_in Timeout word = option_map timeout (number_in 32 word)
 value_in Limit word = option_map limit (number_in 16 word)
+value_in Write word = Some (write word)
+value_in Streams word = option_map streams (number_in 64 word)
+value_in (Filter kind) word = Some (filter kind word)
+value_in Input word = Some (input_in word)
 
 -- how far the words are read
 pub record State : Type 0 where
@@ -73,12 +118,21 @@ abbrev pub reading_state : Reading → State
 reading_state reading = record {
   settings = record {
     options = reading.options;
+    filters = filter_texts reading.filter;
+    crowded = reading.crowded;
     path = option_map (λ name. name.now) reading.path;
+    target = option_map (λ name. name.now) reading.target;
     summary = reading.summary;
   };
   named = reading.is_named;
   awaited = reading.awaited;
 }
+
+-- behind the value of an option that adds a word to a filter, or names the file that is written, or of another
+abbrev pub filtered : State → Awaited → List ℕ → State
+filtered state Write text = record state { settings = with_item state.settings (write text) }
+filtered state (Filter kind) text = record state { settings = with_item state.settings (filter kind text) }
+filtered state option text = state
 
 -- what a word comes to: more words are read, or this is the answer
 pub data Step : Type 0 where
@@ -97,23 +151,37 @@ named_by state text item =
     then done (Err (second_file text))
     else more (record { settings = with_item state.settings item; named = true; awaited = None })
 
+-- behind an item that a word says, which is what is read or is not
+abbrev pub behind_item : State → List ℕ → Item → Bool → Step
+behind_item state text item true = named_by state text item
+behind_item state text item false = behind state item
+
+-- behind the value of an option
+abbrev pub behind_value : State → Awaited → List ℕ → Option Item → Step
+behind_value state option text (Some item) = behind_item state text item (is_input item)
+behind_value state option text None = done (Err (bad_value option text))
+
+-- behind a word that begins with `-` and is in no row, which is an option and its value, or means nothing
+abbrev pub behind_joined : State → List ℕ → Option (Awaited × List ℕ) → Step
+behind_joined state text (Some said) = behind_value state said.0 said.1 (value_in said.0 said.1)
+behind_joined state text None = done (Err (unknown_option text))
+
 -- behind a word that is no value
 abbrev pub behind_word : State → List ℕ → Word → Step
 behind_word state text word.Help = done (Ok help)
 behind_word state text word.Version = done (Ok version)
 behind_word state text word.Hex = behind state hex
+behind_word state text word.HexFrame = behind state hex_frame
 behind_word state text word.Strict = behind state strict
+behind_word state text word.Verbose = behind state verbose
 behind_word state text word.Summary = behind state summary
+behind_word state text word.Quiet = behind state quiet
 behind_word state text word.Reassemble = behind state reassemble
+behind_word state text word.NoNames = behind state no_names
 behind_word state text (word.Option option) = more (record state { awaited = Some option })
 behind_word state text word.StandardInput = named_by state text standard_input
 behind_word state text word.File = named_by state text (file text)
-behind_word state text word.Unknown = done (Err (unknown_option text))
-
--- behind the value of an option
-abbrev pub behind_value : State → Awaited → List ℕ → Option Item → Step
-behind_value state option text (Some item) = behind state item
-behind_value state option text None = done (Err (bad_value option text))
+behind_word state text word.Unknown = behind_joined state text (joined_in text)
 
 -- what a word comes to
 abbrev pub step_from : State → List ℕ → Option Awaited → Step
@@ -126,10 +194,14 @@ step state text = step_from state text state.awaited
 -- the answer where no word follows
 abbrev pub finished_from : State → Option Awaited → Result Asked Fault
 finished_from state (Some option) = Err (no_value (option_word option))
-finished_from state None = Ok (dump state.settings)
+finished_from state None = if state.settings.crowded then Err crowded_filter else Ok (dump state.settings)
 
 abbrev pub finished : State → Result Asked Fault
 finished state = finished_from state state.awaited
+
+-- an option and its value that stood in one word
+abbrev pub joined_parts : Joined → Awaited × List ℕ
+joined_parts said = (said.option, said.value.now)
 
 -- a step gives this, and leaves this state
 abbrev pub StepGives : Step → State → Result (Option Request) UsageError → Type 0

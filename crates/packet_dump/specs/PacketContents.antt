@@ -1,6 +1,7 @@
 -- What a packet holds, and which packets are shown.
-use Rattle.std.specs.Prelude.{◌≡◌, ◌⊎◌, ℕ, ◌+◌, ◌/◌, ◌%◌, ◌==◌, ◌||◌, is_some, if◌then◌else◌, Bool, true, false, List, [], ◌∷◌, ◌++◌, Option, Some, None, codes, drop}
+use Rattle.std.specs.Prelude.{◌≡◌, ◌⊎◌, ℕ, ◌&&◌, ◌||◌, is_some, not, if◌then◌else◌, Bool, true, false, List, [], ◌∷◌, ◌++◌, Option, Some, None, codes, drop}
 use Rattle.std.specs.Fmt.{decimal}
+use Rattle.std.specs.List.{list_all}
 use Rattle.etherparse.specs.Types.Layer.{Layer}
 use Rattle.etherparse.specs.Types.SliceError.{SliceError}
 use Rattle.etherparse.specs.Frame.{IsFrame}
@@ -16,12 +17,14 @@ use Rattle.etherparse.specs.StrictFrames.{IsWhole, layers_in}
 use Rattle.etherparse.specs.Types.TransportHeader.{TransportHeader}
 use Rattle.etherparse.specs.Types.TransportHeader.TheVariants as header
 use Rattle.etherparse.specs.TransportParts.{TransportLayer}
-use Rattle.line_io.specs.Lines.{line_feed, space}
-use Rattle.packet_dump.specs.Addresses.{hex_pair}
+use Rattle.packet_filter.specs.Passing.{passes}
+use Rattle.packet_filter.specs.declared.word.Word.{Word}
 use Rattle.packet_dump.specs.LayerTexts.{packet_text}
 use Rattle.packet_dump.specs.Openings.{is_cooked, opening_of}
+use Rattle.packet_dump.specs.Rows.{rows_text}
 use Rattle.packet_dump.specs.SliceErrorTexts.{refusal_text}
 use Rattle.packet_dump.specs.declared.openings.Opening.{Opening}
+use Rattle.packet_dump.specs.declared.dump_options.DumpOptions.{DumpOptions}
 use Rattle.packet_dump.specs.declared.dump_options.Kind.{Kind}
 use Rattle.packet_dump.specs.declared.dump_options.Kind.TheVariants.{Udp, Tcp, Icmp, Arp, Refused, Stopped}
 
@@ -144,28 +147,36 @@ shows_kind None kind = true
 shows_kind (Some wanted) (Some kind) = same_kind wanted kind
 shows_kind (Some wanted) None = false
 
+-- whether lines are written of packets of this kind
+abbrev pub shows_line : DumpOptions → Option Kind → Bool
+shows_line options kind = not options.quiet && shows_kind options.only kind
+
+-- ---- words of a filter
+
+-- whether a word holds of layers, where there is one
+abbrev pub slot_holds : Option Word → LaxLayers → Bool
+slot_holds None read = true
+slot_holds (Some word) read = passes (word ∷ []) read
+
+-- whether there is no word
+abbrev pub asks_nothing : List (Option Word) → Bool
+asks_nothing words = list_all (λ slot. not (is_some slot)) words
+
+-- whether all words hold of a packet: of what is refused or not read none does
+abbrev pub meets : List (Option Word) → Content → Bool
+meets words (packet read) = list_all (λ slot. slot_holds slot read) words
+meets words (refusal error) = asks_nothing words
+meets words (other_link number) = asks_nothing words
+
 -- ---- bytes
 
--- what stands in front of sixteen bytes: a line feed, and the place of the first by its lower 24 bits
-abbrev pub row_start : ℕ → List ℕ
-row_start index =
-    line_feed ∷ codes "    " ++ hex_pair (index / 65536 % 256) ++ hex_pair (index / 256 % 256) ++ hex_pair (index % 256)
-
--- a byte at a place, in front of which a row begins at each sixteenth
-abbrev pub in_row_text : ℕ → ℕ → List ℕ
-in_row_text index byte = (if index % 16 == 0 then row_start index else []) ++ space ∷ hex_pair byte
-
--- bytes from a place on, sixteen in a row
-abbrev pub rows_text : ℕ → List ℕ → List ℕ
-rows_text index [] = []
-rows_text index (byte ∷ bytes) = in_row_text index byte ++ rows_text (index + 1) bytes
-
--- the payload of the last layer that stands, or all bytes where none does or the link type is not read
-abbrev pub shown_bytes : Content → List ℕ → List ℕ
-shown_bytes (packet read) bytes = last_payload (layers_in read)
-shown_bytes (refusal error) bytes = bytes
-shown_bytes (other_link number) bytes = bytes
+-- All bytes where they are wanted, no layer stands or the link type is not read, or else the payload of the last layer
+-- that stands.
+abbrev pub shown_bytes : Bool → Content → List ℕ → List ℕ
+shown_bytes whole (packet read) bytes = if whole then bytes else last_payload (layers_in read)
+shown_bytes whole (refusal error) bytes = bytes
+shown_bytes whole (other_link number) bytes = bytes
 
 -- the bytes in rows, where they are wanted
 abbrev pub bytes_text : Bool → List ℕ → List ℕ
-bytes_text wanted bytes = if wanted then rows_text 0 bytes else []
+bytes_text wanted bytes = if wanted then rows_text bytes else []

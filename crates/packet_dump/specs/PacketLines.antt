@@ -1,75 +1,88 @@
 -- The line of a packet.
-use Rattle.std.specs.Prelude.{ℕ, ◌+◌, ◌-◌, ◌/◌, ◌%◌, ◌^◌, nat_lt, if◌then◌else◌, Bool, List, [], ◌∷◌, ◌++◌, Option, Some, None, codes, drop, length}
+use Rattle.std.specs.Prelude.{◌≡◌, ℕ, nat_lt, if◌then◌else◌, ◌&&◌, Bool, false, List, [], ◌∷◌, ◌++◌, Option, Some, None, codes, length}
 use Rattle.std.specs.Fmt.{decimal}
 use Rattle.capture_reader.specs.Captures.{PlainShown}
 use Rattle.capture_reader.specs.declared.shown.Time.{Time}
 use Rattle.line_io.specs.Lines.{line_feed, space}
+use Rattle.etherparse.specs.Types.LaxSlicedPacket.{LaxSlicedPacket}
+use Rattle.packet_dump.specs.Details.{AreTold}
 use Rattle.packet_dump.specs.Openings.{front_text}
-use Rattle.packet_dump.specs.PacketContents.{Content, bytes_text, content_kind, content_text, shown_bytes, shows_kind}
-use Rattle.packet_dump.specs.Shown.{instant_of, is_fine}
+use Rattle.packet_dump.specs.PacketContents.{Content, bytes_text, content_kind, content_text, meets, shown_bytes}
+use Rattle.packet_dump.specs.PacketContents.{other_link, packet, refusal, shows_line}
+use Rattle.packet_times.specs.Instants.{instant_of, is_fine}
+use Rattle.packet_times.specs.TimeTexts.{epoch_text, since_text, utc_text}
 use Rattle.capture_reader.specs.Readers.{shown_of}
 use Rattle.packet_dump.specs.declared.lines.LineParts.{LineParts}
 use Rattle.packet_dump.specs.declared.dump_options.DumpOptions.{DumpOptions}
-
--- six digits of a fraction of a second, or nine where it is known so finely
-abbrev pub fraction_text : Bool → ℕ → List ℕ
-fraction_text fine nanos =
-    if fine then drop 1 (decimal (1000000000 + nanos)) else drop 1 (decimal (1000000 + nanos / 1000))
-
--- the seconds in a span of nanoseconds, at most as many as 64 bits hold
-abbrev pub seconds_in : ℕ → ℕ
-seconds_in span = if nat_lt (span / 1000000000) (2 ^ 64) then span / 1000000000 else 2 ^ 64 - 1
-
--- a span of nanoseconds: its seconds, and the fraction behind them
-abbrev pub span_text : Bool → ℕ → List ℕ
-span_text fine span = decimal (seconds_in span) ++ codes "." ++ fraction_text fine (span % 1000000000)
-
--- the span from one instant to another, with a sign where that is earlier
-abbrev pub since_text : Bool → ℕ → ℕ → List ℕ
-since_text fine first this =
-    if nat_lt this first then codes "-" ++ span_text fine (first - this) else span_text fine (this - first)
+use Rattle.packet_dump.specs.declared.dump_options.TimeForm.{TimeForm}
+use Rattle.packet_dump.specs.declared.dump_options.TimeForm.TheVariants.{Relative, Epoch, Utc}
 
 -- the time since the first packet, where it is known
-abbrev pub time_text : Option ℕ → Option Time → List ℕ
-time_text (Some first) (Some time) = since_text (is_fine time) first (instant_of time)
-time_text (Some first) None = codes "-"
-time_text None time = codes "-"
+abbrev pub relative_text : Option ℕ → Option Time → List ℕ
+relative_text (Some first) (Some time) = since_text (is_fine time) first (instant_of time)
+relative_text (Some first) None = codes "-"
+relative_text None time = codes "-"
+
+-- the time as it is told, where it is known: since the first packet, since 1970, or the date and the time of day in UTC
+abbrev pub time_text : TimeForm → Option ℕ → Option Time → List ℕ
+time_text Relative first time = relative_text first time
+time_text Epoch first (Some time) = epoch_text time
+time_text Epoch first None = codes "-"
+time_text Utc first (Some time) = utc_text time
+time_text Utc first None = codes "-"
 
 -- how much of a packet was kept, where that is not all
 abbrev pub cut_text : ℕ → ℕ → List ℕ
 cut_text kept original =
     if nat_lt kept original then codes " cut " ++ decimal kept ++ codes " of " ++ decimal original else []
 
--- the packet's number, and its time since the first
-abbrev pub moment_text : ℕ → Option ℕ → PlainShown → List ℕ
-moment_text number first shown = decimal number ++ space ∷ time_text first shown.time
+-- the packet's number, and its time
+abbrev pub moment_text : TimeForm → ℕ → Option ℕ → PlainShown → List ℕ
+moment_text form number first shown = decimal number ++ space ∷ time_text form first shown.time
 
 -- what a line begins with: these, and what is told of a header that the program reads itself
-abbrev pub start_text : ℕ → Option ℕ → PlainShown → List ℕ
-start_text number first shown = moment_text number first shown ++ front_text shown.link shown.bytes
+abbrev pub start_text : TimeForm → ℕ → Option ℕ → PlainShown → List ℕ
+start_text form number first shown = moment_text form number first shown ++ front_text shown.link shown.bytes
 
 -- what it ends with: how much was kept, these rows of bytes, and a line feed
 abbrev pub end_text : PlainShown → List ℕ → List ℕ
 end_text shown rows = cut_text (length shown.bytes) shown.original_len ++ rows ++ line_feed ∷ []
 
--- The line of a packet: its number, its time since the first, its layers or why it is refused, how much was kept, and
--- the bytes where they are wanted.
-abbrev pub line_text : DumpOptions → ℕ → Option ℕ → PlainShown → Content → List ℕ
-line_text options number first shown content =
-    start_text number first shown ++ content_text content
-    ++ end_text shown (bytes_text options.hex (shown_bytes content shown.bytes))
+-- The line of a packet: its number, its time, its layers or why it is refused, these details, how much was kept, and the
+-- bytes where they are wanted.
+abbrev pub line_text : DumpOptions → ℕ → Option ℕ → PlainShown → Content → List ℕ → List ℕ
+line_text options number first shown content details =
+    start_text options.time number first shown ++ content_text content ++ details
+    ++ end_text shown (bytes_text options.hex (shown_bytes options.whole content shown.bytes))
 
--- what is written of a packet that holds this: its line, where it is of a kind that is shown
-abbrev pub shown_text : DumpOptions → ℕ → Option ℕ → PlainShown → Content → List ℕ
-shown_text options number first shown content =
-    if shows_kind options.only (content_kind content) then line_text options number first shown content else []
+-- whether a packet that holds this is shown: its kind is, and the words of the filter hold
+abbrev pub shows_content : DumpOptions → Content → Bool
+shows_content options content = shows_line options (content_kind content) && meets options.words content
+
+-- whether details are told of a packet that holds this: layers stand, it is shown, and they are asked for
+abbrev pub tells_details : DumpOptions → Content → Bool
+tells_details options (packet read) = options.verbose && shows_content options (packet read)
+tells_details options (refusal error) = false
+tells_details options (other_link number) = false
+
+-- what is written of a packet that holds this: its line, where it is shown
+abbrev pub shown_text : DumpOptions → ℕ → Option ℕ → PlainShown → Content → List ℕ → List ℕ
+shown_text options number first shown content details =
+    if shows_content options content then line_text options number first shown content details else []
 
 -- ---- what a line is made from
 
 -- what the line begins with that is made from this
-abbrev pub parts_start : LineParts → List ℕ
-parts_start parts = start_text parts.number parts.first (shown_of parts.shown)
+abbrev pub parts_start : TimeForm → LineParts → List ℕ
+parts_start form parts = start_text form parts.number parts.first (shown_of parts.shown)
 
--- what is written of a packet that is made from this and holds this
-abbrev pub parts_text : DumpOptions → LineParts → Content → List ℕ
-parts_text options parts content = shown_text options parts.number parts.first (shown_of parts.shown) content
+-- what is written of a packet that is made from this, and holds this with these details
+abbrev pub parts_text : DumpOptions → LineParts → Content → List ℕ → List ℕ
+parts_text options parts content details =
+    shown_text options parts.number parts.first (shown_of parts.shown) content details
+
+-- the same of what is read so was appended, with its details where they are told
+abbrev pub AppendsTold : DumpOptions → LineParts → LaxSlicedPacket → Content → List ℕ → List ℕ → Type 0
+AppendsTold options parts read content old new =
+    (details : List ℕ) × AreTold (tells_details options content) read details
+    × (new ≡ old ++ parts_text options parts content details)

@@ -1,5 +1,6 @@
 -- What is written of payloads that are put together from fragments, and of fragments that the pool refuses.
-use Rattle.std.specs.Prelude.{◌≡◌, ◌⊎◌, ℕ, ◌-◌, ◌*◌, ◌/◌, if◌then◌else◌, Bool, true, false, List, [], ◌∷◌, ◌++◌, Option, Some, None, codes, drop}
+use Rattle.std.specs.Prelude.{◌≡◌, ◌⊎◌, ℕ, ◌-◌, ◌*◌, ◌/◌, if◌then◌else◌, ◌&&◌, Bool, true, false, List, [], ◌∷◌, ◌++◌, Option, Some, None, codes, drop}
+use Rattle.std.specs.List.{list_all}
 use Rattle.capture_reader.specs.Captures.{PlainShown}
 use Rattle.etherparse.specs.Readings.{slices}
 use Rattle.etherparse.specs.Types.TcpHeaderSliceError.{HeaderSliceError}
@@ -13,13 +14,17 @@ use Rattle.etherparse.specs.Types.SliceError.TheVariants as slice_error
 use Rattle.etherparse.specs.Layers.{Layers}
 use Rattle.etherparse.specs.TransportParts.{TransportLayer, IsTransportPart, RefusesTransportPart, payload_in}
 use Rattle.line_io.specs.Lines.{line_feed}
+use Rattle.packet_filter.specs.Passing.{holds_of_payload}
+use Rattle.packet_filter.specs.declared.word.Word.{Word}
 use Rattle.packet_dump.specs.Openings.{opening_of}
-use Rattle.packet_dump.specs.PacketContents.{IsFrameIn, bytes_text, header_kind, shows_kind}
+use Rattle.packet_dump.specs.PacketContents.{IsFrameIn, bytes_text, header_kind, shows_line}
 use Rattle.packet_dump.specs.LayerTexts.{outer_text, protocol_text}
-use Rattle.packet_dump.specs.PacketCalls.{PoolHistory, frame_call, table_behind, with_call, with_sweep}
+use Rattle.packet_dump.specs.PacketCalls.{IsBounded, PoolHistory, frame_call, table_behind, with_frame, with_sweep}
 use Rattle.packet_dump.specs.SliceErrorTexts.{refusal_text}
 use Rattle.packet_dump.specs.Transports.{len_text, transport_text}
+use Rattle.packet_dump.specs.declared.lines.LineParts.{LineParts}
 use Rattle.packet_dump.specs.declared.openings.Opening.{Opening}
+use Rattle.packet_dump.specs.declared.pooling.Arrival.{Arrival}
 use Rattle.packet_dump.specs.declared.dump_options.Kind.{Kind}
 use Rattle.packet_dump.specs.declared.dump_options.Kind.TheVariants.{Refused}
 use Rattle.packet_dump.specs.declared.dump_options.DumpOptions.{DumpOptions}
@@ -53,6 +58,11 @@ inner_kind (part (Some layer)) = Some (header_kind layer.header)
 inner_kind (part None) = None
 inner_kind (unread error) = Some Refused
 
+-- its transport layer
+abbrev pub inner_layer : Inner → Option TransportLayer
+inner_layer (part layer) = layer
+inner_layer (unread error) = None
+
 -- the payload of the transport layer, or else all bytes
 abbrev pub inner_bytes : List ℕ → Inner → List ℕ
 inner_bytes bytes (part layer) = payload_in bytes layer
@@ -68,10 +78,26 @@ opening_text start layers = start ++ outer_text layers
 abbrev pub closing_text : Bool → List ℕ → List ℕ
 closing_text hex bytes = bytes_text hex bytes ++ line_feed ∷ []
 
--- the line, which is there where its kind is one that is shown
-abbrev pub further_line : DumpOptions → List ℕ → Layers → Option Kind → List ℕ → List ℕ → List ℕ
-further_line options start layers kind said bytes =
-    if shows_kind options.only kind then opening_text start layers ++ said ++ closing_text options.hex bytes else []
+-- whether a word holds of these layers and this transport layer, where there is one
+abbrev pub slot_holds_of : Option Word → Layers → Option TransportLayer → Bool
+slot_holds_of None layers transport = true
+slot_holds_of (Some word) layers transport = holds_of_payload word layers transport
+
+-- whether all words of a filter hold of these layers or this transport layer
+abbrev pub meets_payload : List (Option Word) → Layers → Option TransportLayer → Bool
+meets_payload words layers transport = list_all (λ slot. slot_holds_of slot layers transport) words
+
+-- whether the line of a payload of this kind and this transport layer is shown: its kind is, and the words of the
+-- filter hold of the layers outside it or of that one
+abbrev pub shows_payload : DumpOptions → Layers → Option Kind → Option TransportLayer → Bool
+shows_payload options layers kind transport =
+    shows_line options kind && meets_payload options.words layers transport
+
+-- the line, which is there where it is shown
+abbrev pub further_line : DumpOptions → List ℕ → Layers → Option Kind → Option TransportLayer → List ℕ → List ℕ → List ℕ
+further_line options start layers kind transport said bytes =
+    if shows_payload options layers kind transport
+    then opening_text start layers ++ said ++ closing_text options.hex bytes else []
 
 -- what is said of a payload that was put together
 abbrev pub payload_text : ℕ → List ℕ → Inner → List ℕ
@@ -84,7 +110,8 @@ unread_text error = codes " reassembled" ++ refusal_text (frame_error error)
 -- the line of a payload
 abbrev pub payload_line : DumpOptions → List ℕ → Layers → ℕ → List ℕ → Inner → List ℕ
 payload_line options start layers number bytes inner =
-    further_line options start layers (inner_kind inner) (payload_text number bytes inner) (inner_bytes bytes inner)
+    further_line options start layers (inner_kind inner) (inner_layer inner) (payload_text number bytes inner)
+    (inner_bytes bytes inner)
 
 -- why the pool refuses a fragment
 abbrev pub pool_refusal_text : IpDefragError → List ℕ
@@ -92,7 +119,8 @@ pool_refusal_text error = codes " not reassembled: " ++ error_text error
 
 -- the line of a fragment that it refuses
 abbrev pub refused_line : DumpOptions → List ℕ → Layers → IpDefragError → List ℕ
-refused_line options start layers error = further_line options start layers (Some Refused) (pool_refusal_text error) []
+refused_line options start layers error =
+    further_line options start layers (Some Refused) None (pool_refusal_text error) []
 
 -- what is written of the pool's answer to a frame with these layers
 abbrev pub IsAnswerText : DumpOptions → List ℕ → Layers → Answer → List ℕ → Type 0
@@ -106,6 +134,10 @@ IsAnswerText options start layers buffer_returned text = text ≡ []
 
 -- ---- what packets do
 
+-- when the packet came that a line is made from: with which number, and at the latest instant that is known
+abbrev pub arrival_of : LineParts → Arrival
+arrival_of parts = record { number = parts.number; instant = parts.latest }
+
 -- the instant before which a stream is too old, at a packet of this one
 abbrev pub oldest_from : DumpOptions → ℕ → ℕ
 oldest_from options this = this - options.timeout * 1000000000
@@ -114,36 +146,38 @@ oldest_from options this = this - options.timeout * 1000000000
 abbrev pub swept_at : DumpOptions → PoolHistory → ℕ → PoolHistory
 swept_at options before this = with_sweep before (this / 1000000000) (oldest_from options this)
 
--- what is written of the pool's answer to a frame that came at this instant
-abbrev pub IsCallText : DumpOptions → List ℕ → PoolHistory → Layers → ℕ → List ℕ → Type 0
-IsCallText options start before layers this text =
-    IsAnswerText options start layers (answer_to before.limit (table_behind before) (frame_call layers this)) text
+-- what is written of the pool's answer to a frame that came so
+abbrev pub IsCallText : DumpOptions → List ℕ → PoolHistory → Layers → Arrival → List ℕ → Type 0
+IsCallText options start before layers at text =
+    IsAnswerText options start layers (answer_to before.limit (table_behind before) (frame_call layers at)) text
 
--- The pool is given a frame behind such a drop, and this is written of its answer.
-abbrev pub GivesFrame : DumpOptions → List ℕ → PoolHistory → ℕ → Layers → List ℕ → PoolHistory → Type 0
-GivesFrame options start before this layers text after =
-    let swept = swept_at options before this in
-    IsCallText options start swept layers this text × (after ≡ with_call swept (frame_call layers this))
+-- The pool is given a frame behind such a drop, and this is written of its answer. Of more open streams than may be the
+-- oldest is then given up.
+abbrev pub GivesFrame : DumpOptions → List ℕ → PoolHistory → Arrival → Layers → List ℕ → PoolHistory → Type 0
+GivesFrame options start before at layers text after =
+    let swept = swept_at options before at.instant in
+    IsCallText options start swept layers at text × IsBounded options.streams (with_frame swept layers at) after
 
 -- nothing is done and written
 abbrev pub DoesNothing : PoolHistory → List ℕ → PoolHistory → Type 0
 DoesNothing before text after = (text ≡ []) × (after ≡ before)
 
 -- a frame is given, if there is one
-abbrev pub GivesFound : DumpOptions → List ℕ → PoolHistory → ℕ → Option Layers → List ℕ → PoolHistory → Type 0
-GivesFound options start before this (Some layers) text after = GivesFrame options start before this layers text after
-GivesFound options start before this None text after = DoesNothing before text after
+abbrev pub GivesFound : DumpOptions → List ℕ → PoolHistory → Arrival → Option Layers → List ℕ → PoolHistory → Type 0
+GivesFound options start before at (Some layers) text after = GivesFrame options start before at layers text after
+GivesFound options start before at None text after = DoesNothing before text after
 
 -- where payloads are put together, bytes that begin so are given which are a frame, and no others
-abbrev pub GivesWhere : Bool → DumpOptions → List ℕ → PoolHistory → ℕ → Opening → List ℕ → List ℕ → PoolHistory → Type 0
-GivesWhere false options start before this opening bytes text after = DoesNothing before text after
-GivesWhere true options start before this opening bytes text after =
-    (frame : Option Layers) × IsFrameIn opening bytes frame × GivesFound options start before this frame text after
+abbrev pub GivesWhere : Bool → DumpOptions → List ℕ → PoolHistory → Arrival → Opening → List ℕ → List ℕ → PoolHistory
+    → Type 0
+GivesWhere false options start before at opening bytes text after = DoesNothing before text after
+GivesWhere true options start before at opening bytes text after =
+    (frame : Option Layers) × IsFrameIn opening bytes frame × GivesFound options start before at frame text after
 
--- What is written of the fragment that a packet carries which came at this instant, and what becomes of the pool. What
--- is no frame or is not read does nothing.
-abbrev pub IsPooled : DumpOptions → List ℕ → PoolHistory → ℕ → PlainShown → List ℕ → PoolHistory → Type 0
-IsPooled options start before this shown text after =
+-- What is written of the fragment that a packet carries which came so, and what becomes of the pool. What is no frame
+-- or is not read does nothing.
+abbrev pub IsPooled : DumpOptions → List ℕ → PoolHistory → Arrival → PlainShown → List ℕ → PoolHistory → Type 0
+IsPooled options start before at shown text after =
     ((opening : Opening) × (opening_of shown.link shown.bytes ≡ Some opening)
-    × GivesWhere options.reassemble options start before this opening (drop opening.skipped shown.bytes) text after)
+    × GivesWhere options.reassemble options start before at opening (drop opening.skipped shown.bytes) text after)
     ⊎ ((opening_of shown.link shown.bytes ≡ None) × DoesNothing before text after)

@@ -1,22 +1,33 @@
 -- What is known between two pieces of a capture.
-use Rattle.std.specs.Prelude.{◌≡◌, ℕ, ◌+◌, ◌≤◌, Bool, true, List, ◌++◌}
+use Rattle.std.specs.Prelude.{◌≡◌, ℕ, ◌+◌, ◌<◌, ◌≤◌, Bool, true, List, ◌++◌, Some}
 use Rattle.capture_reader.specs.Captures.{Item, IsCapture, PlainShown, RefusesCapture}
 use Rattle.capture_reader.specs.Readers.{Reads, reader_left, reader_offset}
 use Rattle.packet_dump.specs.Dumps.{AreAllTexts, AreFewer, Begin, IsLine, none_read, packets_in, progress_behind}
+use Rattle.etherparse.specs.Types.IpFragId.{IpFragId}
+use Rattle.packet_dump.specs.OpenStreams.{IsListed, number_at}
 use Rattle.packet_dump.specs.PacketCalls.{HoldsHistory, PoolHistory}
+use Rattle.packet_dump.specs.Saves.{GoesOn}
 use Rattle.packet_dump.specs.Shown.{first_after, instant_in, latest_after}
 use Rattle.packet_dump.specs.declared.ending.Ending.{Ending}
 use Rattle.packet_dump.specs.declared.ending.Ending.TheVariants as ending
 use Rattle.packet_dump.specs.declared.pooling.Pooling.{Pooling}
+use Rattle.packet_dump.specs.declared.saving.Saving.{Saving}
 use Rattle.packet_dump.specs.declared.session.Session.{Session}
 use Rattle.packet_dump.specs.declared.session.Standing.{Standing}
 use Rattle.packet_dump.specs.declared.session.Standing.TheVariants.{MayEnd, Enough, Cut, Refused}
 use Rattle.packet_dump.specs.declared.dump_options.DumpOptions.{DumpOptions}
 
--- this became of the pool
+-- This became of the pool. Its open streams are listed, and no fragment of one came with a later packet than the last.
 pub record HoldsPooling (history : PoolHistory) (pooling : Pooling) : Type 0 where
   pub swept : pooling.swept ≡ history.swept
   pub held : HoldsHistory history pooling.pool
+  pub listed : IsListed pooling.names pooling.pool
+  pub numbered : (name : IpFragId ℕ) (number : ℕ) → number_at name pooling.pool ≡ Some number → number ≤ history.number
+
+-- The same, and all packets that it was given came before that of this number.
+pub record AwaitsPacket (history : PoolHistory) (number : ℕ) (pooling : Pooling) : Type 0 where
+  pub holds : HoldsPooling history pooling
+  pub later : history.number < number
 
 -- The session shows so much, took these bytes, read these items at their front, and knows how many packets, which are
 -- no more than are wanted, and when the first and the last came. This became of the pool.
@@ -29,6 +40,7 @@ pub record Stands (options : DumpOptions) (session : Session) (read : List ℕ) 
   pub first : session.first ≡ (progress_behind none_read items).first
   pub latest : session.latest ≡ (progress_behind none_read items).latest
   pub pooled : HoldsPooling history session.pooling
+  pub given : history.number ≤ session.number
 
 -- how many bytes were taken
 abbrev pub taken_by : Session → ℕ
@@ -46,17 +58,20 @@ StandsSo options (Cut error) read items = AreFewer options items × RefusesCaptu
 StandsSo options (Refused error) read items =
     AreFewer options items × ((more : List ℕ) → RefusesCapture (read ++ more) (items, error))
 
--- more items were read, and their text was put together
-pub record Drained (options : DumpOptions) (session : Session) (read : List ℕ) (items : List Item) (text : List ℕ) : Type 0 where
+-- more items were read, and their text was put together, and what is saved of them
+pub record Drained (options : DumpOptions) (session : Session) (read : List ℕ) (items : List Item) (text : List ℕ)
+    (before saving : Saving) : Type 0 where
   pub more : List Item
   pub after : PoolHistory
   pub stands : Stands options session read (items ++ more) after
   pub texts : AreAllTexts options (items ++ more) (text ++ session.output.items) after
+  pub saves : GoesOn options before saving items (items ++ more)
 
 -- the same, and the capture stands so
-abbrev pub Drains : DumpOptions → Session → Standing → List ℕ → List Item → List ℕ → Type 0
-Drains options session standing read items text =
-    (drained : Drained options session read items text) × StandsSo options standing read (items ++ drained.more)
+abbrev pub Drains : DumpOptions → Session → Standing → List ℕ → List Item → List ℕ → Saving → Saving → Type 0
+Drains options session standing read items text before saving =
+    (drained : Drained options session read items text before saving) × StandsSo options standing read (items ++
+    drained.more)
 
 -- a packet was counted, and its text put together behind what became of the pool
 pub record PushesLine (old new : Session) (before : PoolHistory) (shown : PlainShown) : Type 0 where
@@ -66,6 +81,7 @@ pub record PushesLine (old new : Session) (before : PoolHistory) (shown : PlainS
   pub is : IsLine old.options (old.number + 1) (first_after old.first (instant_in shown))
       (latest_after old.latest (instant_in shown)) before shown line after
   pub pooled : HoldsPooling after new.pooling
+  pub given : after.number ≤ new.number
   pub output : new.output.items ≡ old.output.items ++ line
   pub number : new.number ≡ old.number + 1
   pub first : new.first ≡ first_after old.first (instant_in shown)

@@ -1,13 +1,15 @@
 //! From a capture in a reader to lines in a writer.
 
-ghost use Rattle.std.specs.Prelude.{◌≡◌, ◌≤◌, ◌<◌, ◌*◌, ◌+◌, ◌^◌, ◌⊎◌, ◌↔◌, false, true, IfOk, OnErr, OnOk};
+ghost use Rattle.std.specs.Prelude.{◌≡◌, ◌≤◌, ◌<◌, ◌*◌, ◌+◌, ◌^◌, ◌⊎◌, ◌↔◌, [], false, true, IfOk, OnErr, OnOk};
 ghost use Rattle.std.specs.Io.KnownBytes.{IsAtEnd};
 ghost use Rattle.line_io.specs.Transfers.{Transfers};
 ghost use Rattle.line_io.specs.WatchedWords.{has_ended, has_failed, inner_of, reads_left};
 ghost use Rattle.packet_dump.specs.Dumps.{BeginsDump, IsDump};
+ghost use Rattle.packet_dump.specs.Saves.{BeginsSaved, IsCopy, asks, is_failed, new_state};
 
 use crate::dump_options::DumpOptions;
 use crate::ending::Ending;
+use crate::saving::Saving;
 use crate::session::Session;
 use crate::summary::Summary;
 use line_io::{RunError, Watched, zeros};
@@ -25,23 +27,37 @@ pub const MOST_READS: u64 = 0x8000_0000_0000;
 ///
 /// The reader is read in pieces of 64 KiB, and what was read of them is written before the next is read. What was read
 /// is counted in the summary, as far as that is wanted.
-pub fn run<R: Read, W: Write>(
+pub fn run<R: Read, W: Write, F: Write>(
     alloc: Global,
     options: DumpOptions,
     summary: &mut Summary,
     reader: &mut Watched<R>,
     writer: &mut Watched<W>,
+    saving: &mut Saving,
+    file: &mut Watched<F>,
 ) -> Result<Ending, RunError>
     requires reader_sound { has_failed reader.old ≡ false }
     requires reader_open { has_ended reader.old ≡ false }
     requires reads { reads_left reader.old ≤ 2 ^ 47 }
     requires writer_sound { has_failed writer.old ≡ false }
+    requires file_sound { has_failed file.old ≡ false }
+    requires fresh { saving.old.state ≡ new_state (asks saving.old.state) }
+    requires empty { saving.old.bytes.items ≡ [] }
 
     // What was written is the lines of what was read, and at an error begins them.
     ensures ok { IfOk result (λ ending. Transfers (IsDump options (has_ended reader.new) ending)
         R.remaining reader.old reader.new W.contents writer.old writer.new) }
     ensures err { OnErr result (Transfers (BeginsDump options) R.remaining reader.old reader.new
         W.contents writer.old writer.new) }
+
+    // What was written into the file is the capture of the packets that are shown of what was read, and at an error
+    // begins it. Where none is wanted, it is nothing.
+    ensures saved { IfOk result (λ ending. Transfers
+        (IsCopy options (asks saving.old.state) (has_ended reader.new) ending saving.new.state)
+        R.remaining reader.old reader.new F.contents file.old file.new) }
+    ensures begun { OnErr result (Transfers (BeginsSaved options (asks saving.old.state)) R.remaining reader.old
+        reader.new F.contents file.old file.new) }
+    ensures failed { has_failed file.new ≡ is_failed saving.new.state }
 
     // A reader that has ended was read to its end, but where it still gives bytes after that many reads.
     ensures whole { OnOk result (has_ended reader.new ≡ true →
@@ -55,13 +71,15 @@ pub fn run<R: Read, W: Write>(
     let piece = buffer.as_mut_slice();
     let mut session = Session::new(alloc, options);
     'pieces: loop {
-        let standing = session.drain(summary)?;
+        let standing = session.drain(summary, saving)?;
         writer.write_all(session.output.as_slice())?;
         if standing.ends_run(reader.ended()) {
+            saving.close(file)?;
             let ending = session.ending(standing);
             session.count_pool(summary);
             return Ok(ending);
         }
+        saving.flush(file);
         let count = reader.read(piece)?;
         session.take(&piece[..count])?;
     }

@@ -78,7 +78,7 @@ fn push_stopped(
 }
 
 /// Appends the text of the transport layer, or else of what no layer was read in.
-fn push_inner(output: &mut Vec<u8>, read: &LaxSlicedPacket<'_>) -> Result<(), AllocError>
+pub fn push_inner(output: &mut Vec<u8>, read: &LaxSlicedPacket<'_>) -> Result<(), AllocError>
     ensures { OnOk result (output.new.items ≡ output.old.items ++ (let layers = layers_in (lax_layers_of read.now) in
         inner_text layers.transport (unread_in layers))) }
 {
@@ -89,7 +89,7 @@ fn push_inner(output: &mut Vec<u8>, read: &LaxSlicedPacket<'_>) -> Result<(), Al
 }
 
 /// Appends that bytes of the last payload are missing, where some are.
-fn push_incomplete(output: &mut Vec<u8>, incomplete: bool) -> Result<(), AllocError>
+pub fn push_incomplete(output: &mut Vec<u8>, incomplete: bool) -> Result<(), AllocError>
     ensures { OnOk result (output.new.items ≡ output.old.items ++ incomplete_text incomplete) }
 {
     if incomplete {
@@ -99,7 +99,7 @@ fn push_incomplete(output: &mut Vec<u8>, incomplete: bool) -> Result<(), AllocEr
 }
 
 /// Appends what is told of a transport header that is not read, since it is cut, or stands in a first fragment.
-fn push_transport_front(
+pub fn push_transport_front(
     output: &mut Vec<u8>,
     net: &Option<LaxNetSlice<'_>>,
 ) -> Result<(), AllocError>

@@ -1,6 +1,6 @@
 //! The line of a packet.
 
-ghost use Rattle.std.specs.Prelude.{◌≡◌, ◌<◌, ◌++◌, false, is_some, ℕ, List, OnOk};
+ghost use Rattle.std.specs.Prelude.{◌≡◌, ◌++◌, [], false, is_some, ℕ, List, OnOk};
 ghost use Rattle.std.specs.Option.{option_map};
 ghost use Rattle.capture_reader.specs.Readers.{shown_of};
 ghost use Rattle.etherparse.specs.Frame.{IsFrame};
@@ -9,28 +9,29 @@ ghost use Rattle.etherparse.specs.LaxPackets.{lax_layers_of};
 ghost use Rattle.etherparse.specs.Layers.{layers_of};
 ghost use Rattle.etherparse.specs.LaxViews.{lax_extensions_of, lax_net_layer_of};
 ghost use Rattle.etherparse.specs.LinkSlices.{link_layer_of};
-ghost use Rattle.packet_dump.specs.PacketContents.{Content, HoldsBehind, HoldsLaxly, bytes_text, content_with};
-ghost use Rattle.packet_dump.specs.PacketContents.{has_extensions, has_header, has_layer, in_row_text, other_link};
-ghost use Rattle.packet_dump.specs.PacketContents.{packet, refusal, row_start, rows_text};
-ghost use Rattle.packet_dump.specs.Dumps.{IsLine, IsTextBehind};
-ghost use Rattle.packet_dump.specs.PacketLines.{cut_text, end_text, fraction_text, moment_text, parts_start};
-ghost use Rattle.packet_dump.specs.PacketLines.{parts_text, seconds_in, since_text, span_text, time_text};
+ghost use Rattle.packet_dump.specs.PacketContents.{Content, HoldsLaxly, bytes_text, content_with};
+ghost use Rattle.packet_dump.specs.PacketContents.{has_extensions, has_header, has_layer, other_link, packet, refusal, shown_bytes};
+ghost use Rattle.packet_dump.specs.Details.{IsDetailed};
+ghost use Rattle.packet_dump.specs.Dumps.{HoldsDetailed, IsLine, IsTextBehind};
+ghost use Rattle.packet_dump.specs.PacketLines.{AppendsTold, cut_text, end_text, moment_text, parts_start, parts_text};
+ghost use Rattle.packet_dump.specs.PacketLines.{relative_text, tells_details, time_text};
 ghost use Rattle.packet_dump.specs.PacketCalls.{PoolHistory};
-ghost use Rattle.packet_dump.specs.Sessions.{HoldsPooling};
+ghost use Rattle.packet_dump.specs.Sessions.{AwaitsPacket, HoldsPooling};
 
-use crate::addresses::push_pair;
-use crate::dump_options::{DumpOptions, Kind};
+use crate::details::push_told;
+use crate::dump_options::{DumpOptions, Kind, TimeForm};
 use crate::layers::push_packet;
 use crate::openings::{Opening, opening_of, push_front};
 use crate::pooling::Pooling;
 use crate::refusals::push_refusal;
-use crate::shown::{instant_of, is_fine};
+use crate::rows::push_rows;
 use crate::summary::Summary;
 use capture_reader::{Shown, Time};
 use etherparse::err::packet::SliceError;
 use etherparse::laws::lax::strict_frames;
 use etherparse::{LaxLinkExtSlice, LaxNetSlice, LaxSlicedPacket, LinkSlice, SlicedPacket};
 use line_io::decimals;
+use packet_times::{instant_of, is_fine, push_epoch, push_since, push_utc};
 use std::alloc::AllocError;
 
 /// What the line of a packet is made from.
@@ -55,7 +56,7 @@ pub fn push_line(
     options: &DumpOptions,
     parts: &LineParts<'_>,
 ) -> Result<(), AllocError>
-    ensures { OnOk result ((before : PoolHistory) → HoldsPooling before pooling.old →
+    ensures { OnOk result ((before : PoolHistory) → AwaitsPacket before parts.now.number pooling.old →
         (line : List ℕ) × (after : PoolHistory) × IsLine options.now parts.now.number parts.now.first parts.now.latest
         before (shown_of parts.now.shown) line after
         × HoldsPooling after pooling.new × (output.new.items ≡ output.old.items ++ line)) }
@@ -79,7 +80,7 @@ fn push_behind(
     opening: Opening,
     bytes: &[u8],
 ) -> Result<(), AllocError>
-    ensures { OnOk result ((before : PoolHistory) → HoldsPooling before pooling.old →
+    ensures { OnOk result ((before : PoolHistory) → AwaitsPacket before parts.now.number pooling.old →
         (text : List ℕ) × (after : PoolHistory) × IsTextBehind options.now parts.now opening bytes.now before text after
         × HoldsPooling after pooling.new × (output.new.items ≡ output.old.items ++ text)) }
 {
@@ -100,7 +101,7 @@ fn push_checked(
     opening: Opening,
     bytes: &[u8],
 ) -> Result<(), AllocError>
-    ensures { OnOk result ((before : PoolHistory) → HoldsPooling before pooling.old →
+    ensures { OnOk result ((before : PoolHistory) → AwaitsPacket before parts.now.number pooling.old →
         (text : List ℕ) × (after : PoolHistory) × IsTextBehind options.now parts.now opening bytes.now before text after
         × HoldsPooling after pooling.new × (output.new.items ≡ output.old.items ++ text)) }
 {
@@ -126,7 +127,7 @@ fn push_frame(
     sliced: &SlicedPacket<'_>,
 ) -> Result<(), AllocError>
     requires frame { IsFrame opening.entry bytes.now (layers_of sliced.now) }
-    ensures { OnOk result ((before : PoolHistory) → HoldsPooling before pooling.old →
+    ensures { OnOk result ((before : PoolHistory) → AwaitsPacket before parts.now.number pooling.old →
         (text : List ℕ) × (after : PoolHistory) × IsTextBehind options.now parts.now opening bytes.now before text after
         × HoldsPooling after pooling.new × (output.new.items ≡ output.old.items ++ text)) }
 {
@@ -152,8 +153,9 @@ fn push_no_frame(
     error: &SliceError,
 ) -> Result<(), AllocError>
     requires refuses { RefusesFrame opening.entry bytes.now error.now }
-    ensures { OnOk result ((content : Content) × HoldsBehind options.now.strict opening bytes.now content
-        × (output.new.items ≡ output.old.items ++ parts_text options.now parts.now content)) }
+    ensures { OnOk result ((content : Content) × (details : List ℕ)
+        × HoldsDetailed options.now opening bytes.now content details
+        × (output.new.items ≡ output.old.items ++ parts_text options.now parts.now content details)) }
 {
     if options.strict {
         push_refused(output, summary, options, parts, error)
@@ -171,8 +173,9 @@ fn push_lax(
     opening: Opening,
     bytes: &[u8],
 ) -> Result<(), AllocError>
-    ensures { OnOk result ((content : Content) × HoldsLaxly opening bytes.now content
-        × (output.new.items ≡ output.old.items ++ parts_text options.now parts.now content)) }
+    ensures { OnOk result ((content : Content) × (details : List ℕ) × HoldsLaxly opening bytes.now content
+        × IsDetailed (tells_details options.now content) bytes.now content details
+        × (output.new.items ≡ output.old.items ++ parts_text options.now parts.now content details)) }
 {
     let mut read = LaxSlicedPacket::new();
     match read.slice_into(opening.entry, bytes) {
@@ -190,8 +193,8 @@ fn push_read(
     opening: Opening,
     read: &LaxSlicedPacket<'_>,
 ) -> Result<(), AllocError>
-    ensures { OnOk result (output.new.items ≡ output.old.items
-        ++ parts_text options.now parts.now (content_with opening (lax_layers_of read.now))) }
+    ensures { OnOk result (AppendsTold options.now parts.now read.now (content_with opening (lax_layers_of read.now))
+        output.old.items output.new.items) }
 {
     match &read.stop_err {
         Some(stop) => {
@@ -206,7 +209,7 @@ fn push_read(
 }
 
 /// Whether a layer of a packet stands.
-fn has_layer(opening: Opening, read: &LaxSlicedPacket<'_>) -> bool
+pub fn has_layer(opening: Opening, read: &LaxSlicedPacket<'_>) -> bool
     ensures { result ≡ has_layer opening (lax_layers_of read.now) }
 {
     opening.is_cooked()
@@ -242,7 +245,7 @@ fn has_extensions(extensions: &[LaxLinkExtSlice<'_>]) -> bool
     extensions.len() > 0
 }
 
-/// Appends the line of a packet of which a layer stands, where its kind is shown.
+/// Appends the line of a packet of which a layer stands, where it is shown.
 fn push_layers(
     output: &mut Vec<u8>,
     summary: &mut Summary,
@@ -251,16 +254,29 @@ fn push_layers(
     opening: Opening,
     read: &LaxSlicedPacket<'_>,
 ) -> Result<(), AllocError>
-    ensures { OnOk result (output.new.items
-        ≡ output.old.items ++ parts_text options.now parts.now (packet (lax_layers_of read.now))) }
+    ensures { OnOk result (AppendsTold options.now parts.now read.now (packet (lax_layers_of read.now))
+        output.old.items output.new.items) }
 {
     summary.count_read(read, opening.is_cooked())?;
-    if !options.shows(Kind::of(read)) {
+    if !options.shows_read(read) {
         return Ok(());
     }
-    push_start(output, parts)?;
+    push_start(output, options.time, parts)?;
     push_packet(output, read)?;
-    push_end(output, &parts.shown, options.hex, read.payload())
+    push_told(output, options.verbose, read)?;
+    push_end(
+        output,
+        &parts.shown,
+        options.hex,
+        bytes_of(options.whole, parts.shown.bytes, read),
+    )
+}
+
+/// The bytes of a packet that are shown: all of these, or its payload.
+fn bytes_of<'a>(whole: bool, bytes: &'a [u8], read: &LaxSlicedPacket<'a>) -> &'a [u8]
+    ensures { result.now ≡ shown_bytes whole (packet (lax_layers_of read.now)) bytes.now }
+{
+    if whole { bytes } else { read.payload() }
 }
 
 /// Appends the line of a packet that is refused, where such packets are shown.
@@ -272,13 +288,13 @@ fn push_refused(
     error: &SliceError,
 ) -> Result<(), AllocError>
     ensures { OnOk result (output.new.items
-        ≡ output.old.items ++ parts_text options.now parts.now (refusal error.now)) }
+        ≡ output.old.items ++ parts_text options.now parts.now (refusal error.now) []) }
 {
     summary.count_refusal(error)?;
-    if !options.shows(Some(Kind::Refused)) {
+    if !options.shows_unread(Some(Kind::Refused)) {
         return Ok(());
     }
-    push_start(output, parts)?;
+    push_start(output, options.time, parts)?;
     push_refusal(output, error)?;
     push_end(output, &parts.shown, options.hex, parts.shown.bytes)
 }
@@ -290,33 +306,41 @@ fn push_other(
     parts: &LineParts<'_>,
 ) -> Result<(), AllocError>
     ensures { OnOk result (output.new.items
-        ≡ output.old.items ++ parts_text options.now parts.now (other_link parts.now.shown.link_type)) }
+        ≡ output.old.items ++ parts_text options.now parts.now (other_link parts.now.shown.link_type) []) }
 {
-    if !options.shows(None) {
+    if !options.shows_unread(None) {
         return Ok(());
     }
-    push_start(output, parts)?;
+    push_start(output, options.time, parts)?;
     decimals::push_behind(output, b" link ", u64::from(parts.shown.link_type))?;
     push_end(output, &parts.shown, options.hex, parts.shown.bytes)
 }
 
-/// Appends what the line of a packet begins with: its number, its time since the first, and what is told of a header that
+/// Appends what the line of a packet begins with: its number, its time in this form, and what is told of a header that
 /// the program reads itself.
-pub fn push_start(output: &mut Vec<u8>, parts: &LineParts<'_>) -> Result<(), AllocError>
-    ensures { OnOk result (output.new.items ≡ output.old.items ++ parts_start parts.now) }
+pub fn push_start(
+    output: &mut Vec<u8>,
+    form: TimeForm,
+    parts: &LineParts<'_>,
+) -> Result<(), AllocError>
+    ensures { OnOk result (output.new.items ≡ output.old.items ++ parts_start form parts.now) }
 {
-    push_moment(output, parts)?;
+    push_moment(output, form, parts)?;
     push_front(output, parts.shown.link_type, parts.shown.bytes)
 }
 
-/// Appends the number of a packet, and its time since the first.
-fn push_moment(output: &mut Vec<u8>, parts: &LineParts<'_>) -> Result<(), AllocError>
+/// Appends the number of a packet, and its time.
+fn push_moment(
+    output: &mut Vec<u8>,
+    form: TimeForm,
+    parts: &LineParts<'_>,
+) -> Result<(), AllocError>
     ensures { OnOk result (output.new.items
-        ≡ output.old.items ++ moment_text parts.now.number parts.now.first (shown_of parts.now.shown)) }
+        ≡ output.old.items ++ moment_text form parts.now.number parts.now.first (shown_of parts.now.shown)) }
 {
     decimals::push(output, parts.number)?;
     output.push(b' ')?;
-    push_time(output, parts.first, parts.shown.time)
+    push_time(output, form, parts.first, parts.shown.time)
 }
 
 /// Appends what the line of a packet ends with: how much was kept where that is not all, bytes where they are wanted,
@@ -342,93 +366,34 @@ fn push_end(
     Ok(())
 }
 
-/// Appends bytes, sixteen in a row.
-pub fn push_rows(output: &mut Vec<u8>, bytes: &[u8]) -> Result<(), AllocError>
-    ensures { OnOk result (output.new.items ≡ output.old.items ++ rows_text 0 bytes.now) }
+/// Appends the time of a packet in this form, where it is known.
+fn push_time(
+    output: &mut Vec<u8>,
+    form: TimeForm,
+    first: Option<u128>,
+    time: Option<Time>,
+) -> Result<(), AllocError>
+    ensures { OnOk result (output.new.items ≡ output.old.items ++ time_text form first time) }
 {
-    for index in 0..bytes.len() {
-        push_in_row(output, index, bytes[index])?;
+    match (form, time) {
+        (TimeForm::Relative, time) => push_relative(output, first, time),
+        (TimeForm::Epoch, Some(time)) => push_epoch(output, time),
+        (TimeForm::Utc, Some(time)) => push_utc(output, time),
+        (TimeForm::Epoch | TimeForm::Utc, None) => output.extend_from_slice(b"-"),
     }
-    Ok(())
-}
-
-/// Appends a byte, in front of which a row begins at each sixteenth.
-fn push_in_row(output: &mut Vec<u8>, index: usize, byte: u8) -> Result<(), AllocError>
-    ensures { OnOk result (output.new.items ≡ output.old.items ++ in_row_text index byte) }
-{
-    if index % 16 == 0 {
-        push_row_start(output, index)?;
-    }
-    output.push(b' ')?;
-    push_pair(output, byte)
-}
-
-/// Appends a line feed and the place of the first byte of a row, by its lower 24 bits.
-fn push_row_start(output: &mut Vec<u8>, index: usize) -> Result<(), AllocError>
-    ensures { OnOk result (output.new.items ≡ output.old.items ++ row_start index) }
-{
-    output.extend_from_slice(b"\n    ")?;
-    push_pair(output, (index / 65_536 % 256) as u8)?;
-    push_pair(output, (index / 256 % 256) as u8)?;
-    push_pair(output, (index % 256) as u8)
 }
 
 /// Appends the time since the first packet, where it is known.
-fn push_time(
+fn push_relative(
     output: &mut Vec<u8>,
     first: Option<u128>,
     time: Option<Time>,
 ) -> Result<(), AllocError>
-    ensures { OnOk result (output.new.items ≡ output.old.items ++ time_text first time) }
+    ensures { OnOk result (output.new.items ≡ output.old.items ++ relative_text first time) }
 {
     match (first, time) {
         (Some(first), Some(time)) => push_since(output, is_fine(time), first, instant_of(time)),
         (Some(_), None) | (None, _) => output.extend_from_slice(b"-"),
-    }
-}
-
-/// Appends the span from one instant to another.
-fn push_since(output: &mut Vec<u8>, fine: bool, first: u128, this: u128) -> Result<(), AllocError>
-    ensures { OnOk result (output.new.items ≡ output.old.items ++ since_text fine first this) }
-{
-    if this < first {
-        output.extend_from_slice(b"-")?;
-        push_span(output, fine, first - this)
-    } else {
-        push_span(output, fine, this - first)
-    }
-}
-
-/// Appends a span of nanoseconds.
-fn push_span(output: &mut Vec<u8>, fine: bool, span: u128) -> Result<(), AllocError>
-    ensures { OnOk result (output.new.items ≡ output.old.items ++ span_text fine span) }
-{
-    decimals::push(output, seconds_in(span))?;
-    output.extend_from_slice(b".")?;
-    push_fraction(output, fine, (span % 1_000_000_000) as u64)
-}
-
-/// How many seconds are in a span of nanoseconds, at most as many as 64 bits hold.
-fn seconds_in(span: u128) -> u64
-    ensures { result ≡ seconds_in span }
-{
-    let seconds = span / 1_000_000_000;
-    if seconds < 0x1_0000_0000_0000_0000 {
-        seconds as u64
-    } else {
-        u64::MAX
-    }
-}
-
-/// Appends the digits of a fraction of a second.
-fn push_fraction(output: &mut Vec<u8>, fine: bool, nanos: u64) -> Result<(), AllocError>
-    requires { nanos < 1000000000 }
-    ensures { OnOk result (output.new.items ≡ output.old.items ++ fraction_text fine nanos) }
-{
-    if fine {
-        decimals::push_behind_first(output, 1_000_000_000 + nanos)
-    } else {
-        decimals::push_behind_first(output, 1_000_000 + nanos / 1_000)
     }
 }
 

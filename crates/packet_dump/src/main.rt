@@ -5,20 +5,24 @@
 //! of it was kept where that is not all. `packet_dump --help` lists the options.
 #![tactic(auto)]
 
-ghost use Rattle.std.specs.Prelude.{◌≡◌, ◌≢◌, ◌^◌, ◌↔◌, if◌then◌else◌, false, true, Err, IfOk, List, OnErr, OnOk, ℕ};
+ghost use Rattle.std.specs.Prelude.{◌≡◌, ◌≢◌, ◌^◌, ◌↔◌, if◌then◌else◌, [], false, true, Err, IfOk, List, OnErr};
+ghost use Rattle.std.specs.Prelude.{OnOk, ℕ};
 ghost use Rattle.std.specs.Io.KnownBytes.{Appends};
 ghost use Rattle.std.specs.Option.{option_copied};
 ghost use Rattle.std.specs.Process.{exit_status};
 ghost use Rattle.line_io.specs.Transfers.{Transfers};
 ghost use Rattle.line_io.specs.WatchedWords.{has_ended, has_failed, inner_of, reads_left};
 ghost use Rattle.packet_dump.specs.Dumps.{BeginsDump, IsSummedDump};
-ghost use Rattle.packet_dump.specs.ErrorTexts.{hint_text, magic_hint, status_of};
+ghost use Rattle.packet_dump.specs.ErrorTexts.{hint_text, magic_hint, status_of, status_with};
+ghost use Rattle.packet_dump.specs.Saves.{BeginsSaved, IsCopy, asks, is_failed, new_state};
 
 mod addresses;
 mod bytes;
+mod details;
 pub mod dump_options;
 pub mod ending;
 pub mod engine;
+mod filters;
 mod icmp_messages;
 mod layers;
 mod lines;
@@ -29,20 +33,28 @@ mod options;
 mod pool_lines;
 mod pooling;
 mod refusals;
+mod rows;
+pub mod saving;
+mod selection;
 mod session;
 mod shown;
 mod source;
 pub mod summary;
+mod target;
 mod transports;
 
 use crate::dump_options::DumpOptions;
 use crate::ending::{Ending, error_text};
 use crate::engine::{MOST_READS, run};
+use crate::filters::{FilterError, words_of};
 use crate::options::{Request, UsageError, parse};
+use crate::saving::{SaveFault, SaveState, Saving};
 use crate::source::{LONG, Source};
 use crate::summary::Summary;
+use crate::target::{NoFile, Target};
 use capture_reader::Refusal;
 use line_io::{RunError, Watched};
+use packet_filter::WordError;
 use std::alloc::Global;
 use std::io::{IsTerminal, Read, Write};
 use std::process::ExitCode;
@@ -52,39 +64,58 @@ use std::{env, fs};
 /// The text of `--help`.
 const HELP: &str = "usage: packet_dump [OPTION..] [FILE]
 
-Prints a line for each packet of a capture (pcap or pcapng): the packet's number,
-its time since the first one, its layers from the outside in, and how much of it
-was kept. Without FILE, or where it is -, standard input is read.
+Prints a line for each packet of a capture (pcap or pcapng): the packet's
+number, its time since the first one, its layers from the outside in, and how
+much of it was kept. Without FILE, or where it is -, standard input is read.
 
 What is there of a packet is read. Where a layer is cut or wrong, the line says
-'stopped' and why behind those in front of it, and only 'refused' where it is the
-first. 'incomplete': bytes are missing that a length field says are there.
+'stopped' and why behind those in front of it, and only 'refused' where it is
+the first. 'incomplete': bytes are missing that a length field says are there.
 
-  --count N          stop behind the Nth packet
+  -c, --count N      stop behind the Nth packet; as all values, also --count=N
   --only KIND        only packets of a kind: udp, tcp, icmp, arp, refused or
                      stopped
+  --host A           only packets from or to an address (IP, or ARP for IPv4),
+  --port N           a port of UDP or TCP,
+  --net A/N          an address of a network, or
+  --vlan N           with a VLAN's tag; of several words, up to six, all hold
+  --time FORM        times since the first packet (relative), in seconds since
+                     1970 (epoch) or as dates and times of day in UTC (utc)
   --strict           read only whole frames, and refuse others
-  --hex              the bytes of payloads too, 16 in a row
+  --verbose          behind its layers what else a packet says: TTL,
+                     identification, DF, priorities of VLANs, window and
+                     options of TCP, the packet that an ICMP error quotes;
+                     and whether checksums are right
+  --hex              the bytes of payloads too, 16 in a row, and as characters
+  --hex=frame        those of whole packets, headers and all
   --reassemble       put IP payloads together from their fragments: a line more
                      behind the packet that completes one, or is refused for it
   --timeout SECONDS  with --reassemble: give a payload up whose last accepted
                      fragment came longer ago (30)
   --limit BYTES      with --reassemble: put no payload together that is longer
                      (65535)
+  --write FILE       write the packets that are shown into a new file (pcap, in
+                     nanoseconds), up to one without time or of another link
+  --streams N        with --reassemble: of more than N payloads at a time give
+                     the one up whose last accepted fragment is oldest (256)
   --summary          behind the lines how much was read of what, and the errors:
                      of all packets, also of those that --only leaves out
+  --quiet            no lines; a summary says too how many refused and stopped
+                     packets were cut by the capture, and how many are malformed
+  -r FILE            what is read, as FILE alone; its name may begin with -
+  -n, -nn            taken, and says nothing: names are never looked up
   --help             this text
   --version          the version
 
-Read are Ethernet (link type 1), IP alone (12, 14, 101, 228, 229), the loopback of
-BSD (0, 108) and Linux cooked captures (113, 276). A packet of another link type
-has a line with its number, as: 7 1.500000 link 105
+Read are Ethernet (link type 1), IP alone (12, 14, 101, 228, 229), the loopback
+of BSD (0, 108) and Linux cooked captures (113, 276). A packet of another link
+type has a line with its number, as: 7 1.500000 link 105
 
 A summary follows a live run where only tcpdump is interrupted:
 tcpdump -U -w - | (trap '' INT; packet_dump --summary)
 
 It ends with 0, with 1 where the capture is none or is cut, a file cannot be
-read or a line not be written, and with 2 where the command line is wrong.
+read, or a line or packet not written, and with 2 for a wrong command line.
 ";
 
 /// The text of `--version`.
@@ -113,10 +144,20 @@ fn main(rt: HostRuntime) -> ExitCode {
         Ok(
             Request::Dump {
                 options,
+                filter,
                 path,
+                target,
                 summary,
             },
-        ) => dump(&rt, options, path, summary),
+        ) => {
+            match words_of(filter) {
+                Ok(words) => {
+                    let options = DumpOptions { words, ..options };
+                    dump(&rt, options, path, target, summary)
+                }
+                Err(error) => refused_filter(&rt, &error),
+            }
+        }
         Err(error) => refused(&rt, &error),
     }
 }
@@ -155,35 +196,112 @@ fn refused(rt: &impl Eprint, error: &UsageError<'_>) -> ExitCode
                 "packet_dump: no kind of packets: {word} (udp, tcp, icmp, arp, refused, stopped)"
             )
         }
+        UsageError::NotATimeForm(word) => {
+            eprintln!(rt; "packet_dump: no form of times: {word} (relative, epoch, utc)")
+        }
         UsageError::NotATimeout(word) => {
             eprintln!(rt; "packet_dump: no number of seconds up to 4294967295: {word}")
         }
         UsageError::NotALimit(word) => {
             eprintln!(rt; "packet_dump: no number of bytes up to 65535: {word}")
         }
+        UsageError::NotAStreamCount(word) => {
+            eprintln!(rt; "packet_dump: no number of payloads: {word}")
+        }
+        UsageError::CrowdedFilter => {
+            eprintln!(rt; "packet_dump: a filter of more than six words")
+        }
         UsageError::SecondFile(word) => eprintln!(rt; "packet_dump: a second file: {word}"),
     };
     said(rt, "packet_dump --help lists the options", 2)
 }
 
-/// Writes the lines of a file or of standard input, and the summary where it is wanted.
-fn dump(rt: &HostRuntime, options: DumpOptions, path: Option<&str>, wanted: bool) -> ExitCode {
-    let mut writer = Watched::new(rt.stdout(), 0);
+/// Says which word of a filter says nothing of its kind, and ends.
+fn refused_filter(rt: &impl Eprint, error: &FilterError<'_>) -> ExitCode
+    ensures { exit_status result ≡ 2 }
+{
+    let word = error.text;
+    let _ = match error.error {
+        WordError::NotAnAddress => eprintln!(rt; "packet_dump: no address: {word}"),
+        WordError::NotAPort => eprintln!(rt; "packet_dump: no port up to 65535: {word}"),
+        WordError::NotAVlan => eprintln!(rt; "packet_dump: no VLAN up to 4095: {word}"),
+        WordError::NotANetwork => {
+            eprintln!(rt; "packet_dump: no network as 192.0.2.0/24: {word}")
+        }
+        WordError::HostBits => {
+            eprintln!(rt; "packet_dump: a network with bits behind the first ones: {word}")
+        }
+    };
+    said(rt, "packet_dump --help lists the options", 2)
+}
+
+/// Writes the lines of a file or of standard input, the summary where it is wanted, and a file where one is.
+fn dump(
+    rt: &HostRuntime,
+    options: DumpOptions,
+    path: Option<&str>,
+    target: Option<&str>,
+    wanted: bool,
+) -> ExitCode {
     let Some(path) = path else {
         let input = Source::new(rt.stdin(), rt, "standard input", None);
-        let mut reader = Watched::new(input, MOST_READS);
-        let outcome = dump_reader(rt.alloc(), options, wanted, &mut reader, &mut writer);
-        return ended(rt, None, outcome);
+        return dump_input(rt, options, None, input, target, wanted);
     };
     match fs::open(rt, path) {
         Ok(file) => {
             let len = shown_len(rt, &file);
-            let mut reader = Watched::new(Source::new(file, rt, path, len), MOST_READS);
-            let outcome = dump_reader(rt.alloc(), options, wanted, &mut reader, &mut writer);
-            ended(rt, Some(path), outcome)
+            let input = Source::new(file, rt, path, len);
+            dump_input(rt, options, Some(path), input, target, wanted)
         }
         Err(error) => {
             let _ = eprintln!(rt; "packet_dump: {path}: {error}");
+            ExitCode::from(1)
+        }
+    }
+}
+
+/// The same of what was opened. Only then is the file made that is written, and only where none of its name is there:
+/// so it is never what is read.
+fn dump_input<R: Read + Drop>(
+    rt: &HostRuntime,
+    options: DumpOptions,
+    path: Option<&str>,
+    input: R,
+    target: Option<&str>,
+    wanted: bool,
+) -> ExitCode {
+    let mut reader = Watched::new(input, MOST_READS);
+    let mut writer = Watched::new(rt.stdout(), 0);
+    let mut saving = Saving::new(rt.alloc(), target.is_some());
+    let Some(name) = target else {
+        let mut file = Watched::new(NoFile, 0);
+        let outcome = dump_reader(
+            rt.alloc(),
+            options,
+            wanted,
+            &mut reader,
+            &mut writer,
+            &mut saving,
+            &mut file,
+        );
+        return ended(rt, path, outcome);
+    };
+    match fs::File::create_new(rt, name) {
+        Ok(created) => {
+            let mut file = Watched::new(Target::new(created, rt, name), 0);
+            let outcome = dump_reader(
+                rt.alloc(),
+                options,
+                wanted,
+                &mut reader,
+                &mut writer,
+                &mut saving,
+                &mut file,
+            );
+            saved(rt, path, outcome, name, saving.state)
+        }
+        Err(error) => {
+            let _ = eprintln!(rt; "packet_dump: {name}: {error}");
             ExitCode::from(1)
         }
     }
@@ -204,27 +322,39 @@ fn shown_len(rt: &HostRuntime, file: &fs::File) -> Option<u64> {
     }
 }
 
-/// Writes the lines of what a reader gives, which is read as often as may be, and the summary where it is wanted.
-fn dump_reader<R: Read, W: Write>(
+/// Writes the lines of what a reader gives, which is read as often as may be, the summary where it is wanted, and a
+/// file where one is.
+fn dump_reader<R: Read, W: Write, F: Write>(
     alloc: Global,
     options: DumpOptions,
     wanted: bool,
     reader: &mut Watched<R>,
     writer: &mut Watched<W>,
+    saving: &mut Saving,
+    file: &mut Watched<F>,
 ) -> Result<Ending, RunError>
     requires reader_sound { has_failed reader.old ≡ false }
     requires reader_open { has_ended reader.old ≡ false }
     requires reads { reads_left reader.old ≡ 2 ^ 47 }
     requires writer_sound { has_failed writer.old ≡ false }
+    requires file_sound { has_failed file.old ≡ false }
+    requires fresh { saving.old.state ≡ new_state (asks saving.old.state) }
+    requires empty { saving.old.bytes.items ≡ [] }
     ensures ok { IfOk result (λ ending. Transfers (IsSummedDump wanted options (has_ended reader.new) ending)
         R.remaining reader.old reader.new W.contents writer.old writer.new) }
     ensures err { OnErr result (wanted ≡ false → Transfers (BeginsDump options) R.remaining reader.old reader.new
         W.contents writer.old writer.new) }
+    ensures saved { IfOk result (λ ending. Transfers
+        (IsCopy options (asks saving.old.state) (has_ended reader.new) ending saving.new.state)
+        R.remaining reader.old reader.new F.contents file.old file.new) }
+    ensures begun { OnErr result (wanted ≡ false → Transfers (BeginsSaved options (asks saving.old.state))
+        R.remaining reader.old reader.new F.contents file.old file.new) }
+    ensures failed { has_failed file.new ≡ is_failed saving.new.state }
     ensures read { (result ≡ Err RunError.Read) ↔ (has_failed reader.new ≡ true) }
     ensures write { (result ≡ Err RunError.Write) ↔ (has_failed writer.new ≡ true) }
 {
-    let mut summary = Summary::new(alloc, wanted);
-    let ending = run(alloc, options, &mut summary, reader, writer)?;
+    let mut summary = Summary::new(alloc, wanted, options.quiet);
+    let ending = run(alloc, options, &mut summary, reader, writer, saving, file)?;
     if wanted {
         summarized(alloc, &summary, writer)?;
     }
@@ -267,6 +397,29 @@ fn ended(rt: &impl Eprint, path: Option<&str>, outcome: Result<Ending, RunError>
         }
         Err(RunError::Read) => ExitCode::from(1),
         Err(error) => said(rt, error_text(&error), 1),
+    }
+}
+
+/// How it ends behind a run that saved packets into the file of this name. Why a write failed was said then.
+fn saved(
+    rt: &impl Eprint,
+    path: Option<&str>,
+    outcome: Result<Ending, RunError>,
+    name: &str,
+    state: SaveState,
+) -> ExitCode
+    ensures { exit_status result ≡ status_with outcome state }
+{
+    let status = ended(rt, path, outcome);
+    match state {
+        SaveState::Unasked | SaveState::Open(_) => status,
+        SaveState::Stopped(SaveFault::Failed) => ExitCode::from(1),
+        SaveState::Stopped(SaveFault::Refused { number, refusal }) => {
+            let _ = eprintln!(rt;
+                "packet_dump: {name}: packet {number} and those behind it are not written: {refusal}"
+            );
+            ExitCode::from(1)
+        }
     }
 }
 

@@ -11,17 +11,19 @@ ghost use Rattle.etherparse.specs.TransportParts.{payload_in, transport_layer_of
 ghost use Rattle.packet_dump.specs.PacketLines.{parts_start};
 ghost use Rattle.packet_dump.specs.PoolLines.{Inner, IsAnswerText, IsInner, closing_text, frame_error, inner_text};
 ghost use Rattle.packet_dump.specs.PoolLines.{opening_text, part, payload_line, payload_text, pool_refusal_text};
-ghost use Rattle.packet_dump.specs.PoolLines.{refused_line, unread, unread_text};
+ghost use Rattle.packet_dump.specs.PoolLines.{meets_payload, refused_line, shows_payload, slot_holds_of, unread, unread_text};
 
-use crate::dump_options::{DumpOptions, Kind};
+use crate::dump_options::{DumpOptions, Kind, TimeForm};
 use crate::layers::{push_outer, push_protocol};
-use crate::lines::{LineParts, push_rows, push_start};
+use crate::lines::{LineParts, push_start};
 use crate::refusals::push_refusal;
+use crate::rows::push_rows;
 use crate::transports::{push_len, push_transport};
 use etherparse::defrag::{IpDefragError, IpDefragPayloadVec};
 use etherparse::err::packet::SliceError;
 use etherparse::err::tcp::HeaderSliceError;
 use etherparse::{IpNumber, LaxSlicedPacket, TransportSlice};
+use packet_filter::{Word, holds_of_payload};
 use std::alloc::{AllocError, Global};
 
 /// What lines behind that of a packet are made from.
@@ -32,6 +34,45 @@ struct Further<'a, 'b> {
     start: &'a [u8],
     /// The packet's layers.
     read: &'a LaxSlicedPacket<'b>,
+}
+
+impl Further<'_, '_> {
+    /// Whether a line of this kind is shown, of a payload of this transport layer.
+    fn shows(&self, kind: Option<Kind>, transport: &Option<TransportSlice<'_>>) -> bool
+        ensures { result ≡ shows_payload self.now.options (layers_in (lax_layers_of self.now.read.now)) kind
+            (option_map transport_layer_of transport.now) }
+    {
+        self.options.shows(kind) && meets_payload(&self.options.words, self.read, transport)
+    }
+}
+
+/// Whether all words of a filter hold of a packet whose payload has this transport layer.
+fn meets_payload(
+    words: &[Option<Word>],
+    read: &LaxSlicedPacket<'_>,
+    transport: &Option<TransportSlice<'_>>,
+) -> bool
+    ensures { result ≡ meets_payload words.now (layers_in (lax_layers_of read.now))
+        (option_map transport_layer_of transport.now) }
+{
+    words
+        .iter()
+        .all(|slot| slot_holds_of(slot, read, transport))
+}
+
+/// Whether a word holds of a packet whose payload has this transport layer, where there is one.
+fn slot_holds_of(
+    slot: &Option<Word>,
+    read: &LaxSlicedPacket<'_>,
+    transport: &Option<TransportSlice<'_>>,
+) -> bool
+    ensures { result ≡ slot_holds_of slot.now (layers_in (lax_layers_of read.now))
+        (option_map transport_layer_of transport.now) }
+{
+    match slot {
+        Some(word) => holds_of_payload(word, read, transport),
+        None => true,
+    }
 }
 
 /// Appends what the pool answered to a frame: the line of a payload that was put together, or of a fragment that is
@@ -45,13 +86,14 @@ pub fn push_answer(
 ) -> Result<(), AllocError>
     ensures memory { OnOk result (IsFalse (wants_memory answer.now)) }
     ensures text { OnOk result ((text : List ℕ)
-        × IsAnswerText options.now (parts_start parts.now) (layers_in (lax_layers_of read.now)) (plain_frame_answer answer.now) text
+        × IsAnswerText options.now (parts_start options.now.time parts.now) (layers_in (lax_layers_of read.now))
+        (plain_frame_answer answer.now) text
         × (output.new.items ≡ output.old.items ++ text)) }
 {
     if let Ok(None) = answer {
         return Ok(());
     }
-    let start = start_of(*output.allocator(), parts)?;
+    let start = start_of(*output.allocator(), options.time, parts)?;
     let further = Further {
         options: *options,
         start: start.as_slice(),
@@ -61,11 +103,11 @@ pub fn push_answer(
 }
 
 /// What the line of a packet begins with.
-fn start_of(alloc: Global, parts: &LineParts<'_>) -> Result<Vec<u8>, AllocError>
-    ensures { IfOk result (λ start. start.items ≡ parts_start parts.now) }
+fn start_of(alloc: Global, form: TimeForm, parts: &LineParts<'_>) -> Result<Vec<u8>, AllocError>
+    ensures { IfOk result (λ start. start.items ≡ parts_start form parts.now) }
 {
     let mut start = Vec::new(alloc);
-    push_start(&mut start, parts)?;
+    push_start(&mut start, form, parts)?;
     Ok(start)
 }
 
@@ -131,7 +173,7 @@ fn push_part(
         (layers_in (lax_layers_of further.now.read.now)) number.0 bytes.now
         (part (option_map transport_layer_of transport.now))) }
 {
-    if !further.options.shows(Kind::of_part(transport)) {
+    if !further.shows(Kind::of_part(transport), transport) {
         return Ok(());
     }
     push_opening(output, further)?;
@@ -193,7 +235,7 @@ fn push_unread(
     ensures { OnOk result (output.new.items ≡ output.old.items ++ payload_line further.now.options further.now.start.now
         (layers_in (lax_layers_of further.now.read.now)) number.0 bytes.now (unread error)) }
 {
-    if !further.options.shows(Some(Kind::Refused)) {
+    if !further.shows(Some(Kind::Refused), &None) {
         return Ok(());
     }
     push_opening(output, further)?;
@@ -232,7 +274,7 @@ fn push_pool_error(
     if let IpDefragError::AllocationFailure { .. } = error {
         return Err(AllocError);
     }
-    if !further.options.shows(Some(Kind::Refused)) {
+    if !further.shows(Some(Kind::Refused), &None) {
         return Ok(());
     }
     push_opening(output, further)?;

@@ -1,11 +1,12 @@
 //! What is known between two pieces of a capture.
 
-ghost use Rattle.std.specs.Prelude.{◌≡◌, ◌<◌, ◌≤◌, ◌+◌, ◌^◌, ◌++◌, [], ℕ, List, IfOk, OnOk, length};
-ghost use Rattle.capture_reader.specs.Captures.{Item};
+ghost use Rattle.std.specs.Prelude.{◌≡◌, ◌<◌, ◌≤◌, ◌+◌, ◌^◌, ◌++◌, [], ◌∷◌, ℕ, List, Some, IfOk, OnOk, length};
+ghost use Rattle.capture_reader.specs.Captures.{Item, at_start, shown_in, stage_behind};
 ghost use Rattle.capture_reader.specs.Readers.{reader_shown};
-ghost use Rattle.packet_dump.specs.Dumps.{AreAllTexts};
+ghost use Rattle.packet_dump.specs.Dumps.{AreAllTexts, packets_in};
 ghost use Rattle.packet_dump.specs.PacketCalls.{PoolHistory, new_pool};
-ghost use Rattle.packet_dump.specs.Sessions.{Counts, Drains, HoldsPooling, PushesLine, Stands, ending_of, ends_run};
+ghost use Rattle.packet_dump.specs.Saves.{GoesOn, is_failed};
+ghost use Rattle.packet_dump.specs.Sessions.{AwaitsPacket, Counts, Drains, PushesLine, Stands, ending_of, ends_run};
 ghost use Rattle.packet_dump.specs.Sessions.{taken_by};
 ghost use Rattle.packet_dump.specs.declared.dump_options.DumpOptions.{DumpOptions};
 
@@ -13,9 +14,12 @@ use crate::dump_options::DumpOptions;
 use crate::ending::Ending;
 use crate::lines::{LineParts, push_line};
 use crate::pooling::Pooling;
+use crate::saving::{SaveState, Saving};
+use crate::selection::is_selected;
 use crate::shown::{first_after, instant_in, latest_after};
 use crate::summary::Summary;
 use capture_reader::{Advance, CaptureError, CaptureReader};
+use capture_writer::laws::read_back;
 use std::alloc::{AllocError, Global};
 
 /// How a capture stands behind the bytes that were taken.
@@ -87,13 +91,19 @@ impl Session {
         self.capture.take(piece)
     }
 
-    /// Puts together the lines of the packets that were taken whole.
-    pub fn drain(&mut self, summary: &mut Summary) -> Result<Standing, AllocError>
+    /// Puts together the lines of the packets that were taken whole, and what is saved of them.
+    pub fn drain(
+        &mut self,
+        summary: &mut Summary,
+        saving: &mut Saving,
+    ) -> Result<Standing, AllocError>
         requires room { taken_by self.old < 2 ^ 64 }
         requires counts { Counts self.old }
         ensures drains { IfOk result (λ standing. (options : DumpOptions) (read : List ℕ) (items : List Item) (text : List ℕ)
             (history : PoolHistory) → Stands options self.old read items history →
-            AreAllTexts options items text history → Drains options self.new standing read items text) }
+            AreAllTexts options items text history →
+            Drains options self.new standing read items text saving.old saving.new) }
+        ensures failed { is_failed saving.new.state ≡ is_failed saving.old.state }
         ensures taken { OnOk result (taken_by self.new ≡ taken_by self.old) }
         ensures counts { OnOk result (Counts self.new) }
     {
@@ -103,7 +113,10 @@ impl Session {
                 return Ok(Standing::Enough);
             }
             match self.capture.advance() {
-                Ok(Advance::Packet) => self.push_packet(summary)?,
+                Ok(Advance::Packet) => {
+                    self.save_packet(saving)?;
+                    self.push_packet(summary)?;
+                }
                 Ok(Advance::Other) => {}
                 Ok(Advance::MayEnd) => return Ok(Standing::MayEnd),
                 Ok(Advance::Cut(error)) => return Ok(Standing::Cut(error)),
@@ -133,11 +146,35 @@ impl Session {
         }
     }
 
+    /// Saves the packet that was read last, where packets are saved and it is shown.
+    fn save_packet(&self, saving: &mut Saving) -> Result<(), AllocError>
+        requires { self.now.number + 1 < 2 ^ 64 }
+        ensures saves { OnOk result ((items : List Item) (item : Item) → self.now.number ≡ packets_in items →
+            shown_in (stage_behind at_start items) item ≡ Some (reader_shown self.now.capture) →
+            GoesOn self.now.options saving.old saving.new items (items ++ item ∷ [])) }
+        ensures failed { is_failed saving.new.state ≡ is_failed saving.old.state }
+    {
+        match saving.state {
+            SaveState::Open(link) => {
+                let shown = self.capture.shown();
+                if is_selected(&self.options, &shown) {
+                    read_back();
+                    saving.push(link, self.number + 1, &shown)
+                } else {
+                    Ok(())
+                }
+            }
+            SaveState::Unasked => Ok(()),
+            SaveState::Stopped(_) => Ok(()),
+        }
+    }
+
     /// Appends the line of the packet that was read last.
     fn push_packet(&mut self, summary: &mut Summary) -> Result<(), AllocError>
         requires { self.old.number + 1 < 2 ^ 64 }
         ensures capture { self.new.capture ≡ self.old.capture }
-        ensures line { OnOk result ((before : PoolHistory) → HoldsPooling before self.old.pooling →
+        ensures line { OnOk result ((before : PoolHistory) →
+            AwaitsPacket before (self.old.number + 1) self.old.pooling →
             PushesLine self.old self.new before (reader_shown self.old.capture)) }
         ensures counts { self.new.number ≤ self.old.number + 1 }
     {

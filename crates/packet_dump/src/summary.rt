@@ -31,6 +31,14 @@ struct Layers {
 pub struct Summary {
     /// Whether it is wanted; otherwise nothing is counted.
     wanted: bool,
+    /// Whether it tells what the capture cut and what is malformed apart.
+    apart: bool,
+    /// Whether the capture cut the packet that was counted last.
+    is_cut: bool,
+    /// How many packets were refused or stopped that the capture cut.
+    cut: u64,
+    /// The same of those that it kept whole.
+    malformed: u64,
     packets: u64,
     /// How many bytes of packets were kept.
     kept: u64,
@@ -69,10 +77,14 @@ pub struct Fragments {
 }
 
 impl Summary {
-    /// Nothing was counted.
-    pub fn new(alloc: Global, wanted: bool) -> Summary {
+    /// Nothing was counted. The summary tells what the capture cut and what is malformed apart, or does not.
+    pub fn new(alloc: Global, wanted: bool, apart: bool) -> Summary {
         Summary {
             wanted,
+            apart,
+            is_cut: false,
+            cut: 0,
+            malformed: 0,
             packets: 0,
             kept: 0,
             original: 0,
@@ -103,6 +115,7 @@ impl Summary {
             more(&mut self.packets, 1);
             more(&mut self.kept, shown.bytes.len() as u64);
             more(&mut self.original, u64::from(shown.original_len));
+            self.is_cut = (shown.bytes.len() as u64) < u64::from(shown.original_len);
         }
     }
 
@@ -121,7 +134,10 @@ impl Summary {
             more(&mut self.layers.linux_sll, 1);
         }
         match &read.stop_err {
-            Some((error, _)) => self.stopped.count(error),
+            Some((error, _)) => {
+                self.count_cause();
+                self.stopped.count(error)
+            }
             None => Ok(()),
         }
     }
@@ -129,9 +145,19 @@ impl Summary {
     /// Counts a packet of which not one layer stands.
     pub fn count_refusal(&mut self, error: &SliceError) -> Result<(), AllocError> {
         if self.wanted {
+            self.count_cause();
             self.refused.count(error)?;
         }
         Ok(())
+    }
+
+    /// Counts whether the capture cut the packet that was counted last, which was refused or stopped.
+    fn count_cause(&mut self) {
+        if self.is_cut {
+            more(&mut self.cut, 1);
+        } else {
+            more(&mut self.malformed, 1);
+        }
     }
 
     /// Counts a packet of a link type that is not read.
@@ -164,6 +190,10 @@ impl Summary {
         self.layers.push_text(&mut text)?;
         self.refused.push_text(&mut text, "refused")?;
         self.stopped.push_text(&mut text, "stopped")?;
+        if self.apart {
+            push_count(&mut text, "cut by the capture", self.cut)?;
+            push_count(&mut text, "malformed", self.malformed)?;
+        }
         self.push_unread(&mut text)?;
         if let Some(fragments) = &self.fragments {
             push_count(&mut text, "reassembled", fragments.reassembled)?;

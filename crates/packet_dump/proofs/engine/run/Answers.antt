@@ -1,11 +1,15 @@
-use Rattle.std.proofs.Common.{◌≡◌, true, rules, subst, sym, take, arith}
+use Rattle.std.proofs.Common.{◌≡◌, true, rules, subst, sym, take, arith, ◌∙◌}
 use Rattle.std.proofs.lemmas.Grind.{common_steps}
 use Rattle.std.specs.Io.KnownBytes.{Appends}
 use Rattle.line_io.specs.Transfers.{Moves}
 use Rattle.line_io.specs.WatchedWords.{AppendsFront, has_ended, inner_of}
 use Rattle.line_io.proofs.ResultLemmas.{at_exit}
 use Rattle.packet_dump.specs.Dumps.{IsDump}
+use Rattle.packet_dump.specs.Saves.{BeginsSaved, IsCopy, asks}
 use Rattle.packet_dump.specs.Sessions.{ends_run}
+use Rattle.packet_dump.proofs.CopyLemmas.{copied_begun, copied_drained, copied_ended, copied_flushed, copied_kept}
+use Rattle.packet_dump.proofs.CopyLemmas.{copied_new}
+use Rattle.packet_dump.proofs.CopyLemmas.{copied_none, copied_piece, copied_taken, new_sound}
 use Rattle.packet_dump.proofs.DumpLemmas.{Moves-begun, Moves-drained, Moves-ended, Moves-front, Moves-kept, Moves-piece}
 use Rattle.packet_dump.proofs.DumpLemmas.{Moves-new, Moves-taken}
 use Rattle.packet_dump.proofs.engine.run.Goals as goal
@@ -20,7 +24,16 @@ pieces-init g c = (
   c.new-session.ensures.counts,
   grind (arith, common_steps, c.new-session.ensures.taken, c.requires.reads),
   search rules,
+  copied_new c.args.options c.new-session.result c.args.saving.now (g.R.Read.remaining (inner_of c.args.reader.now))
+      (g.F.Write.contents (inner_of c.args.file.now)) c.new-session.ensures.stands c.requires.fresh c.requires.empty,
+  c.requires.file_sound ∙ sym (new_sound c.args.saving.now.state c.requires.fresh),
 )
+
+pub returns-in_err-buffer-clause-begun : goal.returns-in_err-buffer-clause-begun
+returns-in_err-buffer-clause-begun g c =
+    at_exit c.from_residual.result
+    (copied_none c.args.options (asks c.args.saving.now.state) (g.R.Read.remaining (inner_of c.args.reader.now))
+    (g.F.Write.contents (inner_of c.args.file.now)))
 
 pub returns-in_err-write_all-clause-err : goal.returns-in_err-write_all-clause-err
 returns-in_err-write_all-clause-err g c =
@@ -29,10 +42,61 @@ returns-in_err-write_all-clause-err g c =
     let holds = contents (inner_of c.pieces.writer) in
     let then_holds = contents (inner_of c.write_all.new.self) in
     at_exit c.from_residual-in_err-write_all.result
-    (Moves-front c.args.options c.pieces.session c.drain.new.self c.in_ok-standing.standing (remaining (inner_of c.args.reader.now))
+    (Moves-front c.args.options c.pieces.session c.drain.new.self c.in_ok-standing.standing c.pieces.saving
+    c.drain.new.saving (remaining (inner_of c.args.reader.now))
     (remaining (inner_of c.pieces.reader)) (contents (inner_of c.args.writer.now)) holds then_holds
     c.pieces.invariant.0 c.in_ok-standing.ensures.drains
     (subst (AppendsFront holds then_holds) c.as_slice.ensures.value c.in_err-write_all.ensures.front))
+
+pub returns-in_err-write_all-clause-begun : goal.returns-in_err-write_all-clause-begun
+returns-in_err-write_all-clause-begun g c =
+    at_exit c.from_residual-in_err-write_all.result
+    (copied_begun c.args.options (asks c.args.saving.now.state) c.pieces.session c.pieces.saving
+    (g.R.Read.remaining (inner_of c.args.reader.now)) (g.R.Read.remaining (inner_of c.pieces.reader))
+    (g.F.Write.contents (inner_of c.args.file.now)) (g.F.Write.contents (inner_of c.pieces.file)) c.pieces.invariant.7)
+
+pub returns-in_err-close-clause-err : goal.returns-in_err-close-clause-err
+returns-in_err-close-clause-err g c =
+    let had = g.R.Read.remaining (inner_of c.args.reader.now) in
+    let has = g.R.Read.remaining (inner_of c.pieces.reader) in
+    let held = g.W.Write.contents (inner_of c.args.writer.now) in
+    let holds = g.W.Write.contents (inner_of c.pieces.writer) in
+    let then_holds = g.W.Write.contents (inner_of c.write_all.new.self) in
+    at_exit c.from_residual-in_err-close.result
+    (Moves-begun c.args.options c.drain.new.self had has held then_holds
+    (Moves-drained c.args.options c.pieces.session c.drain.new.self c.in_ok-standing.standing c.pieces.saving
+    c.drain.new.saving
+    had has held holds then_holds c.pieces.invariant.0 c.in_ok-standing.ensures.drains
+    (subst (Appends holds then_holds) c.as_slice.ensures.value c.in_ok-write_all.ensures.all)))
+
+pub returns-in_err-close-clause-begun : goal.returns-in_err-close-clause-begun
+returns-in_err-close-clause-begun g c =
+    let wanted = asks c.args.saving.now.state in
+    let had = g.R.Read.remaining (inner_of c.args.reader.now) in
+    let has = g.R.Read.remaining (inner_of c.pieces.reader) in
+    let held = g.F.Write.contents (inner_of c.args.file.now) in
+    let holds = g.F.Write.contents (inner_of c.pieces.file) in
+    at_exit c.from_residual-in_err-close.result
+    (subst (Moves (BeginsSaved c.args.options wanted) had has held) (sym c.in_err-close.ensures.err)
+    (copied_begun c.args.options wanted c.pieces.session c.pieces.saving had has held holds c.pieces.invariant.7))
+
+pub returns-then-ends_run-clause-saved : goal.returns-then-ends_run-clause-saved
+returns-then-ends_run-clause-saved g c =
+    let wanted = asks c.args.saving.now.state in
+    let ended = has_ended c.pieces.reader in
+    let had = g.R.Read.remaining (inner_of c.args.reader.now) in
+    let has = g.R.Read.remaining (inner_of c.pieces.reader) in
+    let held = g.F.Write.contents (inner_of c.args.file.now) in
+    let holds = g.F.Write.contents (inner_of c.pieces.file) in
+    let then_holds = g.F.Write.contents (inner_of c.close.new.file) in
+    subst (λ e. Moves (IsCopy c.args.options wanted ended e c.close.new.self.state) had has held then_holds)
+    (sym c.ending-ending.ensures)
+    (copied_ended c.args.options wanted ended c.pieces.session c.drain.new.self c.in_ok-standing.standing
+    c.pieces.saving
+    c.drain.new.saving c.close.new.self had has held holds then_holds c.pieces.invariant.7
+    c.in_ok-standing.ensures.drains
+    (subst (λ e. ends_run c.in_ok-standing.standing e ≡ true) c.ended.ensures (sym c.if-ends_run.ensures))
+    c.in_ok-close.ensures.closes)
 
 pub returns-then-ends_run-clause-ok : goal.returns-then-ends_run-clause-ok
 returns-then-ends_run-clause-ok g c =
@@ -45,7 +109,8 @@ returns-then-ends_run-clause-ok g c =
     let then_holds = contents (inner_of c.write_all.new.self) in
     subst (λ e. Moves (IsDump c.args.options (has_ended c.pieces.reader) e) had has held then_holds)
     (sym c.ending-ending.ensures)
-    (Moves-ended c.args.options (has_ended c.pieces.reader) c.pieces.session c.drain.new.self c.in_ok-standing.standing had has held holds then_holds
+    (Moves-ended c.args.options (has_ended c.pieces.reader) c.pieces.session c.drain.new.self
+    c.in_ok-standing.standing c.pieces.saving c.drain.new.saving had has held holds then_holds
     c.pieces.invariant.0 c.in_ok-standing.ensures.drains
     (subst (λ e. ends_run c.in_ok-standing.standing e ≡ true) c.ended.ensures (sym c.if-ends_run.ensures))
     (subst (Appends holds then_holds) c.as_slice.ensures.value c.in_ok-write_all.ensures.all))
@@ -63,10 +128,48 @@ returns-in_err-count-clause-err g c =
     at_exit c.from_residual-in_err-count.result
     (Moves-begun c.args.options c.drain.new.self had then_has held then_holds
     (Moves-kept c.args.options c.drain.new.self had has then_has held then_holds
-    (Moves-drained c.args.options c.pieces.session c.drain.new.self c.in_ok-standing.standing had has held holds then_holds
+    (Moves-drained c.args.options c.pieces.session c.drain.new.self c.in_ok-standing.standing c.pieces.saving
+    c.drain.new.saving had has held holds then_holds
     c.pieces.invariant.0 c.in_ok-standing.ensures.drains
     (subst (Appends holds then_holds) c.as_slice.ensures.value c.in_ok-write_all.ensures.all))
     c.in_err-count.ensures.bytes))
+
+pub returns-in_err-count-clause-begun : goal.returns-in_err-count-clause-begun
+returns-in_err-count-clause-begun g c =
+    let options = c.args.options in
+    let wanted = asks c.args.saving.now.state in
+    let had = g.R.Read.remaining (inner_of c.args.reader.now) in
+    let has = g.R.Read.remaining (inner_of c.pieces.reader) in
+    let then_has = g.R.Read.remaining (inner_of c.read.new.self) in
+    let held = g.F.Write.contents (inner_of c.args.file.now) in
+    let holds = g.F.Write.contents (inner_of c.pieces.file) in
+    let then_holds = g.F.Write.contents (inner_of c.flush.new.file) in
+    at_exit c.from_residual-in_err-count.result
+    (copied_begun options wanted c.drain.new.self c.flush.new.self had then_has held then_holds
+    (copied_kept options wanted c.drain.new.self c.flush.new.self had has then_has held then_holds
+    (copied_flushed options wanted c.drain.new.self c.drain.new.saving c.flush.new.self had has held holds then_holds
+    (copied_drained options wanted c.pieces.session c.drain.new.self c.in_ok-standing.standing c.pieces.saving
+    c.drain.new.saving had has held holds c.pieces.invariant.7 c.in_ok-standing.ensures.drains)
+    c.flush.ensures.flushes c.flush.ensures.bytes) c.in_err-count.ensures.bytes))
+
+pub returns-in_err-take-clause-begun : goal.returns-in_err-take-clause-begun
+returns-in_err-take-clause-begun g c =
+    let options = c.args.options in
+    let wanted = asks c.args.saving.now.state in
+    let had = g.R.Read.remaining (inner_of c.args.reader.now) in
+    let has = g.R.Read.remaining (inner_of c.pieces.reader) in
+    let then_has = g.R.Read.remaining (inner_of c.read.new.self) in
+    let held = g.F.Write.contents (inner_of c.args.file.now) in
+    let holds = g.F.Write.contents (inner_of c.pieces.file) in
+    let then_holds = g.F.Write.contents (inner_of c.flush.new.file) in
+    at_exit c.from_residual-in_err-take.result
+    (copied_piece options wanted c.drain.new.self c.flush.new.self (take c.in_ok-count.count c.read.new.piece) had has
+    then_has
+    held then_holds
+    (copied_flushed options wanted c.drain.new.self c.drain.new.saving c.flush.new.self had has held holds then_holds
+    (copied_drained options wanted c.pieces.session c.drain.new.self c.in_ok-standing.standing c.pieces.saving
+    c.drain.new.saving had has held holds c.pieces.invariant.7 c.in_ok-standing.ensures.drains)
+    c.flush.ensures.flushes c.flush.ensures.bytes) c.in_ok-count.ensures.bytes.0)
 
 pub returns-in_err-take-clause-err : goal.returns-in_err-take-clause-err
 returns-in_err-take-clause-err g c =
@@ -80,7 +183,8 @@ returns-in_err-take-clause-err g c =
     let then_holds = contents (inner_of c.write_all.new.self) in
     at_exit c.from_residual-in_err-take.result
     (Moves-piece c.args.options c.drain.new.self (take c.in_ok-count.count c.read.new.piece) had has then_has held then_holds
-    (Moves-drained c.args.options c.pieces.session c.drain.new.self c.in_ok-standing.standing had has held holds then_holds
+    (Moves-drained c.args.options c.pieces.session c.drain.new.self c.in_ok-standing.standing c.pieces.saving
+    c.drain.new.saving had has held holds then_holds
     c.pieces.invariant.0 c.in_ok-standing.ensures.drains
     (subst (Appends holds then_holds) c.as_slice.ensures.value c.in_ok-write_all.ensures.all))
     c.in_ok-count.ensures.bytes.0)
@@ -95,13 +199,18 @@ pieces-preserved g c =
     let held = contents (inner_of c.args.writer.now) in
     let holds = contents (inner_of c.pieces.writer) in
     let then_holds = contents (inner_of c.write_all.new.self) in
+    let wanted = asks c.args.saving.now.state in
+    let file_held = g.F.Write.contents (inner_of c.args.file.now) in
+    let file_holds = g.F.Write.contents (inner_of c.pieces.file) in
+    let file_then = g.F.Write.contents (inner_of c.flush.new.file) in
     let drained = c.in_ok-standing.ensures in
     let taken = c.in_ok-take.ensures in
     let counted = c.in_ok-count.ensures.counted in
     let before = c.pieces.invariant.5 in (
       Moves-taken c.args.options c.drain.new.self c.take.new.self (take c.in_ok-count.count c.read.new.piece) had has then_has held
           then_holds
-          (Moves-drained c.args.options c.pieces.session c.drain.new.self c.in_ok-standing.standing had has held holds then_holds
+          (Moves-drained c.args.options c.pieces.session c.drain.new.self c.in_ok-standing.standing c.pieces.saving
+          c.drain.new.saving had has held holds then_holds
           c.pieces.invariant.0 drained.drains
           (subst (Appends holds then_holds) c.as_slice.ensures.value c.in_ok-write_all.ensures.all))
           c.in_ok-count.ensures.bytes.0 taken.stands,
@@ -111,7 +220,24 @@ pieces-preserved g c =
       taken.counts drained.counts,
       grind (arith, common_steps, taken.taken, drained.taken, counted, before),
       c.in_ok-count.ensures.end,
+      copied_taken c.args.options wanted c.drain.new.self c.take.new.self c.flush.new.self
+          (take c.in_ok-count.count c.read.new.piece) had has then_has file_held file_then
+          (copied_flushed c.args.options wanted c.drain.new.self c.drain.new.saving c.flush.new.self had has file_held
+          file_holds
+          file_then
+          (copied_drained c.args.options wanted c.pieces.session c.drain.new.self c.in_ok-standing.standing
+          c.pieces.saving
+          c.drain.new.saving had has file_held file_holds c.pieces.invariant.7 drained.drains)
+          c.flush.ensures.flushes c.flush.ensures.bytes) c.in_ok-count.ensures.bytes.0 taken.stands,
+      c.flush.ensures.failed,
     )
+
+pub returns-in_err-standing-clause-begun : goal.returns-in_err-standing-clause-begun
+returns-in_err-standing-clause-begun g c =
+    at_exit c.from_residual-in_err-standing.result
+    (copied_begun c.args.options (asks c.args.saving.now.state) c.pieces.session c.pieces.saving
+    (g.R.Read.remaining (inner_of c.args.reader.now)) (g.R.Read.remaining (inner_of c.pieces.reader))
+    (g.F.Write.contents (inner_of c.args.file.now)) (g.F.Write.contents (inner_of c.pieces.file)) c.pieces.invariant.7)
 
 pub returns-in_err-standing-clause-err : goal.returns-in_err-standing-clause-err
 returns-in_err-standing-clause-err g c =

@@ -2,7 +2,9 @@ use Rattle.std.proofs.Common.{◌≡◌, ◌≤◌, ◌*◌, ◌+◌, ◌^◌, f
 use Rattle.std.specs.Io.KnownBytes.{IsAtEnd}
 use Rattle.line_io.specs.Transfers.{Moves}
 use Rattle.line_io.specs.WatchedWords.{has_failed, inner_of, is_at_end, reads_left}
+use Rattle.packet_dump.specs.Saves.{asks, is_failed}
 use Rattle.packet_dump.specs.Sessions.{Counts, taken_by}
+use Rattle.packet_dump.proofs.CopyLemmas.{Copied}
 use Rattle.packet_dump.proofs.DumpLemmas.{Told}
 use Rattle.packet_dump.proofs.engine.run.Given as goal
 
@@ -14,6 +16,10 @@ invariant-pieces g l =
     × (has_failed l.reader ≡ false) × (has_failed l.writer ≡ false) × (length l.piece ≡ 65536)
     × Counts l.session × (taken_by l.session + 65536 * reads_left l.reader ≤ 2 ^ 63)
     × (is_at_end l.reader ≡ true → IsAtEnd (g.R.Read.remaining (inner_of l.reader)))
+    × Moves (Copied l.fn.options (asks l.initial.saving.state) l.session l.saving)
+    (g.R.Read.remaining (inner_of l.initial.reader)) (g.R.Read.remaining (inner_of l.reader))
+    (g.F.Write.contents (inner_of l.initial.file)) (g.F.Write.contents (inner_of l.file))
+    × (has_failed l.file ≡ is_failed l.saving.state)
 
 abbrev pub decreases-pieces : goal.decreases-pieces
 decreases-pieces g l = reads_left l.reader

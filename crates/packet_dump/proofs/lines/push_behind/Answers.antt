@@ -3,6 +3,7 @@ use Rattle.std.proofs.lemmas.List.{append-nil}
 use Rattle.std.proofs.lemmas.Result.{on_ok_weaker}
 use Rattle.packet_dump.specs.PacketContents.{HoldsBehind}
 use Rattle.packet_dump.specs.PacketLines.{parts_start, parts_text}
+use Rattle.packet_dump.specs.PoolLines.{arrival_of}
 use Rattle.packet_dump.proofs.PoolLemmas.{not_given}
 use Rattle.packet_dump.proofs.ReadingLemmas.{neither}
 use Rattle.packet_dump.proofs.lines.push_behind.Goals as goal
@@ -16,16 +17,18 @@ returns-else-asks_frames c =
     let none = neither options.strict options.reassemble (sym c.asks_frames.ensures ∙ c.if-asks_frames.false) in
     on_ok_weaker c.push_lax.result
     (λ told before held.
-    let line = parts_text options parts told.0 in (
+    let line = parts_text options parts told.0 told.1 in (
       line ++ [],
       before,
       (
         told.0,
+        told.1,
         [],
-        subst (λ s. HoldsBehind s opening bytes told.0) (sym none.0) told.1,
-        not_given options.reassemble options (parts_start parts) before parts.latest opening bytes none.1,
+        (subst (λ s. HoldsBehind s opening bytes told.0) (sym none.0) told.2, told.3),
+        not_given options.reassemble options (parts_start options.time parts) before (arrival_of parts) opening bytes
+            none.1,
         refl,
       ),
-      held,
-      told.2 ∙ ap (λ (t : List ℕ). c.args.output.now.items ++ t) (sym (append-nil line)),
+      held.holds,
+      told.4 ∙ ap (λ (t : List ℕ). c.args.output.now.items ++ t) (sym (append-nil line)),
     )) c.push_lax.ensures

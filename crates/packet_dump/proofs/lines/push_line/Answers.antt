@@ -1,10 +1,12 @@
-use Rattle.std.proofs.Common.{◌≡◌, ◌++◌, ◌-◌, ℕ, List, [], Some, drop, inl, inr, length, length-drop, take, refl, sym, subst, ◌∙◌, arith}
+use Rattle.std.proofs.Common.{◌≡◌, ◌++◌, ◌-◌, ℕ, List, [], Option, Some, ap, drop, inl, inr, length, length-drop, take, refl, sym, subst, ◌∙◌, arith}
 use Rattle.std.proofs.lemmas.List.{append-nil, take_all}
 use Rattle.std.proofs.lemmas.Result.{on_ok_weaker}
-use Rattle.packet_dump.specs.Openings.{opening_of}
+use Rattle.packet_dump.specs.Details.{IsDetailed}
+use Rattle.packet_dump.specs.Openings.{bytes_behind, opening_of}
 use Rattle.packet_dump.specs.PacketContents.{HoldsBehind, other_link}
-use Rattle.packet_dump.specs.PacketLines.{parts_start, parts_text}
-use Rattle.packet_dump.specs.PoolLines.{GivesWhere}
+use Rattle.packet_dump.specs.PacketLines.{parts_start, parts_text, tells_details}
+use Rattle.packet_dump.specs.PoolLines.{GivesWhere, arrival_of}
+use Rattle.packet_dump.specs.declared.openings.Opening.{Opening}
 use Rattle.packet_dump.proofs.lines.push_line.Goals as goal
 
 pub returns-in_default : goal.returns-in_default
@@ -14,10 +16,10 @@ returns-in_default c =
     let unread = sym c.opening_of.ensures.value ∙ c.in_default.is in
     on_ok_weaker c.push_other.result
     (λ pushed before held. (
-      parts_text c.args.options.now parts content ++ [],
+      parts_text c.args.options.now parts content [] ++ [],
       before,
-      (content, [], inr (unread, refl), inr (unread, (refl, refl)), refl),
-      held,
+      (content, [], [], inr (unread, refl), refl, inr (unread, (refl, refl)), refl),
+      held.holds,
       rw append-nil pushed,
     )) c.push_other.ensures
 
@@ -32,6 +34,7 @@ returns c =
     let behind = drop opening.skipped bytes in
     let whole : take (length bytes - opening.skipped) behind ≡ behind =
     take_all (length bytes - opening.skipped) behind (omega (arith, length-drop opening.skipped bytes)) in
+    let read = whole ∙ sym (ap (λ (o : Option Opening). bytes_behind o bytes) there) in
     on_ok_weaker c.push_behind.result
     (λ pushed before held.
     let told = pushed before held in
@@ -41,14 +44,16 @@ returns c =
       (
         line.0,
         line.1,
-        inl (opening, there, subst (λ (b : List ℕ). HoldsBehind options.strict opening b line.0) whole line.2),
+        line.2,
+        inl (opening, there, subst (λ (b : List ℕ). HoldsBehind options.strict opening b line.0) whole line.3.0),
+        subst (λ (b : List ℕ). IsDetailed (tells_details options line.0) b line.0 line.1) read line.3.1,
         inl (
           opening,
           there,
-          subst (λ (b : List ℕ). GivesWhere options.reassemble options (parts_start parts) before parts.latest opening b
-              line.1 told.1) whole line.3,
+          subst (λ (b : List ℕ). GivesWhere options.reassemble options (parts_start options.time parts) before
+              (arrival_of parts) opening b line.2 told.1) whole line.4,
         ),
-        line.4,
+        line.5,
       ),
       told.3,
       told.4,

@@ -1,44 +1,42 @@
 -- What all words come to is the answer.
-use Rattle.std.proofs.Common.{◌≡◌, Err, Ok, Option, refl, subst, sym, ◌∙◌}
-use Rattle.std.proofs.lemmas.Result.{err_from_is_err_and}
+use Rattle.std.proofs.Common.{◌≡◌, Err, Ok, sym, ◌∙◌}
 use Rattle.packet_dump.specs.Options.{answer_of, asked_of, fault_of, texts}
-use Rattle.packet_dump.specs.OptionSteps.{StepGives, first_state, reading_state, step}
-use Rattle.packet_dump.specs.declared.options.Request.{Request}
-use Rattle.packet_dump.proofs.OptionLemmas.{asked_from, err_from, ok_from, outcome, refused_from, runs_out, stops}
+use Rattle.packet_dump.specs.OptionSteps.{first_state, reading_state}
+use Rattle.packet_dump.proofs.OptionLemmas.{asked_from, err_from, goes_on, ok_from, outcome, refused_from, runs_out}
+use Rattle.packet_dump.proofs.OptionLemmas.{stops}
 use Rattle.packet_dump.proofs.options.parse.Goals as goal
 
-pub returns-in_err-request : goal.returns-in_err-request
-returns-in_err-request c =
-    let error = err_from_is_err_and c.from_residual.result c.from_residual.ensures.1 in
-    let same : Err (fault_of c.in_err-request.field-0.0) ≡ answer_of c.from_residual.result =
-    rw (error.1, error.2) refl in
-    let answer : outcome (texts c.args.words.now) first_state ≡ answer_of c.from_residual.result =
+pub loop-word-preserved : goal.loop-word-preserved
+loop-word-preserved c =
+    goes_on c.args.words.now c.loop-word.word-index c.word-item.result c.as_str.result.now
+    (reading_state c.loop-word.reading) (reading_state c.push.new.self) c.loop-word-test.true c.word-item.is
+    c.as_str.ensures.value (rw c.in-Ok-None.field-0-is at c.in-Ok-None.ensures) c.loop-word.invariant
+
+pub returns-in-Err : goal.returns-in-Err
+returns-in-Err c =
+    let answer : outcome (texts c.args.words.now) first_state ≡ answer_of (Err c.in-Err.error) =
     stops c.args.words.now c.loop-word.word-index c.word-item.result c.as_str.result.now
-    (reading_state c.loop-word.reading) (Err (fault_of c.in_err-request.field-0.0)) c.loop-word-test.true
-    c.word-item.is c.as_str.ensures.value c.in_err-request.ensures c.loop-word.invariant
-    ∙ same in
+    (reading_state c.loop-word.reading) (Err (fault_of c.in-Err.error)) c.loop-word-test.true
+    c.word-item.is c.as_str.ensures.value c.in-Err.ensures c.loop-word.invariant in
     record {
-      ok = ok_from (texts c.args.words.now) c.from_residual.result answer;
-      err = err_from (texts c.args.words.now) c.from_residual.result answer;
-      asked = asked_from (texts c.args.words.now) (answer_of c.from_residual.result) answer;
-      refused = refused_from (texts c.args.words.now) (answer_of c.from_residual.result) answer;
+      ok = ok_from (texts c.args.words.now) (Err c.in-Err.error) answer;
+      err = err_from (texts c.args.words.now) (Err c.in-Err.error) answer;
+      asked = asked_from (texts c.args.words.now) (answer_of (Err c.in-Err.error)) answer;
+      refused = refused_from (texts c.args.words.now) (answer_of (Err c.in-Err.error)) answer;
     }
 
-pub returns-in-Some : goal.returns-in-Some
-returns-in-Some c =
-    let gives = subst (λ (found : Option Request).
-    StepGives (step (reading_state c.loop-word.reading) c.as_str.result.now) (reading_state c.push.new.self)
-    (Ok found))
-    c.in-Some.is c.in_ok-request.ensures in
-    let answer : outcome (texts c.args.words.now) first_state ≡ answer_of (Ok c.in-Some.request) =
+pub returns-in-Ok-Some : goal.returns-in-Ok-Some
+returns-in-Ok-Some c =
+    let gives = rw c.in-Ok-Some.field-0-is at c.in-Ok-Some.ensures in
+    let answer : outcome (texts c.args.words.now) first_state ≡ answer_of (Ok c.in-Ok-Some.request) =
     stops c.args.words.now c.loop-word.word-index c.word-item.result c.as_str.result.now
-    (reading_state c.loop-word.reading) (Ok (asked_of c.in-Some.request)) c.loop-word-test.true
+    (reading_state c.loop-word.reading) (Ok (asked_of c.in-Ok-Some.request)) c.loop-word-test.true
     c.word-item.is c.as_str.ensures.value gives c.loop-word.invariant in
     record {
-      ok = ok_from (texts c.args.words.now) (Ok c.in-Some.request) answer;
-      err = err_from (texts c.args.words.now) (Ok c.in-Some.request) answer;
-      asked = asked_from (texts c.args.words.now) (answer_of (Ok c.in-Some.request)) answer;
-      refused = refused_from (texts c.args.words.now) (answer_of (Ok c.in-Some.request)) answer;
+      ok = ok_from (texts c.args.words.now) (Ok c.in-Ok-Some.request) answer;
+      err = err_from (texts c.args.words.now) (Ok c.in-Ok-Some.request) answer;
+      asked = asked_from (texts c.args.words.now) (answer_of (Ok c.in-Ok-Some.request)) answer;
+      refused = refused_from (texts c.args.words.now) (answer_of (Ok c.in-Ok-Some.request)) answer;
     }
 
 pub returns : goal.returns

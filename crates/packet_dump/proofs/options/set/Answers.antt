@@ -1,14 +1,32 @@
 -- The item that the value says.
 use Rattle.std.proofs.Common.{rules}
-use Rattle.packet_dump.specs.Options.{count, limit, only, timeout}
+use Rattle.packet_dump.specs.Options.{count, filter, limit, only, streams, time, timeout, write}
+use Rattle.packet_dump.specs.OptionSteps.{input_in}
+use Rattle.packet_dump.proofs.ValueLemmas.{filter_value, input_keeps, input_value, write_value}
 use Rattle.packet_dump.proofs.options.set.Goals as goal
 use Rattle.packet_dump.proofs.options.set.Goals.{in-Count+in_ok-options-in-Count, in-Only+in_ok-ok_or-in-Only}
+use Rattle.packet_dump.proofs.options.set.Goals.{in-Filter, in-Input, in-Write, in-Time+in_ok-options-in-Time}
+use Rattle.packet_dump.proofs.options.set.Goals.{in-Streams+in_ok-options-in-Streams}
 use Rattle.packet_dump.proofs.options.set.Goals.{in-Timeout+in_ok-options-in-Timeout, in-Limit+in_ok-options-in-Limit}
 
 pub returns-clause-ok : goal.returns-clause-ok
 returns-clause-ok c = elim c.match-option.branch [
   | in-Count+in_ok-options-in-Count w ↦ (count w.in_ok-options-in-Count.field-0, search rules, search rules)
   | in-Only+in_ok-ok_or-in-Only w ↦ (only w.in_ok-ok_or-in-Only.field-0, search rules, search rules)
+  | in-Time+in_ok-options-in-Time w ↦ (time w.in_ok-options-in-Time.field-0, search rules, search rules)
   | in-Timeout+in_ok-options-in-Timeout w ↦ (timeout w.in_ok-options-in-Timeout.field-0, search rules, search rules)
   | in-Limit+in_ok-options-in-Limit w ↦ (limit w.in_ok-options-in-Limit.field-0, search rules, search rules)
+  | in-Streams+in_ok-options-in-Streams w ↦ (streams w.in_ok-options-in-Streams.field-0, search rules, search rules)
+  | in-Write w ↦ (write c.args.text.now, write_value c.args.option c.args.text.now w.in-Write.is, search rules)
+  | in-Filter w ↦ (
+    filter w.in-Filter.field-0 c.args.text.now,
+    filter_value c.args.option w.in-Filter.field-0 c.args.text.now w.in-Filter.is,
+    search rules,
+  )
+  | in-Input w ↦
+      let keeps = input_keeps c.args.options.now c.args.text.now in (
+        input_in c.args.text.now,
+        input_value c.args.option c.args.text.now w.in-Input.is,
+        search (rules, keeps),
+      )
 ]

@@ -1,15 +1,27 @@
-use Rattle.std.proofs.Common.{◌∙◌}
+use Rattle.std.proofs.Common.{◌∙◌, sym}
 use Rattle.packet_dump.specs.PacketCalls.{table_behind}
+use Rattle.packet_dump.proofs.OpenLemmas.{same_listed, same_number}
 use Rattle.packet_dump.proofs.pooling.Pooling.give_back.Goals as goal
 
 pub returns-in-Ok-Some : goal.returns-in-Ok-Some
-returns-in-Ok-Some c = λ before held. record {
-  swept = held.swept;
-  held = record {
-    limit = c.return_buf.ensures.limit ∙ held.held.limit;
-    table = c.return_buf.ensures.holds (table_behind before) held.held.table;
-  };
-}
+returns-in-Ok-Some c = λ before held.
+    let old = c.args.self.now.pool in
+    let new = c.return_buf.new.self in
+    let same = same_number old new c.return_buf.ensures.streams in
+    record {
+      swept = held.swept;
+      held = record {
+        limit = c.return_buf.ensures.limit ∙ held.held.limit;
+        table = c.return_buf.ensures.holds (table_behind before) held.held.table;
+      };
+      listed = same_listed c.args.self.now.names old new same held.listed;
+      numbered = λ name number is. held.numbered name number (sym (same name) ∙ is);
+    }
 
 pub returns-in-Err : goal.returns-in-Err
-returns-in-Err c = λ before held. record { swept = held.swept; held = held.held }
+returns-in-Err c = λ before held. record {
+  swept = held.swept;
+  held = held.held;
+  listed = held.listed;
+  numbered = held.numbered;
+}

@@ -8,23 +8,28 @@ use Rattle.packet_dump.proofs.session.Session.drain.Goals as goal
 pub items-init : goal.items-init
 items-init c = (
   λ options read items text history stands texts.
-      drains_start options c.args.self.now _ refl refl refl refl refl refl c.clear.ensures.items read items text history stands
-      texts,
+      drains_start options c.args.self.now _ refl refl refl refl refl refl c.clear.ensures.items read items text history
+      c.args.saving.now stands texts,
   refl,
   c.requires.counts,
+  refl,
 )
 
-pub items-preserved-in-Continue-1 : goal.items-preserved-in-Continue-1
-items-preserved-in-Continue-1 c =
+pub items-preserved-in-Continue-branch-2 : goal.items-preserved-in-Continue-branch-2
+items-preserved-in-Continue-branch-2 c =
     let advanced = rw c.in-Ok-Packet.field-0-is at c.in-Ok-Packet.ensures in
+    let saved = c.in_ok-save_packet-in-Ok-Packet.ensures in
     let pushed = c.in_ok-push_packet-in-Ok-Packet.ensures in (
       λ options read items text history stands texts.
           let drained = c.items.invariant.0 options read items text history stands texts in
-          drains_packet options c.items.self c.push_packet.new.self c.advance.new.self read items text drained
-          (advanced.reads read (items ++ drained.more) drained.stands.reads) pushed.line pushed.capture c.if-self.false,
+          drains_packet options c.items.self c.push_packet.new.self c.advance.new.self read items text c.args.saving.now
+          c.items.saving c.save_packet.new.saving drained
+          (advanced.reads read (items ++ drained.more) drained.stands.reads) pushed.line saved.saves pushed.capture
+          c.if-self.false,
       ap (λ r. reader_offset r + reader_left r) pushed.capture ∙ advanced.total ∙ c.items.invariant.1,
       counts_packet c.items.self c.push_packet.new.self c.advance.new.self pushed.counts pushed.capture
           advanced.total (advanced.less tt) c.items.invariant.2,
+      saved.failed ∙ c.items.invariant.3,
     )
 
 pub items-preserved : goal.items-preserved
@@ -33,9 +38,11 @@ items-preserved c =
       λ options read items text history stands texts.
           let drained = c.items.invariant.0 options read items text history stands texts in
           let found = advanced.reads read (items ++ drained.more) drained.stands.reads in
-          drains_other options c.items.self _ read items text drained found.0 found.1 found.2 refl refl refl refl refl refl,
+          drains_other options c.items.self _ read items text c.args.saving.now c.items.saving drained found.0 found.1
+          found.2 refl refl refl refl refl refl,
       advanced.total ∙ c.items.invariant.1,
       counts_kept _ _ _ c.items.invariant.2 advanced.grows,
+      c.items.invariant.3,
     )
 
 pub returns-in-Ok-MayEnd-clause-drains : goal.returns-in-Ok-MayEnd-clause-drains
@@ -44,7 +51,8 @@ returns-in-Ok-MayEnd-clause-drains c =
     λ options read items text history stands texts.
     let drained = c.items.invariant.0 options read items text history stands texts in
     let found = advanced.reads read (items ++ drained.more) drained.stands.reads in
-    drains_end options c.items.self _ standing.MayEnd read items text drained found.0 refl refl refl refl refl refl
+    drains_end options c.items.self _ standing.MayEnd read items text c.args.saving.now c.items.saving drained
+    found.0 refl refl refl refl refl refl
     (fewer_read options c.items.self read (items ++ drained.more) drained.after drained.stands c.if-self.false, found.1)
 
 pub returns-in-Ok-MayEnd-clause-counts : goal.returns-in-Ok-MayEnd-clause-counts
@@ -56,7 +64,9 @@ returns-in-Ok-Cut-clause-drains c =
     λ options read items text history stands texts.
     let drained = c.items.invariant.0 options read items text history stands texts in
     let found = advanced.reads read (items ++ drained.more) drained.stands.reads in
-    drains_end options c.items.self _ (standing.Cut c.in-Ok-Cut.error) read items text drained found.0 refl refl refl refl refl refl
+    drains_end options c.items.self _ (standing.Cut c.in-Ok-Cut.error) read items text c.args.saving.now
+    c.items.saving drained
+    found.0 refl refl refl refl refl refl
     (fewer_read options c.items.self read (items ++ drained.more) drained.after drained.stands c.if-self.false, found.1)
 
 pub returns-in-Ok-Cut-clause-counts : goal.returns-in-Ok-Cut-clause-counts
@@ -67,7 +77,9 @@ returns-in-Err-clause-drains c =
     λ options read items text history stands texts.
     let drained = c.items.invariant.0 options read items text history stands texts in
     let found = c.in-Err.ensures.reads read (items ++ drained.more) drained.stands.reads in
-    drains_end options c.items.self _ (standing.Refused c.in-Err.error) read items text drained found.0 refl refl refl refl refl refl
+    drains_end options c.items.self _ (standing.Refused c.in-Err.error) read items text c.args.saving.now
+    c.items.saving drained
+    found.0 refl refl refl refl refl refl
     (fewer_read options c.items.self read (items ++ drained.more) drained.after drained.stands c.if-self.false, found.1)
 
 pub returns-in-Err-clause-counts : goal.returns-in-Err-clause-counts
@@ -77,5 +89,6 @@ pub returns-then-self-clause-drains : goal.returns-then-self-clause-drains
 returns-then-self-clause-drains c =
     λ options read items text history stands texts.
     let drained = c.items.invariant.0 options read items text history stands texts in
-    drains_end options c.items.self _ standing.Enough read items text drained drained.stands.reads refl refl refl refl refl refl
+    drains_end options c.items.self _ standing.Enough read items text c.args.saving.now c.items.saving drained
+    drained.stands.reads refl refl refl refl refl refl
     (enough_read options c.items.self read (items ++ drained.more) drained.after drained.stands c.if-self.true)

@@ -10,5 +10,6 @@ returns-clause-line c =
     on_ok_weaker c.push_line.result
     (λ pushed before held.
     pushes self _ (shown_of c.shown-shown.result) (reader_shown self.capture) c.instant_in-this.result
-    c.first_after-first.result c.latest_after-latest.result before refl c.shown-shown.ensures c.instant_in-this.ensures
-    c.first_after-first.ensures c.latest_after-latest.ensures refl refl refl (pushed before held)) c.push_line.ensures
+    c.first_after-first.result c.latest_after-latest.result before held.later refl c.shown-shown.ensures
+    c.instant_in-this.ensures c.first_after-first.ensures c.latest_after-latest.ensures refl refl refl
+    (pushed before held)) c.push_line.ensures

@@ -1,0 +1,26 @@
+-- A value is said, or none is.
+use Rattle.std.proofs.Common.{◌≡◌, Bool, Option, None, ap, rules, sym, ◌∙◌}
+use Rattle.packet_dump.specs.Options.{Item}
+use Rattle.packet_dump.proofs.ValueLemmas.{value_in-none, value_in-some}
+use Rattle.packet_dump.specs.OptionSteps.{State, behind_item, behind_value, more, reading_state}
+use Rattle.packet_dump.specs.declared.options.Awaited.TheVariants.{Input}
+use Rattle.packet_dump.proofs.OptionLemmas.{no_input, set_item}
+use Rattle.packet_dump.proofs.options.Reading.push_value.Goals as goal
+
+pub returns-in_err-set : goal.returns-in_err-set
+returns-in_err-set c =
+    let no_value_in = value_in-none c.args.option c.args.text.now c.in_err-set.ensures.bad in
+    search (rules, no_value_in)
+
+pub returns : goal.returns
+returns c =
+    let option = c.args.option in
+    let text = c.args.text.now in
+    let state = reading_state c.args.self.now in
+    let said = c.in_ok-set.ensures.ok in
+    let apart : option ≡ Input → ⊥ = search rules in
+    let plain = no_input option text said.0 said.1 apart in
+    let set = set_item option text said.0 state _ said.1 said.2 plain in
+    ap (λ (o : Option Item). behind_value state option text o) (value_in-some option text said.0 said.1)
+    ∙ ap (λ (b : Bool). behind_item state text said.0 b) plain
+    ∙ ap (λ (s : State). more (record s { awaited = None })) (sym (c.add_filter.ensures ∙ set))

@@ -1,0 +1,27 @@
+use Rattle.std.proofs.Common.{arith, refl, sym}
+use Rattle.std.specs.BTreeMap.{keys}
+use Rattle.std.proofs.lemmas.Map.Entries.{length-keys_of}
+use Rattle.packet_dump.proofs.PoolLemmas.{are_open, gives_up, none_given_up}
+use Rattle.packet_dump.specs.PacketCalls.{table_behind}
+use Rattle.packet_dump.proofs.pooling.Pooling.bound.Goals as goal
+
+pub returns-then-len-most : goal.returns-then-len-most
+returns-then-len-most c = λ before held.
+    let names = c.args.self.now.names in (
+      before,
+      (
+        keys names,
+        are_open c.args.self.now before held c.len.ensures.ordered,
+        sym (none_given_up c.args.most before (keys names) (omega (arith, length-keys_of names.entries))),
+      ),
+      held,
+    )
+
+pub returns-in-Some : goal.returns-in-Some
+returns-in-Some c = λ before held.
+    let number = c.in-Some.field-0-0 in
+    let name = c.in-Some.name in
+    gives_up c.args.self.now before held number name c.in-Some.ensures.value c.in-Some.ensures.least
+    c.one_more_call.ensures _ c.args.most c.len.ensures.ordered (omega arith) c.in-Some.ensures.removal
+    c.in-Some.ensures.updates.0 refl
+    (c.remove.ensures.holds (table_behind before) held.held.table) c.remove.ensures.ends

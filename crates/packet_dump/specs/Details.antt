@@ -1,0 +1,61 @@
+-- What is told of a packet beside the line's layers.
+use Rattle.std.specs.Prelude.{◌≡◌, ◌⊎◌, ℕ, Bool, true, false, List, [], ◌++◌, Option, Some, None, codes}
+use Rattle.std.specs.Option.{option_and_then, option_map}
+use Rattle.detail_texts.specs.PacketDetails.{IsPacketDetails}
+use Rattle.detail_texts.specs.Quoted.{quoted_in}
+use Rattle.etherparse.specs.Lax.{IsLax}
+use Rattle.etherparse.specs.LaxLayers.{LaxLayers}
+use Rattle.etherparse.specs.LaxPackets.{ShowsLax, lax_layers_of}
+use Rattle.etherparse.specs.LaxRefusals.{RefusesLax}
+use Rattle.etherparse.specs.Layers.{Layers}
+use Rattle.etherparse.specs.StrictFrames.{layers_in}
+use Rattle.etherparse.specs.TransportParts.{transport_layer_of}
+use Rattle.etherparse.specs.Types.Entry.TheVariants.{Ip}
+use Rattle.etherparse.specs.Types.LaxSlicedPacket.{LaxSlicedPacket}
+use Rattle.etherparse.specs.Types.Layer.{Layer}
+use Rattle.etherparse.specs.Types.SliceError.{SliceError}
+use Rattle.packet_dump.specs.LayerTexts.{incomplete_text, inner_text, outer_text, transport_front_text, unread_in}
+use Rattle.packet_dump.specs.PacketContents.{Content, packet}
+
+-- what stands in the outer layers of a quoted packet, which is mostly cut: where a layer is refused, what is told of its
+-- front
+abbrev pub quoted_rest : Layers → Option (SliceError × Layer) → List ℕ
+quoted_rest layers None = inner_text layers.transport (unread_in layers)
+quoted_rest layers (Some stop) = transport_front_text layers.net
+
+-- a quoted packet: its layers, as of any other
+abbrev pub quoted_text : LaxLayers → List ℕ
+quoted_text read =
+    codes " quotes" ++ outer_text (layers_in read) ++ quoted_rest (layers_in read) read.net.inside.stop
+    ++ incomplete_text read.net.inside.incomplete
+
+-- the text of the packet at the front of bytes that are quoted: none where they are no packet of IP
+abbrev pub IsQuote : List ℕ → List ℕ → Type 0
+IsQuote bytes text =
+    ((error : SliceError) × RefusesLax Ip bytes error × (text ≡ []))
+    ⊎ ((read : LaxLayers) × IsLax Ip bytes read × (text ≡ quoted_text read))
+
+-- the same of bytes that are quoted or not
+abbrev pub IsQuoteOf : Option (List ℕ) → List ℕ → Type 0
+IsQuoteOf None text = text ≡ []
+IsQuoteOf (Some bytes) text = IsQuote bytes text
+
+-- the bytes that a packet quotes
+abbrev pub quoted_by : LaxSlicedPacket → Option (List ℕ)
+quoted_by slices = option_and_then quoted_in (option_map transport_layer_of slices.transport)
+
+-- the details of a packet: those of its layers, and the packet that it quotes
+abbrev pub AreDetails : LaxSlicedPacket → List ℕ → Type 0
+AreDetails slices text =
+    (own quote : List ℕ) × IsPacketDetails slices own × IsQuoteOf (quoted_by slices) quote × (text ≡ own ++ quote)
+
+-- the same, where details are told
+abbrev pub AreTold : Bool → LaxSlicedPacket → List ℕ → Type 0
+AreTold true slices text = AreDetails slices text
+AreTold false slices text = text ≡ []
+
+-- the details of what bytes hold, where they are told: of the packet that is read from them
+abbrev pub IsDetailed : Bool → List ℕ → Content → List ℕ → Type 0
+IsDetailed true bytes content text =
+    (slices : LaxSlicedPacket) × ShowsLax bytes slices × (content ≡ packet (lax_layers_of slices)) × AreDetails slices text
+IsDetailed false bytes content text = text ≡ []

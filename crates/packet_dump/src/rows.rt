@@ -1,0 +1,104 @@
+//! Bytes in rows of sixteen, with the characters that they are.
+
+ghost use Rattle.std.specs.Prelude.{◌≡◌, ◌≤◌, ◌*◌, ◌++◌, length, map, replicate, OnOk};
+ghost use Rattle.line_io.specs.Lines.{space};
+ghost use Rattle.packet_dump.specs.Rows.{character_of, characters_text, digits_text, row_at, row_start, row_text};
+ghost use Rattle.packet_dump.specs.Rows.{rows_text, spaced_text};
+
+use crate::addresses::push_pair;
+use std::alloc::AllocError;
+
+/// Appends bytes, sixteen in a row.
+pub fn push_rows(output: &mut Vec<u8>, bytes: &[u8]) -> Result<(), AllocError>
+    ensures { OnOk result (output.new.items ≡ output.old.items ++ rows_text bytes.now) }
+{
+    for row in 0..(bytes.len() + 15) / 16 {
+        push_row_at(output, bytes, 16 * row)?;
+    }
+    Ok(())
+}
+
+/// Appends the row that begins at this place.
+fn push_row_at(output: &mut Vec<u8>, bytes: &[u8], index: usize) -> Result<(), AllocError>
+    requires { index ≤ length bytes.now }
+    ensures { OnOk result (output.new.items ≡ output.old.items ++ row_text index (row_at bytes.now index)) }
+{
+    let end = bytes.len().min(index + 16);
+    push_row(output, index, &bytes[index..end])
+}
+
+/// Appends a row whose first byte stands at this place.
+fn push_row(output: &mut Vec<u8>, index: usize, row: &[u8]) -> Result<(), AllocError>
+    requires { length row.now ≤ 16 }
+    ensures { OnOk result (output.new.items ≡ output.old.items ++ row_text index row.now) }
+{
+    push_row_start(output, index)?;
+    push_digits(output, row)?;
+    push_characters(output, row)
+}
+
+/// Appends a line feed and the place of the first byte of a row, by its lower 24 bits.
+fn push_row_start(output: &mut Vec<u8>, index: usize) -> Result<(), AllocError>
+    ensures { OnOk result (output.new.items ≡ output.old.items ++ row_start index) }
+{
+    output.extend_from_slice(b"\n    ")?;
+    push_pair(output, (index / 65_536 % 256) as u8)?;
+    push_pair(output, (index / 256 % 256) as u8)?;
+    push_pair(output, (index % 256) as u8)
+}
+
+/// Appends the bytes of a row, and spaces in place of those that it lacks of sixteen.
+fn push_digits(output: &mut Vec<u8>, row: &[u8]) -> Result<(), AllocError>
+    requires { length row.now ≤ 16 }
+    ensures { OnOk result (output.new.items ≡ output.old.items ++ digits_text row.now) }
+{
+    push_spaced(output, row)?;
+    push_spaces(output, 48 - 3 * row.len())
+}
+
+/// Appends bytes by two digits each, a space before each.
+fn push_spaced(output: &mut Vec<u8>, row: &[u8]) -> Result<(), AllocError>
+    ensures { OnOk result (output.new.items ≡ output.old.items ++ spaced_text row.now) }
+{
+    for byte in row {
+        output.push(b' ')?;
+        push_pair(output, *byte)?;
+    }
+    Ok(())
+}
+
+/// Appends so many spaces.
+fn push_spaces(output: &mut Vec<u8>, count: usize) -> Result<(), AllocError>
+    ensures { OnOk result (output.new.items ≡ output.old.items ++ replicate count space) }
+{
+    for done in 0..count {
+        output.push(b' ')?;
+    }
+    Ok(())
+}
+
+/// Appends the bytes of a row as characters.
+fn push_characters(output: &mut Vec<u8>, row: &[u8]) -> Result<(), AllocError>
+    ensures { OnOk result (output.new.items ≡ output.old.items ++ characters_text row.now) }
+{
+    output.extend_from_slice(b"  |")?;
+    push_plain(output, row)?;
+    output.extend_from_slice(b"|")
+}
+
+/// Appends each byte as a character.
+fn push_plain(output: &mut Vec<u8>, row: &[u8]) -> Result<(), AllocError>
+    ensures { OnOk result (output.new.items ≡ output.old.items ++ map character_of row.now) }
+{
+    for byte in row {
+        output.push(character_of(*byte))?;
+    }
+    Ok(())
+}
+
+/// A byte as a character of ASCII, and as `.` where that is none that is seen.
+fn character_of(byte: u8) -> u8
+    ensures { result ≡ character_of byte }
+{
+    if byte >= 32 && byte < 127 { byte } else { b'.' }
+}

@@ -1,0 +1,90 @@
+//! Which packets are wanted, whatever is told of them.
+
+ghost use Rattle.std.specs.Prelude.{◌≡◌, ◌&&◌};
+ghost use Rattle.etherparse.specs.LaxPackets.{lax_layers_of};
+ghost use Rattle.packet_dump.specs.PacketContents.{Content, Holds, HoldsBehind, HoldsLaxly, HoldsStrictly};
+ghost use Rattle.packet_dump.specs.PacketContents.{asks_nothing, content_with, packet, shows_kind};
+ghost use Rattle.packet_dump.specs.Saves.{is_wanted};
+
+use crate::dump_options::{DumpOptions, Kind};
+use crate::lines::has_layer;
+use crate::openings::{Opening, opening_of};
+use capture_reader::Shown;
+use etherparse::laws::lax::strict_frames;
+use etherparse::{LaxSlicedPacket, SlicedPacket};
+
+/// Whether a packet is wanted.
+pub fn is_selected(options: &DumpOptions, shown: &Shown<'_>) -> bool
+    ensures { (content : Content) × Holds options.now.strict shown.now.link_type shown.now.bytes.now content
+        × (result ≡ is_wanted options.now content) }
+{
+    let bytes = shown.bytes;
+    let Some(opening) = opening_of(shown.link_type, bytes) else {
+        return wants_unread(options, None);
+    };
+    selects_behind(options, opening, &bytes[opening.skipped..])
+}
+
+/// The same of a packet whose bytes begin so, of what stands behind that.
+fn selects_behind(options: &DumpOptions, opening: Opening, bytes: &[u8]) -> bool
+    ensures { (content : Content) × HoldsBehind options.now.strict opening bytes.now content
+        × (result ≡ is_wanted options.now content) }
+{
+    if options.strict {
+        selects_frame(options, opening, bytes)
+    } else {
+        selects_lax(options, opening, bytes)
+    }
+}
+
+/// The same where only frames are read.
+fn selects_frame(options: &DumpOptions, opening: Opening, bytes: &[u8]) -> bool
+    ensures { (content : Content) × HoldsStrictly opening bytes.now content
+        × (result ≡ is_wanted options.now content) }
+{
+    match SlicedPacket::from_entry(opening.entry, bytes) {
+        Ok(_) => {
+            strict_frames();
+            let mut read = LaxSlicedPacket::new();
+            let _ = read.slice_into(opening.entry, bytes);
+            wants_read(options, &read)
+        }
+        Err(_) => wants_unread(options, Some(Kind::Refused)),
+    }
+}
+
+/// The same where what is there is read.
+fn selects_lax(options: &DumpOptions, opening: Opening, bytes: &[u8]) -> bool
+    ensures { (content : Content) × HoldsLaxly opening bytes.now content
+        × (result ≡ is_wanted options.now content) }
+{
+    let mut read = LaxSlicedPacket::new();
+    match read.slice_into(opening.entry, bytes) {
+        Ok(()) => selects_read(options, opening, &read),
+        Err(_) => wants_unread(options, Some(Kind::Refused)),
+    }
+}
+
+/// The same of a packet of which a layer stands, or the first does not.
+fn selects_read(options: &DumpOptions, opening: Opening, read: &LaxSlicedPacket<'_>) -> bool
+    ensures { result ≡ is_wanted options.now (content_with opening (lax_layers_of read.now)) }
+{
+    match &read.stop_err {
+        Some(_) if !has_layer(opening, read) => wants_unread(options, Some(Kind::Refused)),
+        Some(_) | None => wants_read(options, read),
+    }
+}
+
+/// Whether a packet with layers is wanted.
+fn wants_read(options: &DumpOptions, read: &LaxSlicedPacket<'_>) -> bool
+    ensures { result ≡ is_wanted options.now (packet (lax_layers_of read.now)) }
+{
+    options.wants(Kind::of(read)) && options.meets(read)
+}
+
+/// Whether one without layers is, of such a kind if of one.
+fn wants_unread(options: &DumpOptions, kind: Option<Kind>) -> bool
+    ensures { result ≡ (shows_kind options.now.only kind && asks_nothing options.now.words) }
+{
+    options.wants(kind) && options.asks_nothing()
+}
