@@ -3,16 +3,4 @@
 #![tactic(auto)]
 
 #[cfg(test)]
-mod base;
-#[cfg(test)]
-mod checks;
-#[cfg(test)]
-mod derives;
-#[cfg(test)]
-mod ext;
-#[cfg(test)]
-mod ip;
-#[cfg(test)]
-mod link;
-#[cfg(test)]
-mod transport;
+mod tests;

@@ -1,6 +1,6 @@
 //! Chains of extension headers (RFC 8200, 4; RFC 4302): rows from outside, and that calls succeed.
 
-use crate::checks::{full, is_written, same};
+use crate::tests::checks::{full, is_written, same};
 use ep_base::err::ipv4_exts;
 use ep_base::err::ipv6_exts::{ExtsWalkError, HeaderError, HeaderSliceError, HeaderWriteError};
 use ep_ext::err::ip_auth;

@@ -2,7 +2,7 @@
 
 use super::frames::*;
 use super::vlan::*;
-use crate::checks::{full, is_written};
+use crate::tests::checks::{full, is_written};
 use ep_link::{LinkHeader, VlanHeader};
 
 #[test]

@@ -1,6 +1,6 @@
 //! TCP.
 
-use crate::checks::{full, is_written, same};
+use crate::tests::checks::{full, is_written, same};
 use ep_ip::{Ipv4Header, Ipv6Header};
 use ep_transport::tcp::{HeaderError, HeaderSliceError};
 use ep_transport::{

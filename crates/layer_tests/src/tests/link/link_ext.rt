@@ -1,6 +1,6 @@
 //! Tags between the link header and the net layer.
 
-use crate::checks::{full, is_written, same};
+use crate::tests::checks::{full, is_written, same};
 use ep_link::err::macsec::{HeaderError, HeaderSliceError};
 use ep_link::{EtherType, Layer, LenError, LenSource, LinkExtSlice};
 use std::alloc::Global;

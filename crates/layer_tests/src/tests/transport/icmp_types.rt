@@ -1,6 +1,6 @@
 //! Types of ICMP and ICMPv6.
 
-use crate::checks::same;
+use crate::tests::checks::same;
 use ep_transport::{
     IcmpEchoHeader, Icmpv4Slice, Icmpv4Type, Icmpv6Slice, Icmpv6Type, icmpv4, icmpv6,
 };

@@ -1,6 +1,6 @@
 //! ICMP and ICMPv6.
 
-use crate::checks::{full, is_written, same};
+use crate::tests::checks::{full, is_written, same};
 use ep_transport::icmpv4::TimestampMessage;
 use ep_transport::{
     IcmpEchoHeader, Icmpv4Header, Icmpv4Slice, Icmpv4Type, Icmpv6Header, Icmpv6Slice, Icmpv6Type,

@@ -1,6 +1,6 @@
 //! Extension headers of IPv6 whose payload is left as bytes (RFC 8200).
 
-use crate::checks::{full, is_written, same, shows};
+use crate::tests::checks::{full, is_written, same, shows};
 use ep_ext::err::ipv6_exts::ExtPayloadLenError;
 use ep_ext::{IpNumber, Ipv6RawExtHeader, Ipv6RawExtHeaderSlice, Layer, LenError, LenSource};
 use std::alloc::Global;

@@ -1,6 +1,6 @@
 //! Options of TCP.
 
-use crate::checks::{same, shows};
+use crate::tests::checks::{same, shows};
 use ep_transport::{
     TcpHeader, TcpOptionElement, TcpOptionReadError, TcpOptionWriteError, TcpOptions,
     TcpOptionsIterator,

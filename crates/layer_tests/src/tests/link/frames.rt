@@ -1,6 +1,6 @@
 //! Ethernet II and Linux cooked captures.
 
-use crate::checks::same;
+use crate::tests::checks::same;
 use ep_link::err::linux_sll::{HeaderError, HeaderSliceError};
 use ep_link::{
     ArpHardwareId, EtherType, Ethernet2Header, Ethernet2Slice, Layer, LenError, LenSource,

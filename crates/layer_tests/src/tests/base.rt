@@ -2,7 +2,7 @@
 
 mod texts;
 
-use crate::checks::same;
+use crate::tests::checks::same;
 use ep_base::checksum::Sum16BitWords;
 
 #[test]

@@ -1,6 +1,6 @@
 //! The fragment header of IPv6 (RFC 8200).
 
-use crate::checks::{full, is_written, same};
+use crate::tests::checks::{full, is_written, same};
 use ep_ext::{
     IpFragOffset, IpNumber, Ipv6FragmentHeader, Ipv6FragmentHeaderSlice, Layer, LenError, LenSource,
 };

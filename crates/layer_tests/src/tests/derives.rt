@@ -1,5 +1,5 @@
-//! What each public type derives. A derive that nothing calls could be dropped unnoticed. A tuple derives what all of its
-//! parts do.
+//! What each public type derives. A derive that nothing calls could be dropped unnoticed. A tuple derives what all of
+//! its parts do.
 
 use std::error::Error;
 use std::fmt::Debug;

@@ -1,6 +1,6 @@
 //! The authentication header of IP (RFC 4302).
 
-use crate::checks::{full, is_written, same, shows};
+use crate::tests::checks::{full, is_written, same, shows};
 use ep_ext::err::ip_auth::{HeaderError, HeaderSliceError, IcvLenError};
 use ep_ext::{IpAuthHeader, IpAuthHeaderSlice, IpNumber, Layer, LenError, LenSource};
 use std::alloc::Global;

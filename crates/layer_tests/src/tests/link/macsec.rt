@@ -1,6 +1,6 @@
 //! MACsec tags and packets from outside.
 
-use crate::checks::{full, is_written, same};
+use crate::tests::checks::{full, is_written, same};
 use ep_link::err::macsec::{HeaderError, HeaderSliceError};
 use ep_link::{
     EtherPayloadSlice, EtherType, Layer, LenError, LenSource, MacsecAn, MacsecHeader,

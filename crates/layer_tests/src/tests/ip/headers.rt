@@ -1,6 +1,6 @@
 //! Headers: rows from outside, texts, and that calls succeed.
 
-use crate::checks::{full, is_written, refuses, same};
+use crate::tests::checks::{full, is_written, refuses, same};
 use ep_ip::{
     IpFragOffset, IpNumber, Ipv4Dscp, Ipv4Ecn, Ipv4Header, Ipv4HeaderSlice, Ipv4Options,
     Ipv6FlowLabel, Ipv6Header, Ipv6HeaderSlice, Layer, LenError, LenSource, ipv6,

@@ -1,6 +1,6 @@
 //! IP packets with their extension headers in slices: rows from outside.
 
-use crate::checks::{refuses, same};
+use crate::tests::checks::{refuses, same};
 use ep_ip::{
     IpNumber, IpPayloadSlice, IpSlice, Ipv4Slice, Ipv6ExtensionsSlice, Ipv6Slice, LenSource,
 };

@@ -1,6 +1,6 @@
 //! The text of each error.
 
-use crate::checks::shows;
+use crate::tests::checks::shows;
 use ep_base::err::{
     Layer, LenError, ValueTooBigError, ValueType, ip, ip_auth, ip_exts, ipv4, ipv4_exts, ipv6,
     ipv6_exts, linux_sll, macsec, tcp,

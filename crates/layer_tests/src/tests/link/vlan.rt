@@ -1,6 +1,6 @@
 //! VLAN tags.
 
-use crate::checks::same;
+use crate::tests::checks::same;
 use ep_link::{
     DoubleVlanHeader, EtherType, Layer, LenError, LenSource, SingleVlanHeader, SingleVlanSlice,
     VlanHeader, VlanId, VlanPcp,

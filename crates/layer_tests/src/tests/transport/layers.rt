@@ -1,6 +1,6 @@
 //! The family of transport layers.
 
-use crate::checks::{full, is_written, same, shows};
+use crate::tests::checks::{full, is_written, same, shows};
 use ep_ip::{Ipv4Header, Ipv6Header};
 use ep_transport::{
     IcmpEchoHeader, Icmpv4Header, Icmpv4Type, Icmpv6Header, Icmpv6Type, IpNumber, Layer, LenError,

@@ -1,6 +1,6 @@
 //! ARP (RFC 826).
 
-use crate::checks::{full, is_written, same, shows};
+use crate::tests::checks::{full, is_written, same, shows};
 use ep_link::err::arp::{ArpHwAddrError, ArpNewError, ArpProtoAddrError};
 use ep_link::{
     ArpHardwareId, ArpOperation, ArpPacket, ArpPacketSlice, EtherType, Layer, LenError, LenSource,

@@ -1,6 +1,6 @@
 //! UDP.
 
-use crate::checks::{full, is_written, same};
+use crate::tests::checks::{full, is_written, same};
 use ep_transport::{Layer, LenError, LenSource, UdpHeader, UdpSlice, ValueTooBigError, ValueType};
 
 /// A datagram from port 21 to port 1234 with the payload 1 to 8.
