@@ -1,3 +1,4 @@
+pub mod AnswerLemmas
 pub mod HeldStepLemmas
 pub mod LaxLemmas
 pub mod ManyLemmas

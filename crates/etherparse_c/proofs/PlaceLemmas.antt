@@ -1,31 +1,21 @@
 -- Where in a frame the bytes are that C is told of.
-use Rattle.std.proofs.Common.{◌≡◌, ℕ, ◌+◌, ◌-◌, ◌≤◌, List, [], ◌∷◌, ◌++◌, length, take, drop, Option, refl, sym, ap, subst, ◌∙◌, arith, append_assoc, length-append}
+use Rattle.std.proofs.Common.{◌≡◌, ℕ, ◌+◌, ◌-◌, ◌≤◌, List, [], ◌∷◌, ◌++◌, length, take, drop, refl, sym, ap, subst}
+use Rattle.std.proofs.Common.{◌∙◌, arith, append_assoc, length-append}
 use Rattle.std.proofs.Math.Seq.{drop-append_seam, take-append_seam}
 use Rattle.etherparse.specs.LinkExtensions.{LinkExtension, EncodesTag}
-use Rattle.etherparse.specs.LinkSlices.{LinkLayer}
-use Rattle.etherparse.specs.TransportParts.{TransportLayer, EncodesTransport}
+use Rattle.etherparse.specs.TransportParts.{EncodesTransport}
 use Rattle.etherparse.specs.Types.Entry.{Entry}
 use Rattle.etherparse.specs.Frame.{IsFrame}
 use Rattle.etherparse.specs.FrameBytes.{AreInOrder, EncodesLink, EncodesNet, EncodesTags, last_payload}
 use Rattle.etherparse.specs.Lax.{IsLax}
 use Rattle.etherparse.specs.LaxLayers.{LaxLayers}
-use Rattle.etherparse.specs.Layers.{Layers, NetLayer}
+use Rattle.etherparse.specs.Layers.{Layers}
 use Rattle.etherparse.specs.StrictFrames.{layers_in}
 use Rattle.etherparse_c.specs.declared.packet.Packet.{Packet}
-use Rattle.etherparse_c.specs.Description.{description, link_len, net_len, net_offset, payload_offset, tag_len, tags_len, transport_len, transport_offset}
+use Rattle.etherparse_c.specs.Description.{description, link_len, net_len, net_offset, payload_offset, tag_len}
+use Rattle.etherparse_c.specs.Description.{transport_len, transport_offset}
 use Rattle.etherparse_c.specs.LaxAnswers.{DescribesLax, lax_description}
-use Rattle.etherparse_c.specs.Places.{AreAt, AreTagsAt, Describes, bytes_at}
-
--- what the law of headers says: the bytes that encode one are as many as it says
-pub record HeaderLens : Type 0 where
-  pub link : (layer : Option LinkLayer) (bytes : List ℕ) → EncodesLink layer bytes → length bytes ≡ link_len layer
-  pub tag : (extension : LinkExtension) (bytes : List ℕ) → EncodesTag extension bytes
-      → length bytes ≡ tag_len extension
-  pub tags : (extensions : List LinkExtension) (bytes : List ℕ) → EncodesTags extensions bytes
-      → length bytes ≡ tags_len extensions
-  pub net : (layer : Option NetLayer) (bytes : List ℕ) → EncodesNet layer bytes → length bytes ≡ net_len layer
-  pub transport : (layer : Option TransportLayer) (bytes : List ℕ) → EncodesTransport layer bytes
-      → length bytes ≡ transport_len layer
+use Rattle.etherparse_c.specs.Places.{AreAt, AreTagsAt, Describes, HeaderLens, bytes_at}
 
 -- bytes behind so many others
 bytes_behind : (bytes front part behind : List ℕ) (offset len : ℕ) → bytes ≡ front ++ (part ++ behind)
@@ -45,7 +35,8 @@ tags_behind : HeaderLens → (bytes front tags behind : List ℕ) (offset : ℕ)
 tags_behind laws bytes front tags behind offset [] same front_len encodes = tt
 tags_behind laws bytes front tags behind offset (extension ∷ others) same front_len (tag, rest, first, more, parts) =
     let here : bytes ≡ front ++ (tag ++ (rest ++ behind)) =
-    same ∙ ap (λ (x : List ℕ). front ++ (x ++ behind)) parts ∙ ap (λ (x : List ℕ). front ++ x) (append_assoc tag rest behind) in
+    same ∙ ap (λ (x : List ℕ). front ++ (x ++ behind)) parts
+    ∙ ap (λ (x : List ℕ). front ++ x) (append_assoc tag rest behind) in
     let len = laws.tag extension tag first in (
       subst (EncodesTag extension)
           (sym (bytes_behind bytes front tag (rest ++ behind) offset (tag_len extension) here front_len len)) first,
@@ -137,15 +128,10 @@ pub places : HeaderLens → (entry : Entry) (bytes : List ℕ) (layers : Layers)
     → IsFrame entry bytes layers → AreInOrder bytes layers → packet ≡ description layers
     → Describes entry bytes layers packet
 places laws entry bytes layers packet frame order same =
-    let at = are_at laws bytes layers order in
     subst (Describes entry bytes layers) (sym same) (record {
       frame = frame;
       numbers = refl;
-      link = at.link;
-      tags = at.tags;
-      net = at.net;
-      transport = at.transport;
-      payload = at.payload;
+      places = are_at laws bytes layers order;
     })
 
 -- and of one that says it of what is read laxly

@@ -5,37 +5,35 @@ use Rattle.etherparse_c.specs.declared.packet.LinkExt.{LinkExt}
 use Rattle.etherparse_c.specs.Description.{no_tag, tag_len, tag_part, tag_slots, tags_len}
 
 -- a list without a length is empty
-pub no_more : {Slice : Type 0} (others : List Slice) → length others ≡ 0 → others ≡ []
+no_more : {Slice : Type 0} (others : List Slice) → length others ≡ 0 → others ≡ []
 no_more [] none = refl
 no_more (extension ∷ others) none = absurd (omega (arith, none))
 
 -- a list of at most one more than it has is empty behind it
-pub is_last : {Slice : Type 0} (others : List Slice) → 3 + length others ≤ 3 → others ≡ []
+is_last : {Slice : Type 0} (others : List Slice) → 3 + length others ≤ 3 → others ≡ []
 is_last [] most = refl
 is_last (extension ∷ others) most = absurd (omega (arith, most))
 
 -- the second tag begins where the first ends
-behind : {Slice : Type 0} (of : Slice → LinkExtension) (offset : ℕ) (a b : Slice) (x y : LinkExt) → x ≡ tag_part offset (of a)
-    → y ≡ tag_part (offset + x.len) (of b)
+behind : {Slice : Type 0} (of : Slice → LinkExtension) (offset : ℕ) (a b : Slice) (x y : LinkExt)
+    → x ≡ tag_part offset (of a) → y ≡ tag_part (offset + x.len) (of b)
     → y ≡ tag_part (offset + tag_len (of a)) (of b)
 behind of offset a b x y first second =
     second ∙ ap (λ (t : LinkExt). tag_part (offset + t.len) (of b)) first
 
-pub two_slots : {Slice : Type 0} (of : Slice → LinkExtension) (offset : ℕ) (all : List Slice) (a b : Slice) (x y z : LinkExt) → all ≡ a ∷ b ∷ []
-    → x ≡ tag_part offset (of a) → y ≡ tag_part (offset + x.len) (of b) → z ≡ no_tag
-    → x ∷ y ∷ z ∷ [] ≡ tag_slots offset (map of all)
-two_slots {Slice = Slice} of offset all a b x y z same first second none =
+pub two_slots : {Slice : Type 0} (of : Slice → LinkExtension) (offset : ℕ) {all : List Slice} {a b : Slice}
+    {x y z : LinkExt} → all ≡ a ∷ b ∷ [] → x ≡ tag_part offset (of a) → y ≡ tag_part (offset + x.len) (of b)
+    → z ≡ no_tag → x ∷ y ∷ z ∷ [] ≡ tag_slots offset (map of all)
+two_slots {Slice = Slice} of offset {a = a} {b = b} {x = x} {y = y} {z = z} same first second none =
     let middle = behind of offset a b x y first second in
     let here : x ∷ y ∷ z ∷ [] ≡ tag_slots offset (map of (a ∷ b ∷ [])) =
     λ i. first i ∷ middle i ∷ none i ∷ [] in
     here ∙ sym (ap (λ (l : List Slice). tag_slots offset (map of l)) same)
 
-pub three_slots : {Slice : Type 0} (of : Slice → LinkExtension) (offset : ℕ) (all : List Slice) (a b c : Slice) (x y z : LinkExt)
-    → all ≡ a ∷ b ∷ c ∷ []
-    → x ≡ tag_part offset (of a) → y ≡ tag_part (offset + x.len) (of b)
-    → z ≡ tag_part (offset + x.len + y.len) (of c)
-    → x ∷ y ∷ z ∷ [] ≡ tag_slots offset (map of all)
-three_slots {Slice = Slice} of offset all a b c x y z same first second third =
+pub three_slots : {Slice : Type 0} (of : Slice → LinkExtension) (offset : ℕ) {all : List Slice} {a b c : Slice}
+    {x y z : LinkExt} → all ≡ a ∷ b ∷ c ∷ [] → x ≡ tag_part offset (of a) → y ≡ tag_part (offset + x.len) (of b)
+    → z ≡ tag_part (offset + x.len + y.len) (of c) → x ∷ y ∷ z ∷ [] ≡ tag_slots offset (map of all)
+three_slots {Slice = Slice} of offset {a = a} {b = b} {c = c} {x = x} {y = y} {z = z} same first second third =
     let middle = behind of offset a b x y first second in
     let inner : z ≡ tag_part
     (offset + tag_len (of a) + tag_len (of b)) (of c) =
@@ -46,13 +44,39 @@ three_slots {Slice = Slice} of offset all a b c x y z same first second third =
     λ i. first i ∷ middle i ∷ inner i ∷ [] in
     here ∙ sym (ap (λ (l : List Slice). tag_slots offset (map of l)) same)
 
-pub two_len : {Slice : Type 0} (of : Slice → LinkExtension) (all : List Slice) (a b : Slice) → all ≡ a ∷ b ∷ []
-    → tags_len (map of all) ≡ tag_len (of a) + tag_len (of b)
-two_len {Slice = Slice} of all a b same =
-    ap (λ (l : List Slice). tags_len (map of l)) same ∙ omega arith
+-- the slices of two tags, where nothing is behind them
+pub two_there : {Slice : Type 0} {all others rest : List Slice} {a b : Slice} → all ≡ a ∷ others → others ≡ b ∷ rest
+    → length rest ≡ 0 → all ≡ a ∷ b ∷ []
+two_there {a = a} {b = b} first second none =
+    first ∙ ap (λ l. a ∷ l) (second ∙ ap (λ l. b ∷ l) (no_more _ none))
 
-pub three_len : {Slice : Type 0} (of : Slice → LinkExtension) (all : List Slice) (a b c : Slice) → all ≡ a ∷ b ∷ c ∷ []
-    → tags_len (map of all)
-    ≡ tag_len (of a) + tag_len (of b) + tag_len (of c)
-three_len {Slice = Slice} of all a b c same =
-    ap (λ (l : List Slice). tags_len (map of l)) same ∙ omega arith
+-- those of three, where there are at most three
+pub three_there : {Slice : Type 0} {all others rest last : List Slice} {a b c : Slice} → all ≡ a ∷ others
+    → others ≡ b ∷ rest → rest ≡ c ∷ last → length all ≤ 3 → all ≡ a ∷ b ∷ c ∷ []
+three_there {last = last} {a = a} {b = b} {c = c} first second third most =
+    let few : 3 + length last ≤ 3 = omega (arith, ap length first, ap length second, ap length third, most) in
+    first ∙ ap (λ l. a ∷ l) (second ∙ ap (λ l. b ∷ l) (third ∙ ap (λ l. c ∷ l) (is_last _ few)))
+
+-- where two tags end
+pub two_end : {Slice : Type 0} (of : Slice → LinkExtension) (offset : ℕ) {all : List Slice} {a b : Slice}
+    {x y : LinkExt} → all ≡ a ∷ b ∷ [] → x ≡ tag_part offset (of a) → y ≡ tag_part (offset + x.len) (of b)
+    → offset + x.len + y.len ≡ offset + tags_len (map of all)
+two_end {Slice = Slice} of offset same first second = omega (
+  arith,
+  ap (λ (l : List Slice). tags_len (map of l)) same,
+  ap (λ (t : LinkExt). t.len) first,
+  ap (λ (t : LinkExt). t.len) second,
+)
+
+-- where three tags end
+pub three_end : {Slice : Type 0} (of : Slice → LinkExtension) (offset : ℕ) {all : List Slice} {a b c : Slice}
+    {x y z : LinkExt} → all ≡ a ∷ b ∷ c ∷ [] → x ≡ tag_part offset (of a) → y ≡ tag_part (offset + x.len) (of b)
+    → z ≡ tag_part (offset + x.len + y.len) (of c)
+    → offset + x.len + y.len + z.len ≡ offset + tags_len (map of all)
+three_end {Slice = Slice} of offset same first second third = omega (
+  arith,
+  ap (λ (l : List Slice). tags_len (map of l)) same,
+  ap (λ (t : LinkExt). t.len) first,
+  ap (λ (t : LinkExt). t.len) second,
+  ap (λ (t : LinkExt). t.len) third,
+)

@@ -1,14 +1,15 @@
 -- Where in a frame the bytes are that C is told of.
-use Rattle.std.specs.Prelude.{◌≡◌, ℕ, ◌+◌, List, [], ◌∷◌}
+use Rattle.std.specs.Prelude.{◌≡◌, ℕ, ◌+◌, List, [], ◌∷◌, length, Option}
 use Rattle.std.specs.List.{slice_range}
 use Rattle.etherparse.specs.LinkExtensions.{LinkExtension, EncodesTag}
-use Rattle.etherparse.specs.TransportParts.{EncodesTransport}
+use Rattle.etherparse.specs.LinkSlices.{LinkLayer}
+use Rattle.etherparse.specs.TransportParts.{TransportLayer, EncodesTransport}
 use Rattle.etherparse.specs.Types.Entry.{Entry}
 use Rattle.etherparse.specs.Frame.{IsFrame}
-use Rattle.etherparse.specs.FrameBytes.{EncodesLink, EncodesNet, last_payload}
-use Rattle.etherparse.specs.Layers.{Layers}
+use Rattle.etherparse.specs.FrameBytes.{EncodesLink, EncodesNet, EncodesTags, last_payload}
+use Rattle.etherparse.specs.Layers.{Layers, NetLayer}
 use Rattle.etherparse_c.specs.declared.packet.Packet.{Packet}
-use Rattle.etherparse_c.specs.Description.{description, tag_len}
+use Rattle.etherparse_c.specs.Description.{description, link_len, net_len, tag_len, tags_len, transport_len}
 
 -- so many bytes from an offset on
 abbrev pub bytes_at : List ℕ → ℕ → ℕ → List ℕ
@@ -30,13 +31,19 @@ pub record AreAt (bytes : List ℕ) (layers : Layers) (packet : Packet) : Type 0
   pub transport : EncodesTransport layers.transport (bytes_at bytes packet.transport.offset packet.transport.len)
   pub payload : last_payload layers ≡ bytes_at bytes packet.payload.offset packet.payload.len
 
--- The bytes are a frame of these layers, and the packet says what they are. At the place that it says of a header, the
--- bytes are that header's, up to its reserved bits, and at that of the payload they are the payload.
+-- The bytes are a frame of these layers, and the packet says what they are, and where (`AreAt`).
 pub record Describes (entry : Entry) (bytes : List ℕ) (layers : Layers) (packet : Packet) : Type 0 where
   pub frame : IsFrame entry bytes layers
   pub numbers : packet ≡ description layers
-  pub link : EncodesLink layers.link (bytes_at bytes packet.link.offset packet.link.len)
-  pub tags : AreTagsAt bytes packet.link.len layers.link_exts
-  pub net : EncodesNet layers.net (bytes_at bytes packet.net.offset packet.net.len)
-  pub transport : EncodesTransport layers.transport (bytes_at bytes packet.transport.offset packet.transport.len)
-  pub payload : last_payload layers ≡ bytes_at bytes packet.payload.offset packet.payload.len
+  pub places : AreAt bytes layers packet
+
+-- what the library's law of headers says: the bytes that encode one are as many as it says
+pub record HeaderLens : Type 0 where
+  pub link : (layer : Option LinkLayer) (bytes : List ℕ) → EncodesLink layer bytes → length bytes ≡ link_len layer
+  pub tag : (extension : LinkExtension) (bytes : List ℕ) → EncodesTag extension bytes
+      → length bytes ≡ tag_len extension
+  pub tags : (extensions : List LinkExtension) (bytes : List ℕ) → EncodesTags extensions bytes
+      → length bytes ≡ tags_len extensions
+  pub net : (layer : Option NetLayer) (bytes : List ℕ) → EncodesNet layer bytes → length bytes ≡ net_len layer
+  pub transport : (layer : Option TransportLayer) (bytes : List ℕ) → EncodesTransport layer bytes
+      → length bytes ≡ transport_len layer

@@ -83,18 +83,19 @@ pub extern "C" fn etherparse_1_build_icmp_echo(
     build(alloc, route, echo, payload, buffer, written)
 }
 
+/// A step of the builder that holds IP headers.
+pub(crate) type IpStep = PacketBuilderStep<IpHeaders>;
+
+/// Whether a frame was appended.
+pub(crate) type Written = Result<(), BuildWriteError>;
+
 /// What a frame has behind its IP headers, besides the payload.
 pub(crate) trait IsBehind: Drop {
     /// The transport header that it is.
     ghost header: { Self → TransportHeader };
 
     /// Appends the frame of these IP headers, the transport header and the payload.
-    fn write(
-        self,
-        step: PacketBuilderStep<IpHeaders>,
-        frame: &mut Vec<u8>,
-        payload: &[u8],
-    ) -> Result<(), BuildWriteError>
+    fn write(self, step: IpStep, frame: &mut Vec<u8>, payload: &[u8]) -> Written
         ensures { MatchResult result
             (λ _. IsBuildable (held_behind step (header self)) (length payload.now)
             × (frame.new.items ≡ frame.old.items ++ built_frame (held_behind step (header self)) payload.now))
@@ -121,12 +122,7 @@ impl IsBehind for UdpPorts {
     ghost header = { λ ports. udp_between ports.source_port ports.destination_port };
 
     #[inline(always)]
-    fn write(
-        self,
-        step: PacketBuilderStep<IpHeaders>,
-        frame: &mut Vec<u8>,
-        payload: &[u8],
-    ) -> Result<(), BuildWriteError> {
+    fn write(self, step: IpStep, frame: &mut Vec<u8>, payload: &[u8]) -> Written {
         step.udp(self.source_port, self.destination_port)
             .write(frame, payload)
     }
@@ -136,12 +132,7 @@ impl IsBehind for TcpHeader {
     ghost header = { transport.Tcp };
 
     #[inline(always)]
-    fn write(
-        self,
-        step: PacketBuilderStep<IpHeaders>,
-        frame: &mut Vec<u8>,
-        payload: &[u8],
-    ) -> Result<(), BuildWriteError> {
+    fn write(self, step: IpStep, frame: &mut Vec<u8>, payload: &[u8]) -> Written {
         step.tcp_header(self).write(frame, payload)
     }
 }
@@ -150,12 +141,7 @@ impl IsBehind for Echo {
     ghost header = { λ echo. echo_header echo.is_ipv4 echo.is_reply echo.id echo.seq };
 
     #[inline(always)]
-    fn write(
-        self,
-        step: PacketBuilderStep<IpHeaders>,
-        frame: &mut Vec<u8>,
-        payload: &[u8],
-    ) -> Result<(), BuildWriteError> {
+    fn write(self, step: IpStep, frame: &mut Vec<u8>, payload: &[u8]) -> Written {
         if self.is_ipv4 {
             step.icmpv4(icmpv4_echo(self.is_reply, self.id, self.seq))
                 .write(frame, payload)
@@ -208,7 +194,7 @@ pub(crate) fn build<Behind: IsBehind>(
 #[inline(always)]
 pub(crate) fn write_behind<Behind: IsBehind>(
     alloc: Global,
-    step: PacketBuilderStep<IpHeaders>,
+    step: IpStep,
     behind: Behind,
     payload: &[u8],
     buffer: &mut [u8],
@@ -273,12 +259,7 @@ fn icmpv6_echo(is_reply: u8, id: u16, seq: u16) -> Icmpv6Type
 }
 
 /// Copies a frame that was built to the front of the buffer, where it has room, and answers the status.
-pub(crate) fn copied(
-    built: Result<(), BuildWriteError>,
-    frame: &[u8],
-    buffer: &mut [u8],
-    written: &mut usize,
-) -> u32
+pub(crate) fn copied(built: Written, frame: &[u8], buffer: &mut [u8], written: &mut usize) -> u32
     ensures { MatchResult built
         (λ _. IsPlaced frame.now buffer.old buffer.new written.new result)
         (λ error. (written.new ≡ 0) × (buffer.new ≡ buffer.old)

@@ -6,13 +6,13 @@ ghost use Rattle.etherparse_c.specs.Building.{IsBuilt, echo_of, tcp_of, udp_betw
 ghost use Rattle.etherparse_c.specs.TaggedBuilding.{IsFragmentAnswer, IsOptionsAnswer, IsTaggedAnswer};
 ghost use Rattle.etherparse_c.specs.TaggedBuilding.{fragment_headers, route_tags};
 
-use crate::building::{Echo, IsBehind, UdpPorts, build, copied, tcp_header, write_behind};
+use crate::building::{Echo, IpStep, IsBehind, UdpPorts, build, copied, tcp_header, write_behind};
 use crate::numbers;
 use crate::route::{FragmentFields, Route, TaggedRoute, TcpFields};
 use etherparse::{
     DoubleVlanHeader, EtherType, IpFragOffset, IpHeaders, IpNumber, Ipv4Extensions, Ipv4Header,
-    Ipv6Extensions, Ipv6FragmentHeader, Ipv6Header, PacketBuilder, PacketBuilderStep,
-    SingleVlanHeader, VlanHeader, VlanId, VlanPcp,
+    Ipv6Extensions, Ipv6FragmentHeader, Ipv6Header, PacketBuilder, SingleVlanHeader, VlanHeader,
+    VlanId, VlanPcp,
 };
 use std::alloc::Global;
 
@@ -166,7 +166,7 @@ fn build_tagged<Behind: IsBehind>(
 /// buffer.
 fn write_ip(
     alloc: Global,
-    step: PacketBuilderStep<IpHeaders>,
+    step: IpStep,
     number: u8,
     payload: &[u8],
     buffer: &mut [u8],

@@ -10,7 +10,7 @@ ghost use Rattle.etherparse.specs.Pools.{HoldsTable, limit_of};
 ghost use Rattle.etherparse.specs.StrictFrames.{layers_in};
 ghost use Rattle.etherparse_c.specs.Description.{description, payload_offset};
 ghost use Rattle.etherparse_c.specs.LaxAnswers.{DescribesLax, lax_description};
-ghost use Rattle.etherparse_c.specs.Places.{Describes};
+ghost use Rattle.etherparse_c.specs.Places.{Describes, HeaderLens};
 ghost use Rattle.etherparse_c.specs.PoolAnswers.{IsPushAnswer, Table, pool_of, waiting_in};
 ghost use Rattle.etherparse_c.specs.RefusalTexts.{AreTextsOfRefusals, text_told};
 
@@ -30,7 +30,7 @@ pub fn frame_places()
         → payload_offset layers + length (last_payload layers) ≤ length bytes }
 {
     etherparse::laws::packet::frame_bytes();
-    etherparse::laws::packet::header_lens();
+    header_lens();
 }
 
 /// The bytes of what is read laxly stand where its description says, and the last payload ends within the bytes. It
@@ -42,6 +42,13 @@ pub fn lax_places()
         → payload_offset (layers_in read) + length (last_payload (layers_in read)) ≤ length bytes }
 {
     etherparse::laws::lax::lax_bytes();
+    header_lens();
+}
+
+/// The bytes of a header are as many as C is told. It follows from the library's law of headers, which the body names.
+fn header_lens()
+    ensures { HeaderLens }
+{
     etherparse::laws::packet::header_lens();
 }
 

@@ -3,7 +3,6 @@
 ghost use Rattle.std.specs.Prelude.{◌≡◌};
 ghost use Rattle.std.specs.Option.{option_map};
 ghost use Rattle.etherparse.specs.Bytes.{bit};
-ghost use Rattle.etherparse.specs.FragmentHeaderSlices.{fragment_slice_header};
 ghost use Rattle.etherparse.specs.IpPayload.{IpPayload};
 ghost use Rattle.etherparse.specs.Ipv6ExtensionSlices.{ipv6_slice_parts};
 ghost use Rattle.etherparse.specs.Ipv4Slices.{ipv4_header_slice_header, ipv4_slice_header, ipv4_slice_payload};
@@ -16,8 +15,8 @@ ghost use Rattle.etherparse_c.specs.Description.{ip_in, ipv4_part, ipv6_part, ne
 use crate::numbers;
 use crate::packet::{Ip, Part};
 use etherparse::{
-    IpNumber, Ipv4HeaderSlice, Ipv4Slice, Ipv6ExtensionSlice, Ipv6ExtensionsSlice,
-    Ipv6FragmentHeaderSlice, Ipv6Header, LaxIpv4Slice, LaxNetSlice, NetSlice,
+    IpNumber, Ipv4HeaderSlice, Ipv4Slice, Ipv6ExtensionSlice, Ipv6ExtensionsSlice, Ipv6Header,
+    LaxIpv4Slice, LaxNetSlice, NetSlice,
 };
 
 /// The IP header with its extension headers, or the ARP packet, which begins `offset` bytes behind the frame's start.
@@ -159,43 +158,26 @@ fn ipv6_part(extensions: Ipv6ExtensionsSlice<'_>, number: IpNumber, fragmented: 
     ensures { (payload : IpPayload) → payload.number ≡ number.0 → payload.fragmented ≡ fragmented
         → result ≡ ipv6_part (first_fragment (ipv6_slice_parts extensions.entry)) payload }
 {
-    let number = number.0;
-    let fragmented = flag(fragmented);
-    match first_fragment_header(extensions) {
-        Some(header) => Ip {
-            version: 6,
-            number,
-            fragmented,
-            more_fragments: flag(header.more_fragments()),
-            fragment_offset: header.fragment_offset().byte_offset(),
-            identification: header.identification(),
-            header_len: Ipv6Header::LEN,
-        },
-        None => Ip {
-            version: 6,
-            number,
-            fragmented,
-            more_fragments: 0,
-            fragment_offset: 0,
-            identification: 0,
-            header_len: Ipv6Header::LEN,
-        },
-    }
-}
-
-/// The first fragment header among extension headers.
-#[inline(always)]
-fn first_fragment_header<'a>(
-    extensions: Ipv6ExtensionsSlice<'a>,
-) -> Option<Ipv6FragmentHeaderSlice<'a>>
-    ensures { option_map fragment_slice_header result ≡ first_fragment (ipv6_slice_parts extensions.entry) }
-{
+    let whole = Ip {
+        version: 6,
+        number: number.0,
+        fragmented: flag(fragmented),
+        more_fragments: 0,
+        fragment_offset: 0,
+        identification: 0,
+        header_len: Ipv6Header::LEN,
+    };
     for extension in extensions {
         if let Ipv6ExtensionSlice::Fragment(header) = extension {
-            return Some(header);
+            return Ip {
+                more_fragments: flag(header.more_fragments()),
+                fragment_offset: header.fragment_offset().byte_offset(),
+                identification: header.identification(),
+                ..whole
+            };
         }
     }
-    None
+    whole
 }
 
 /// A flag as C reads it.

@@ -2,10 +2,10 @@
 
 ghost use Rattle.std.specs.Prelude.{◌≡◌, None, Ok, Some, is_some, nat_le, true};
 ghost use Rattle.etherparse_c.specs.SliceAnswers.{entry_of};
-ghost use Rattle.etherparse_c.specs.PoolAnswers.{Changes, Discards, DropsOlder, IsFresh, IsHandedOut, IsNewPool, IsPushAnswer};
-ghost use Rattle.etherparse_c.specs.PoolAnswers.{IsPushed, IsTakeAnswer, IsTakenWith, nothing_told, payload_told};
-ghost use Rattle.etherparse_c.specs.PoolAnswers.{Tells, bytes_in, streams_in};
-ghost use Rattle.etherparse_c.specs.PoolAnswers.{refusal_told, refused_status};
+ghost use Rattle.etherparse_c.specs.PoolAnswers.{Changes, Discards, DropsOlder, IsFresh, IsHandedOut, IsNewPool};
+ghost use Rattle.etherparse_c.specs.PoolAnswers.{IsPushAnswer, IsPushed, IsTakeAnswer, IsTakenWith, Tells};
+ghost use Rattle.etherparse_c.specs.PoolAnswers.{bytes_in, nothing_told, payload_told, refusal_told, refused_status};
+ghost use Rattle.etherparse_c.specs.PoolAnswers.{streams_in};
 
 use crate::describing::{no_refusal, source_number};
 use crate::handle::Handle;
@@ -70,9 +70,12 @@ pub extern "C" fn etherparse_1_pool_push(
         channel old new buffer.old buffer.new told.new result) }
 {
     let mut state = taken(alloc, &mut pool.held);
-    let status = pushed(
-        &mut state, entry, ether_type, bytes, timestamp, channel, buffer, told,
-    );
+    let frame = GivenFrame {
+        bytes,
+        timestamp,
+        channel,
+    };
+    let status = pushed(&mut state, entry, ether_type, frame, buffer, told);
     pool.held = holding(state);
     status
 }
@@ -184,19 +187,25 @@ fn holding(state: Box<State>) -> Held
     Held::of(Loose::of(state))
 }
 
+/// A frame that is given to a pool, with its time and its channel.
+#[derive(Drop)]
+struct GivenFrame<'a> {
+    bytes: &'a [u8],
+    timestamp: u64,
+    channel: u64,
+}
+
 /// Gives a frame to a pool, unless a payload waits.
 fn pushed(
     state: &mut State,
     entry: u32,
     ether_type: u16,
-    bytes: &[u8],
-    timestamp: u64,
-    channel: u64,
+    frame: GivenFrame<'_>,
     buffer: &mut [u8],
     told: &mut PoolAnswer,
 ) -> u32
-    ensures { IsPushAnswer (entry_of entry ether_type) bytes.now timestamp channel state.old state.new
-        buffer.old buffer.new told.new result }
+    ensures { let given = frame.entry in IsPushAnswer (entry_of entry ether_type) given.bytes.now
+        given.timestamp given.channel state.old state.new buffer.old buffer.new told.new result }
 {
     *told = nothing_told();
     let Some(entry) = entry_of(entry, ether_type) else {
@@ -206,24 +215,23 @@ fn pushed(
         *told = payload_told(payload);
         return numbers::PAYLOAD_WAITS;
     }
-    pushed_frame(state, entry, bytes, timestamp, channel, buffer, told)
+    pushed_frame(state, entry, frame, buffer, told)
 }
 
 /// Gives a frame to a pool in which no payload waits.
 fn pushed_frame(
     state: &mut State,
     entry: Entry,
-    bytes: &[u8],
-    timestamp: u64,
-    channel: u64,
+    frame: GivenFrame<'_>,
     buffer: &mut [u8],
     told: &mut PoolAnswer,
 ) -> u32
     requires told { told.old ≡ nothing_told }
     requires waiting { state.old.waiting ≡ None }
-    ensures { IsPushed entry bytes.now timestamp channel state.old state.new buffer.old buffer.new told.new result }
+    ensures { let given = frame.entry in IsPushed entry given.bytes.now given.timestamp given.channel
+        state.old state.new buffer.old buffer.new told.new result }
 {
-    let packet = match SlicedPacket::from_entry(entry, bytes) {
+    let packet = match SlicedPacket::from_entry(entry, frame.bytes) {
         Ok(packet) => packet,
         Err(error) => {
             told.refusal = refusal_part(&error);
@@ -232,7 +240,7 @@ fn pushed_frame(
     };
     match state
         .pool
-        .process_sliced_packet(&packet, timestamp, channel)
+        .process_sliced_packet(&packet, frame.timestamp, frame.channel)
     {
         Ok(None) => numbers::OK,
         Ok(Some(payload)) => handed_out(payload, &mut state.waiting, buffer, told),

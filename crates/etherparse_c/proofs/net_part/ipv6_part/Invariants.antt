@@ -1,7 +1,7 @@
 use Rattle.std.proofs.Common.{◌≡◌}
 use Rattle.etherparse.specs.Ipv6ExtensionSlices.{ipv6_slice_parts, parts_left}
 use Rattle.etherparse.specs.FrameFragments.{first_fragment}
-use Rattle.etherparse_c.proofs.net_part.first_fragment_header.Given as goal
+use Rattle.etherparse_c.proofs.net_part.ipv6_part.Given as goal
 
 -- no header that is passed is a fragment header
 abbrev pub invariant-loop-extension : goal.invariant-loop-extension
