@@ -2,7 +2,7 @@
 use Rattle.std.proofs.Common.{◌≡◌, ◌≢◌, ◌<◌, ◌≤◌, ◌+◌, ℕ, List, length, drop, Option, arith, refl, sym, ap, add-one, ◌∙◌}
 use Rattle.std.specs.Prelude.{slice_set}
 use Rattle.std.specs.List.{slice_range}
-use Rattle.std.proofs.Math.ListN.{get_or, length-set}
+use Rattle.std.proofs.Math.ListN.{length-set}
 use Rattle.std.proofs.lemmas.List.{drop-set-lt, drop-drop, get_or-set_other, get_or-set_same}
 use Rattle.std.proofs.lemmas.Option.{get_or_from_slice_get, slice_get_read}
 use borrow.Author.Count.{below_more}
