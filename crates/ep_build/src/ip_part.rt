@@ -1,6 +1,7 @@
 //! The IP headers of a step, as they were given: a header alone has not the room that extension headers take.
 
-ghost use Rattle.std.specs.Prelude.{◌≡◌, ◌+◌, ◌≤◌, ◌++◌, ℕ, length, None, MatchResult, true, false, vec_len, vec_capacity};
+ghost use Rattle.std.specs.Prelude.{◌≡◌, ◌+◌, ◌≤◌, ◌++◌, ℕ, length, None, MatchResult, true, false};
+ghost use Rattle.std.specs.Prelude.{vec_capacity, vec_len};
 ghost use Rattle.ep_base.specs.Tables.{Refuses, first_row};
 ghost use Rattle.ep_ext.specs.Chains.{FitParts};
 ghost use Rattle.ep_packet.specs.IpHeaders.{FitsIpHeader, LeadThrough, headers_for, ip_headers_len, ip_headers_parts};
@@ -11,7 +12,7 @@ ghost use Rattle.ep_build.specs.BuildErrors.{is_icmpv6_in_ipv4};
 ghost use Rattle.ep_build.specs.BuiltFrames.{with_checksum_behind};
 ghost use Rattle.ep_build.specs.Steps.{part_headers, plain_ipv4, plain_ipv6};
 
-use crate::err::BuildWriteError;
+use crate::err::{BuildWriteError, WriteResult};
 use crate::facts::{ip_header_fits, ipv4_fits, ipv6_fits};
 use ep_base::err::ValueTooBigError;
 use ep_base::{EtherType, IpNumber};
@@ -61,11 +62,7 @@ pub(crate) trait IsIpHeaders {
             (λ error. Refuses (payload_len_rows (headers self.old) len) error) };
 
     /// Sets the checksum of a transport header between these headers and this payload.
-    fn set_checksum(
-        &self,
-        transport: &mut TransportHeader,
-        payload: &[u8],
-    ) -> Result<(), BuildWriteError>
+    fn set_checksum(&self, transport: &mut TransportHeader, payload: &[u8]) -> WriteResult
         requires { transport_header_len transport.old + length payload.now ≤ 65535 }
         ensures { MatchResult result
             (λ _. (is_icmpv6_in_ipv4 (headers self.now) transport.old ≡ false)
@@ -103,11 +100,7 @@ impl IsIpHeaders for Ipv4Header {
     }
 
     #[inline]
-    fn set_checksum(
-        &self,
-        transport: &mut TransportHeader,
-        payload: &[u8],
-    ) -> Result<(), BuildWriteError> {
+    fn set_checksum(&self, transport: &mut TransportHeader, payload: &[u8]) -> WriteResult {
         match transport.update_checksum_ipv4(self, payload) {
             Ok(()) => Ok(()),
             Err(TransportChecksumError::PayloadLen(error)) => {
@@ -142,11 +135,7 @@ impl IsIpHeaders for Ipv6Header {
     }
 
     #[inline]
-    fn set_checksum(
-        &self,
-        transport: &mut TransportHeader,
-        payload: &[u8],
-    ) -> Result<(), BuildWriteError> {
+    fn set_checksum(&self, transport: &mut TransportHeader, payload: &[u8]) -> WriteResult {
         match transport.update_checksum_ipv6(self, payload) {
             Ok(()) => Ok(()),
             Err(error) => Err(BuildWriteError::PayloadLen(error)),
@@ -177,11 +166,7 @@ impl IsIpHeaders for IpHeaders {
     }
 
     #[inline]
-    fn set_checksum(
-        &self,
-        transport: &mut TransportHeader,
-        payload: &[u8],
-    ) -> Result<(), BuildWriteError> {
+    fn set_checksum(&self, transport: &mut TransportHeader, payload: &[u8]) -> WriteResult {
         match self {
             IpHeaders::Ipv4(header, _) => header.set_checksum(transport, payload),
             IpHeaders::Ipv6(header, _) => header.set_checksum(transport, payload),

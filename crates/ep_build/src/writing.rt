@@ -1,7 +1,9 @@
 //! Writing the headers that a step holds, and a payload: all checks first, then one reservation, then the bytes.
 
-ghost use Rattle.std.specs.Prelude.{◌≡◌, ◌≤◌, ◌<◌, ◌+◌, ◌++◌, ℕ, [], length, Err, IfErr, OnOk, OnErr, vec_len, vec_capacity};
-ghost use Rattle.ep_packet.specs.IpHeaders.{FitsIpHeader, LeadThrough, ip_headers_parts, ip_headers_len, written_headers};
+ghost use Rattle.std.specs.Prelude.{◌≡◌, ◌≤◌, ◌<◌, ◌+◌, ◌++◌, ℕ, [], length, Err, IfErr, OnOk, OnErr};
+ghost use Rattle.std.specs.Prelude.{vec_capacity, vec_len};
+ghost use Rattle.ep_packet.specs.IpHeaders.{FitsIpHeader, LeadThrough, ip_headers_len, ip_headers_parts};
+ghost use Rattle.ep_packet.specs.IpHeaders.{written_headers};
 ghost use Rattle.ep_link.specs.ArpSlices.{arp_of};
 ghost use Rattle.ep_transport.specs.TransportHeaders.{transport_header_len};
 ghost use Rattle.ep_ext.specs.Chains.{FitParts};
@@ -9,10 +11,11 @@ ghost use Rattle.ep_build.specs.BuiltFragments.{IsFragmentReadBack};
 ghost use Rattle.ep_build.specs.ReadBack.{IsArpReadBack, IsReadBack};
 ghost use Rattle.ep_build.specs.BuildErrors.{IsBuildable, IsBuildError};
 ghost use Rattle.ep_build.specs.BuiltFrames.{held_ip, held_transport, held_arp, built_frame, built_size};
-ghost use Rattle.ep_build.specs.BuiltFrames.{link_before, link_part_bytes, link_part_len, transport_number, with_length};
+ghost use Rattle.ep_build.specs.BuiltFrames.{link_before, link_part_bytes, link_part_len, transport_number};
+ghost use Rattle.ep_build.specs.BuiltFrames.{with_length};
 ghost use Rattle.ep_build.specs.Steps.{part_headers};
 
-use crate::err::BuildWriteError;
+use crate::err::{BuildWriteError, WriteResult};
 use crate::facts::{link_fits, transport_fits};
 use crate::ip_part::{IpPart, IsIpHeaders};
 use crate::link_part::LinkPart;
@@ -28,7 +31,7 @@ pub(crate) fn write_ip<Headers: IsIpHeaders>(
     last: IpNumber,
     payload: &[u8],
     buf: &mut Vec<u8>,
-) -> Result<(), BuildWriteError>
+) -> WriteResult
     ensures ok { let held = held_ip link.now (Headers.headers headers.old) last in
         OnOk result (IsBuildable held (length payload.now)
         × (buf.new.items ≡ buf.old.items ++ built_frame held payload.now)) }
@@ -63,7 +66,7 @@ pub(crate) fn write_ip_part(
     last: IpNumber,
     payload: &[u8],
     buf: &mut Vec<u8>,
-) -> Result<(), BuildWriteError>
+) -> WriteResult
     ensures ok { let held = held_ip link (part_headers ip) last in
         OnOk result (IsBuildable held (length payload.now)
         × (buf.new.items ≡ buf.old.items ++ built_frame held payload.now)) }
@@ -89,7 +92,7 @@ pub(crate) fn write_behind(
     mut transport: TransportHeader,
     payload: &[u8],
     buf: &mut Vec<u8>,
-) -> Result<(), BuildWriteError>
+) -> WriteResult
     ensures ok { let held = held_transport link (part_headers ip) transport in
         OnOk result (IsBuildable held (length payload.now)
         × (buf.new.items ≡ buf.old.items ++ built_frame held payload.now)) }
@@ -122,7 +125,7 @@ pub(crate) fn write_transport<Headers: IsIpHeaders>(
     transport: &mut TransportHeader,
     payload: &[u8],
     buf: &mut Vec<u8>,
-) -> Result<(), BuildWriteError>
+) -> WriteResult
     ensures ok { let held = held_transport link.now (Headers.headers headers.old) transport.old in
         OnOk result (IsBuildable held (length payload.now)
         × (buf.new.items ≡ buf.old.items ++ built_frame held payload.now)) }
@@ -155,11 +158,7 @@ pub(crate) fn write_transport<Headers: IsIpHeaders>(
 }
 
 /// Appends the frame of an ARP packet.
-pub(crate) fn write_arp(
-    link: &LinkPart,
-    packet: &ArpPacket,
-    buf: &mut Vec<u8>,
-) -> Result<(), BuildWriteError>
+pub(crate) fn write_arp(link: &LinkPart, packet: &ArpPacket, buf: &mut Vec<u8>) -> WriteResult
     ensures ok { OnOk result (buf.new.items
         ≡ buf.old.items ++ built_frame (held_arp link.now (arp_of packet.now)) []) }
     ensures err { OnErr result (buf.new.items ≡ buf.old.items) }

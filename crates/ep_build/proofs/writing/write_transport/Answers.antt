@@ -1,5 +1,5 @@
-use Rattle.std.proofs.Common.{◌+◌, ℕ, length, sym, ap, subst, refl, inr, arith}
-use Rattle.std.specs.Prelude.{is_ok}
+use Rattle.std.proofs.Common.{◌≡◌, ◌≤◌, ◌+◌, ℕ, length, sym, ap, subst, refl, inr, arith}
+use Rattle.std.specs.Prelude.{is_ok, vec_len}
 use Rattle.std.proofs.lemmas.List.{length-append}
 use Rattle.ep_base.specs.Bytes.{AreBytes}
 use Rattle.ep_base.specs.Tables.{Refuses}
@@ -12,6 +12,14 @@ use Rattle.ep_build.proofs.LengthLemmas.{headers_for_len, with_length_len}
 use Rattle.ep_build.proofs.WritingLemmas.{appended, are_bytes, chosen, filled_len, joined, on_err, on_ok, succeeds}
 use Rattle.ep_build.proofs.WritingLemmas.{transport_back, transport_ok, transport_too_long, unrefused_len}
 use Rattle.ep_build.proofs.writing.write_transport.Goals as goal
+
+-- the room behind the headers of link and IP is that of the transport header and the payload
+room_left : (before payload : ℕ) {room link headers content link_len headers_len content_len after left : ℕ}
+    → before + (link + headers + (content + payload)) ≤ room → content ≡ content_len → link ≡ link_len
+    → headers ≡ headers_len → after ≡ before + (link_len + headers_len) → room ≤ left
+    → after + (content_len + payload) ≤ left
+room_left before payload reserved content_is link_is headers_is appended_is kept =
+    omega (arith, reserved, content_is, link_is, headers_is, appended_is, kept)
 
 pub returns-in-Err-clause-refused : goal.returns-in-Err-clause-refused
 returns-in-Err-clause-refused g c =
@@ -80,12 +88,10 @@ returns-then-is_err-clause-full g c wanting = omega (
 pub unwrap-requires : goal.unwrap-requires
 unwrap-requires g c = succeeds c.write.result _ _ c.write.ensures.full (omega (
   arith,
-  on_ok c.reserve.result _ c.if-is_err.ensures.negation c.reserve.ensures.ok,
-  c.header_len.ensures.value,
-  c.header_len-2.ensures.value,
-  c.headers_len.ensures.value,
-  c.append_headers.ensures.len,
-  c.append_headers.ensures.capacity,
+  room_left (vec_len c.reserve.new.self) (length c.args.payload.now)
+      (on_ok c.reserve.result _ c.if-is_err.ensures.negation c.reserve.ensures.ok) c.header_len.ensures.value
+      c.header_len-2.ensures.value c.headers_len.ensures.value c.append_headers.ensures.len
+      c.append_headers.ensures.capacity,
   filled_len (g.Headers.IsIpHeaders.headers c.link.new.self) c.args.transport.now c.set_length.new.transport
       c.set_checksum.new.transport c.args.payload.now c.set_length.ensures c.in_ok-set_checksum.ensures.1
       c.transport_fits.ensures,
@@ -94,12 +100,10 @@ unwrap-requires g c = succeeds c.write.result _ _ c.write.ensures.full (omega (
 pub unwrap-requires-2 : goal.unwrap-requires-2
 unwrap-requires-2 g c = c.extend_from_slice.ensures.succeeds (omega (
   arith,
-  on_ok c.reserve.result _ c.if-is_err.ensures.negation c.reserve.ensures.ok,
-  c.header_len.ensures.value,
-  c.header_len-2.ensures.value,
-  c.headers_len.ensures.value,
-  c.append_headers.ensures.len,
-  c.append_headers.ensures.capacity,
+  room_left (vec_len c.reserve.new.self) (length c.args.payload.now)
+      (on_ok c.reserve.result _ c.if-is_err.ensures.negation c.reserve.ensures.ok) c.header_len.ensures.value
+      c.header_len-2.ensures.value c.headers_len.ensures.value c.append_headers.ensures.len
+      c.append_headers.ensures.capacity,
   c.write.ensures.capacity,
   filled_len (g.Headers.IsIpHeaders.headers c.link.new.self) c.args.transport.now c.set_length.new.transport
       c.set_checksum.new.transport c.args.payload.now c.set_length.ensures c.in_ok-set_checksum.ensures.1
