@@ -35,16 +35,8 @@ pub fn push_checksum_ipv4(
     match transport {
         TransportSlice::Udp(datagram) if datagram.checksum() == 0 => Ok(()),
         TransportSlice::Udp(datagram) => {
-            let len = usize::from(datagram.length());
-            push_message_ipv4(
-                output,
-                b" udp",
-                source,
-                destination,
-                17,
-                len,
-                datagram.slice(),
-            )
+            let (len, bytes) = (usize::from(datagram.length()), datagram.slice());
+            push_message_ipv4(output, b" udp", source, destination, 17, len, bytes)
         }
         TransportSlice::Tcp(segment) => {
             let bytes = segment.slice();
@@ -67,16 +59,8 @@ pub fn push_checksum_ipv6(
 {
     match transport {
         TransportSlice::Udp(datagram) => {
-            let len = usize::from(datagram.length());
-            push_message_ipv6(
-                output,
-                b" udp",
-                source,
-                destination,
-                17,
-                len,
-                datagram.slice(),
-            )
+            let (len, bytes) = (usize::from(datagram.length()), datagram.slice());
+            push_message_ipv6(output, b" udp", source, destination, 17, len, bytes)
         }
         TransportSlice::Tcp(segment) => {
             let bytes = segment.slice();

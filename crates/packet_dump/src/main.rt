@@ -72,32 +72,37 @@ What is there of a packet is read. Where a layer is cut or wrong, the line says
 'stopped' and why behind those in front of it, and only 'refused' where it is
 the first. 'incomplete': bytes are missing that a length field says are there.
 
-  -c, --count N      stop behind the Nth packet; as all values, also --count=N
-  --only KIND        only packets of a kind: udp, tcp, icmp, arp, refused or
-                     stopped
+  -c, --count N      stop behind the Nth packet that is read, shown or not; as
+                     all values, also --count=N
+  --only KIND        only packets of a kind, the last that is named: udp, tcp,
+                     icmp, arp, refused or stopped; a fragment is of none
   --host A           only packets from or to an address (IP, or ARP for IPv4),
   --port N           a port of UDP or TCP,
   --net A/N          an address of a network, or
-  --vlan N           with a VLAN's tag; of several words, up to six, all hold
+  --vlan N           with a VLAN's tag; up to six of these in all, each of which
+                     has to hold: there are no other expressions
   --time FORM        times since the first packet (relative), in seconds since
                      1970 (epoch) or as dates and times of day in UTC (utc)
   --strict           read only whole frames, and refuse others
   --verbose          behind its layers what else a packet says: TTL,
                      identification, DF, priorities of VLANs, window and
                      options of TCP, the packet that an ICMP error quotes;
-                     and whether checksums are right
+                     and whether checksums are right (or left to the card that
+                     sends, where the capture was made before)
   --hex              the bytes of payloads too, 16 in a row, and as characters
   --hex=frame        those of whole packets, headers and all
   --reassemble       put IP payloads together from their fragments: a line more
-                     behind the packet that completes one, or is refused for it
+                     behind the packet that completes one, or is refused for it;
+                     a summary counts those that never are ('open at the end')
   --timeout SECONDS  with --reassemble: give a payload up whose last accepted
                      fragment came longer ago (30)
   --limit BYTES      with --reassemble: put no payload together that is longer
                      (65535)
-  --write FILE       write the packets that are shown into a new file (pcap, in
-                     nanoseconds), up to one without time or of another link
   --streams N        with --reassemble: of more than N payloads at a time give
                      the one up whose last accepted fragment is oldest (256)
+  --write FILE       write the packets that are shown into a file of a new name
+                     (pcap, in nanoseconds), up to the first that has no time
+                     or another link type
   --summary          behind the lines how much was read of what, and the errors:
                      of all packets, also of those that --only leaves out
   --quiet            no lines; a summary says too how many refused and stopped

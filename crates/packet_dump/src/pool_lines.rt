@@ -9,7 +9,7 @@ ghost use Rattle.etherparse.specs.LaxPackets.{lax_layers_of};
 ghost use Rattle.etherparse.specs.StrictFrames.{layers_in};
 ghost use Rattle.etherparse.specs.TransportParts.{payload_in, transport_layer_of};
 ghost use Rattle.packet_dump.specs.PacketLines.{parts_start};
-ghost use Rattle.packet_dump.specs.PoolLines.{Inner, IsAnswerText, IsInner, closing_text, frame_error, inner_text};
+ghost use Rattle.packet_dump.specs.PoolLines.{Inner, IsAnswerText, IsInner, closing_text, frame_error};
 ghost use Rattle.packet_dump.specs.PoolLines.{opening_text, part, payload_line, payload_text, pool_refusal_text};
 ghost use Rattle.packet_dump.specs.PoolLines.{meets_payload, refused_line, shows_payload, slot_holds_of, unread, unread_text};
 
@@ -181,7 +181,8 @@ fn push_part(
     push_closing(output, further.options.hex, bytes_of_part(bytes, transport))
 }
 
-/// Appends what is told of a payload that has a transport layer, or need have none.
+/// Appends what is told of a payload that has a transport layer, or need have none: that layer, or else the protocol and
+/// the length of the payload.
 fn push_reassembled(
     output: &mut Vec<u8>,
     number: IpNumber,
@@ -192,19 +193,6 @@ fn push_reassembled(
         ≡ output.old.items ++ payload_text number.0 bytes.now (part (option_map transport_layer_of transport.now))) }
 {
     output.extend_from_slice(b" reassembled")?;
-    push_part_text(output, number, bytes, transport)
-}
-
-/// Appends the text of a transport layer, or else the protocol and the length of the payload.
-fn push_part_text(
-    output: &mut Vec<u8>,
-    number: IpNumber,
-    bytes: &[u8],
-    transport: &Option<TransportSlice<'_>>,
-) -> Result<(), AllocError>
-    ensures { OnOk result (output.new.items
-        ≡ output.old.items ++ inner_text number.0 bytes.now (part (option_map transport_layer_of transport.now))) }
-{
     match transport {
         Some(transport) => push_transport(output, transport),
         None => {
