@@ -162,13 +162,21 @@ impl<'a> SlicedPacket<'a> {
         match self.fill(entry, bytes) {
             Ok(()) => Ok(()),
             Err(error) => {
-                self.link = None;
-                self.link_exts.clear();
-                self.net = None;
-                self.transport = None;
+                self.clear();
                 Err(error)
             }
         }
+    }
+
+    /// Takes all layers away. Apart, since inlined it would have the room of the new values zeroed for each packet.
+    #[inline(never)]
+    fn clear(&mut self)
+        ensures { layers_of self.new ≡ no_layers }
+    {
+        self.link = None;
+        self.link_exts.clear();
+        self.net = None;
+        self.transport = None;
     }
 
     /// Fills in the layers of the packet that begins with what `entry` says, whatever net and transport layer there
