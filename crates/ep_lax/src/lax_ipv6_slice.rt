@@ -1,15 +1,8 @@
 //! An IPv6 packet of which bytes may be missing (RFC 8200).
 
-ghost use Rattle.std.specs.Prelude.{◌≡◌, ◌+◌, ◌<◌, ◌^◌, Option};
-ghost use Rattle.std.specs.Option.{ForSome, option_map};
-ghost use Rattle.ep_base.specs.declared.err.ipv6_exts.HeaderSliceError.{HeaderSliceError};
-ghost use Rattle.ep_base.specs.LaxCut.{LaxCut};
-ghost use Rattle.ep_ext.specs.Chains.{offset_of};
-ghost use Rattle.ep_ext.specs.FrontChains.{chain_stop};
+ghost use Rattle.std.specs.Prelude.{◌≡◌};
 ghost use Rattle.ep_ext.specs.Ipv6ExtensionSlices.{ipv6_slice_number as extension_number};
 ghost use Rattle.ep_ip.specs.Ipv6Slices.{ipv6_header_slice_header};
-ghost use Rattle.ep_lax.specs.LaxIp.{lax_ipv6_source, stop_behind};
-ghost use Rattle.ep_lax.specs.LaxSlices.{lax_cut_of};
 
 use crate::lax_cut::{CutSlice, LengthField, cut};
 use crate::lax_ip_payload_slice::LaxIpPayloadSlice;
@@ -17,14 +10,38 @@ use ep_base::LenSource;
 use ep_base::err::{Layer, ipv6, ipv6_exts};
 use ep_ext::Ipv6ExtensionsSlice;
 use ep_ip::{Ipv6Header, Ipv6HeaderSlice};
+use std::alloc::AllocError;
 
 /// An IPv6 packet (RFC 8200) whose header stands: the header, the extension headers up to the first that is refused, and
 /// the payload, which the payload length cuts where it can.
-#[derive(Clone, Debug, PartialEq, Eq, Drop)]
+#[derive(Debug, PartialEq, Eq, Drop)]
 pub struct LaxIpv6Slice<'a> {
     header: Ipv6HeaderSlice<'a>,
     extensions: Ipv6ExtensionsSlice<'a>,
     payload: LaxIpPayloadSlice<'a>,
+    ghost follows: { extension_number extensions ≡ (ipv6_header_slice_header header).next_header.0 },
+}
+
+impl<'a> Clone for LaxIpv6Slice<'a> {
+    ghost use Rattle.std.specs.Prelude.{◌≡◌, ⊤};
+
+    ghost is_clone = { λ source copy. copy ≡ source };
+
+    ghost is_infallible = { λ _. ⊤ };
+
+    fn clone(&self) -> Result<LaxIpv6Slice<'a>, AllocError> {
+        Ok(LaxIpv6Slice {
+            header: self.header.clone()?,
+            extensions: self.extensions.clone()?,
+            payload: LaxIpPayloadSlice {
+                incomplete: self.payload.incomplete,
+                ip_number: self.payload.ip_number,
+                fragmented: self.payload.fragmented,
+                len_source: self.payload.len_source,
+                payload: self.payload.payload,
+            },
+        })
+    }
 }
 
 /// A packet, and why the extension header with which its payload begins is refused, where one is, and which layer that is.
@@ -34,15 +51,18 @@ type WithStop<'a> = (
 );
 
 impl<'a> LaxIpv6Slice<'a> {
-    ghost use Rattle.std.specs.Prelude.{◌≡◌, ◌+◌, ◌++◌, length, IfOk, IfErr, IsOkAnd, List, ℕ, Option, false};
-    ghost use Rattle.std.specs.Option.{option_map};
+    ghost use Rattle.std.specs.Prelude.{◌≡◌, ◌+◌, ◌<◌, ◌^◌, ◌++◌, length, IfOk, IfErr, IsOkAnd, List, ℕ, Option, false};
+    ghost use Rattle.std.specs.Option.{ForSome, option_map};
     ghost use Rattle.ep_base.specs.declared.err.ipv6_exts.HeaderSliceError.{HeaderSliceError};
+    ghost use Rattle.ep_base.specs.LaxCut.{LaxCut};
+    ghost use Rattle.ep_ext.specs.Chains.{offset_of};
     ghost use Rattle.ep_ext.specs.FrontChains.{chain_stop};
     ghost use Rattle.ep_ext.specs.Ipv6ExtensionSlices.{ipv6_slice_parts as extension_parts, ipv6_slice_bytes as extension_bytes};
     ghost use Rattle.ep_ip.specs.declared.ipv6_header.Ipv6Header.{Ipv6Header};
     ghost use Rattle.ep_ip.specs.Ipv6.{RefusesIpv6Header};
-    ghost use Rattle.ep_ip.specs.Ipv6Slices.{ipv6_header_slice_header, ipv6_header_slice_bytes};
-    ghost use Rattle.ep_lax.specs.LaxIp.{LaxIp, IsLaxIpv6};
+    ghost use Rattle.ep_ip.specs.Ipv6Slices.{ipv6_header_slice_bytes};
+    ghost use Rattle.ep_lax.specs.LaxIp.{LaxIp, IsLaxIpv6, lax_ipv6_source, stop_behind};
+    ghost use Rattle.ep_lax.specs.LaxSlices.{lax_cut_of};
     ghost use Rattle.ep_lax.specs.LaxSlices.{lax_ip_payload_of, lax_ipv6_of, lax_ipv6_slice_bytes, lax_ipv6_slice_content, lax_ipv6_slice_incomplete};
     ghost use Rattle.ep_lax.specs.LaxSlices.{lax_ipv6_slice_extensions, lax_ipv6_slice_header, lax_ipv6_slice_payload};
 
@@ -79,12 +99,12 @@ impl<'a> LaxIpv6Slice<'a> {
             source: LenSource::Ipv6HeaderPayloadLen,
         };
         let content = cut(slice, Ipv6Header::LEN, field, outer);
-        let len_source = payload_source(&header, &content);
+        let len_source = LaxIpv6Slice::payload_source(&header, &content);
         let (extensions, ip_number, payload, refused) = Ipv6ExtensionsSlice::from_slice_lax(
             header.next_header(),
             content.payload,
         );
-        let stop = behind_header(refused, Ipv6Header::LEN, len_source);
+        let stop = LaxIpv6Slice::behind_header(refused, Ipv6Header::LEN, len_source);
         let payload = LaxIpPayloadSlice {
             incomplete: content.incomplete,
             ip_number,
@@ -141,6 +161,7 @@ impl<'a> LaxIpv6Slice<'a> {
         ensures headers { extension_parts result ≡ lax_ipv6_slice_extensions self.now }
         ensures bytes { extension_bytes result ++ (lax_ipv6_slice_payload self.now).bytes
             ≡ lax_ipv6_slice_content self.now }
+        ensures number { extension_number result ≡ (lax_ipv6_slice_header self.now).next_header.0 }
     {
         self.extensions.clone().unwrap()
     }
@@ -161,56 +182,61 @@ impl<'a> LaxIpv6Slice<'a> {
     {
         self.payload.fragmented
     }
-}
 
-/// What set the end of the bytes behind a header. A payload length of 0 sets none where there are bytes.
-#[inline]
-fn payload_source(header: &Ipv6HeaderSlice<'_>, content: &CutSlice<'_>) -> LenSource
-    ensures { (cut : LaxCut) → cut.payload ≡ content.now.payload.now → cut.source ≡ content.now.len_source
-        → result ≡ lax_ipv6_source (ipv6_header_slice_header header.now) cut }
-{
-    if header.payload_length() != 0 {
-        return content.len_source;
-    }
-    if content.payload.is_empty() {
-        LenSource::Ipv6HeaderPayloadLen
-    } else {
-        LenSource::Slice
-    }
-}
-
-/// The refusal of an extension header with its layer, where one is refused, behind a header of this many bytes, where this
-/// set the end of what follows it.
-#[inline]
-fn behind_header(
-    refused: Option<(ipv6_exts::HeaderSliceError, Layer)>,
-    header_len: usize,
-    len_source: LenSource,
-) -> Option<(ipv6_exts::HeaderSliceError, Layer)>
-    requires { ForSome refused (λ read. offset_of read.0 + header_len < 2 ^ 64) }
-    ensures { (stop : Option HeaderSliceError) → refused ≡ option_map chain_stop stop
-        → result ≡ option_map chain_stop (option_map (stop_behind header_len len_source) stop) }
-{
-    match refused {
-        None => None,
-        Some(read) => Some((further_behind(read.0, header_len, len_source), read.1)),
-    }
-}
-
-/// The refusal of an extension header, the same.
-#[inline]
-fn further_behind(
-    error: ipv6_exts::HeaderSliceError,
-    header_len: usize,
-    len_source: LenSource,
-) -> ipv6_exts::HeaderSliceError
-    requires { offset_of error + header_len < 2 ^ 64 }
-    ensures { result ≡ stop_behind header_len len_source error }
-{
-    match error {
-        ipv6_exts::HeaderSliceError::Len(error) => {
-            ipv6_exts::HeaderSliceError::Len(error.behind_header(header_len, len_source))
+    /// What set the end of the bytes behind a header. A payload length of 0 sets none where there are bytes.
+    #[inline]
+    fn payload_source(header: &Ipv6HeaderSlice<'_>, content: &CutSlice<'_>) -> LenSource
+        ensures { (cut : LaxCut) → cut.payload ≡ content.now.payload.now → cut.source ≡ content.now.len_source
+            → result ≡ lax_ipv6_source (ipv6_header_slice_header header.now) cut }
+    {
+        if header.payload_length() != 0 {
+            return content.len_source;
         }
-        ipv6_exts::HeaderSliceError::Content(error) => ipv6_exts::HeaderSliceError::Content(error),
+        if content.payload.is_empty() {
+            LenSource::Ipv6HeaderPayloadLen
+        } else {
+            LenSource::Slice
+        }
+    }
+
+    /// The refusal of an extension header with its layer, where one is refused, behind a header of this many bytes, where
+    /// this set the end of what follows it.
+    #[inline]
+    fn behind_header(
+        refused: Option<(ipv6_exts::HeaderSliceError, Layer)>,
+        header_len: usize,
+        len_source: LenSource,
+    ) -> Option<(ipv6_exts::HeaderSliceError, Layer)>
+        requires { ForSome refused (λ read. offset_of read.0 + header_len < 2 ^ 64) }
+        ensures { (stop : Option HeaderSliceError) → refused ≡ option_map chain_stop stop
+            → result ≡ option_map chain_stop (option_map (stop_behind header_len len_source) stop) }
+    {
+        match refused {
+            None => None,
+            Some(read) => Some((
+                LaxIpv6Slice::further_behind(read.0, header_len, len_source),
+                read.1,
+            )),
+        }
+    }
+
+    /// The refusal of an extension header, the same.
+    #[inline]
+    fn further_behind(
+        error: ipv6_exts::HeaderSliceError,
+        header_len: usize,
+        len_source: LenSource,
+    ) -> ipv6_exts::HeaderSliceError
+        requires { offset_of error + header_len < 2 ^ 64 }
+        ensures { result ≡ stop_behind header_len len_source error }
+    {
+        match error {
+            ipv6_exts::HeaderSliceError::Len(error) => {
+                ipv6_exts::HeaderSliceError::Len(error.behind_header(header_len, len_source))
+            }
+            ipv6_exts::HeaderSliceError::Content(error) => ipv6_exts::HeaderSliceError::Content(
+                error,
+            ),
+        }
     }
 }

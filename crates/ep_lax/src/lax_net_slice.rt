@@ -29,18 +29,19 @@ pub enum LaxNetSlice<'a> {
 }
 
 impl<'a> LaxNetSlice<'a> {
-    ghost use Rattle.std.specs.Prelude.{◌≡◌, ◌<◌, ◌+◌, ◌^◌, ℕ, List, Some, length};
+    ghost use Rattle.std.specs.Prelude.{◌≡◌, ◌<◌, ◌+◌, ◌^◌, ℕ, IfSome, List, Some, length};
     ghost use Rattle.std.specs.Option.{option_copied, option_map};
     ghost use Rattle.ep_packet.specs.FrameBytes.{EncodesNet};
     ghost use Rattle.ep_packet.specs.Layers.{net_payload};
     ghost use Rattle.ep_packet.specs.Offsets.{net_layer_len};
     ghost use Rattle.ep_lax.specs.LaxSlices.{lax_ip_payload_of};
-    ghost use Rattle.ep_lax.specs.LaxViews.{lax_net_layer_of};
+    ghost use Rattle.ep_lax.specs.LaxViews.{lax_net_incomplete, lax_net_layer_of};
 
     /// The payload, where the layer is IP.
     #[inline]
     pub fn ip_payload_ref(&self) -> Option<&LaxIpPayloadSlice<'a>>
-        ensures { option_map lax_ip_payload_of (option_copied result) ≡ net_payload (lax_net_layer_of self.now) }
+        ensures payload { option_map lax_ip_payload_of (option_copied result) ≡ net_payload (lax_net_layer_of self.now) }
+        ensures incomplete { IfSome result (λ payload. payload.now.incomplete ≡ lax_net_incomplete self.now) }
     {
         match self {
             LaxNetSlice::Ipv4(packet) => Some(packet.payload()),

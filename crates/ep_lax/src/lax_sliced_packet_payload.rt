@@ -1,6 +1,6 @@
 //! What lies inside the layers of a packet that was sliced laxly: its payloads and its tags.
 
-ghost use Rattle.std.specs.Prelude.{◌≡◌, ◌≤◌, ◌<◌, ◌+◌, ◌^◌, ℕ, false, List, drop, length, map};
+ghost use Rattle.std.specs.Prelude.{◌≡◌, ◌≤◌, ◌<◌, ◌+◌, ◌^◌, ℕ, false, IfSome, List, drop, length, map};
 ghost use Rattle.std.specs.Option.{option_copied, option_map};
 ghost use Rattle.ep_base.specs.LaxCut.{is_missing};
 ghost use Rattle.ep_base.specs.declared.len_source.LenSource.TheVariants as source;
@@ -77,8 +77,10 @@ impl<'a> LaxSlicedPacket<'a> {
     /// The payload of the IP packet, if the net layer is one.
     #[inline]
     pub fn ip_payload(&self) -> Option<&LaxIpPayloadSlice<'a>>
-        ensures { option_map lax_ip_payload_of (option_copied result)
+        ensures payload { option_map lax_ip_payload_of (option_copied result)
             ≡ ip_payload_in (layers_in (lax_layers_of self.now)) }
+        ensures incomplete { IfSome result
+            (λ payload. payload.now.incomplete ≡ (lax_layers_of self.now).net.incomplete) }
     {
         match &self.net {
             Some(net) => net.ip_payload_ref(),
