@@ -1,7 +1,7 @@
 -- What the calls that write a frame answer, from what the calls answer that they make.
 use Rattle.std.proofs.Common.{◌≡◌, ℕ, ◌+◌, ◌-◌, ◌^◌, ◌<◌, ◌≤◌, Bool, true, false, List, [], ◌∷◌, ◌++◌, length}
 use Rattle.std.proofs.Common.{Some, None, Result, Ok, Err, refl, sym, ap, subst, ◌∙◌, inl, inr, arith}
-use Rattle.std.specs.Prelude.{OnOk, OnErr, is_err, ◌↔◌, if◌then◌else◌, nat_lt, slice_index}
+use Rattle.std.specs.Prelude.{OnOk, OnErr, is_err, ◌↔◌, nat_lt, slice_index}
 use Rattle.std.specs.Result.{IsOk}
 use Rattle.std.proofs.lemmas.Grind.{common_steps}
 use Rattle.std.proofs.lemmas.Bool.{cases_lt}
@@ -54,11 +54,6 @@ on_ok (Err e) P there ok = absurd (cc)
 pub on_err : {A E : Type 0} (answer : Result A E) (P : Type 0) → is_err answer ≡ true → OnErr answer P → P
 on_err (Ok a) P failed err = absurd (cc)
 on_err (Err e) P failed err = err
-
--- what a choice is that was made so
-pub chosen : {A : Type 0} (choice : Bool) (value one other : A) → choice ≡ true
-    → value ≡ (if choice then one else other) → value ≡ one
-chosen choice value one other so is = is ∙ ap (λ (b : Bool). if b then one else other) so
 
 -- a call that fails for want of room alone succeeds where there is room
 pub succeeds : {A E : Type 0} (answer : Result A E) (room needed : ℕ) → OnErr answer (room < needed) → needed ≤ room
@@ -328,6 +323,11 @@ transport_ok link headers linked behind set filled last len type payload is numb
 -- what is appended where the frame of what is held is written
 abbrev pub Appends : Held → List ℕ → List ℕ → List ℕ → Type 0
 Appends held payload old new = IsBuildable held (length payload) × (new ≡ old ++ built_frame held payload)
+
+-- what is appended where its headers alone are
+abbrev pub AppendsHeaders : Held → List ℕ → List ℕ → List ℕ → Type 0
+AppendsHeaders held payload old new = IsBuildable held (length payload)
+    × (new ++ payload ≡ old ++ built_frame held payload)
 
 -- ---- reading back
 

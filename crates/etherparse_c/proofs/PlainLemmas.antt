@@ -1,9 +1,11 @@
 -- That plain frames are frames, and what is said of them.
 use Rattle.std.proofs.Common.{◌≡◌, ℕ, ◌+◌, ◌*◌, ◌-◌, ◌≤◌, false, List, [], ◌∷◌, ◌++◌, length, take, drop, Option, Some, None, refl, sym, ap, subst, ◌∙◌, ◌⊎◌, inl, inr, arith}
 use Rattle.std.specs.Prelude.{suc}
+use Rattle.std.proofs.lemmas.Option.{none-some}
 use Rattle.std.proofs.lemmas.List.{append_assoc, drop_at, drop-drop, take-append-drop, length-append, length-take, length-drop}
 use Rattle.etherparse.specs.Bytes.{bit}
-use Rattle.etherparse.specs.IpNumbers.{authentication_number, tcp_number, udp_number}
+use Rattle.etherparse.specs.EtherTypes.{ipv4_type, ipv6_type}
+use Rattle.etherparse.specs.IpNumbers.{authentication_number, icmpv6_number, tcp_number, udp_number}
 use Rattle.etherparse.specs.IpPayload.{IpPayload}
 use Rattle.etherparse.specs.Readings.{cut_by, slices}
 use Rattle.etherparse.specs.Tables.{parts_of}
@@ -26,14 +28,17 @@ use Rattle.etherparse.specs.Vlan.{IsVlan}
 use Rattle.etherparse.specs.VlanSlices.{vlan_slice_header, vlan_slice_parts, vlan_slice_payload}
 use Rattle.etherparse.specs.Types.Entry.TheVariants.{Ethernet as ethernet_entry}
 use Rattle.etherparse.specs.Frame.{NetKind, any_ip, only_ipv4, only_ipv6, net_kind, most_link_exts, IsFrame, IsInside, IsNetPart, IsTransportBehind, IsTransportIn}
-use Rattle.etherparse.specs.Layers.{Layers, NetLayer, ipv4, ipv6, net_payload}
+use Rattle.etherparse.specs.FrameBytes.{behind_net, link_payload, payload_behind}
+use Rattle.etherparse.specs.Layers.{Layers, NetLayer, arp, ipv4, ipv6, net_payload}
 use Rattle.etherparse.specs.Payloads.{extensions_len_source}
 use Rattle.etherparse.specs.TransportParts.{TransportLayer}
+use Rattle.etherparse_c.specs.declared.packet.Ip.{Ip}
 use Rattle.etherparse_c.specs.declared.packet.Packet.{Packet}
+use Rattle.etherparse_c.specs.declared.packet.Part.{Part}
 use Rattle.etherparse_c.specs.declared.plain.PlainIp.{PlainIp}
 use Rattle.etherparse_c.specs.declared.vlans.Behind.{Behind}
-use Rattle.etherparse_c.specs.Description.{description, header_end, link_len, link_part, net_end, no_refusal, source_number, tag_slots, tags_len}
-use Rattle.etherparse_c.specs.Plain.{HasPlainIp, HasVlans, IsPlainIp, IsPlainNet, plain_told}
+use Rattle.etherparse_c.specs.Description.{description, ip_in, link_len, link_part, net_end, net_kind as kind_number, net_len, no_refusal, part, tag_slots, tags_len}
+use Rattle.etherparse_c.specs.Plain.{HasPlainIp, HasVlans, IsPlainIp, IsPlainNet, net_told, plain_ip, plain_payload, plain_told, transport_told}
 
 -- ---- tags
 
@@ -89,11 +94,12 @@ two_vlans type bytes left rest outer inner behind of_type is of_inner_type is_in
 ipv4_chain_ends : (number : ℕ) → (number ≡ authentication_number → ⊥) → demand_of ipv4_chain slices [] number ≡ ends
 ipv4_chain_ends number other = grind (arith, other)
 
--- those of UDP and TCP end one of IPv6
-ipv6_chain_ends : (number : ℕ) → (number ≡ udp_number) ⊎ (number ≡ tcp_number)
+-- those of UDP, TCP and ICMPv6 end one of IPv6
+ipv6_chain_ends : (number : ℕ) → (number ≡ udp_number) ⊎ (number ≡ tcp_number) ⊎ (number ≡ icmpv6_number)
     → demand_of ipv6_chain slices [] number ≡ ends
 ipv6_chain_ends number (inl is) = ap (λ (n : ℕ). demand_of ipv6_chain slices [] n) is
-ipv6_chain_ends number (inr is) = ap (λ (n : ℕ). demand_of ipv6_chain slices [] n) is
+ipv6_chain_ends number (inr (inl is)) = ap (λ (n : ℕ). demand_of ipv6_chain slices [] n) is
+ipv6_chain_ends number (inr (inr is)) = ap (λ (n : ℕ). demand_of ipv6_chain slices [] n) is
 
 -- bytes of which n are a header, and t the header and its payload
 cut_bytes : (bytes header rest : List ℕ) (n t : ℕ) → bytes ≡ header ++ rest → length header ≡ n → n ≤ t
@@ -175,11 +181,11 @@ has_ipv4 bytes left header ip cut other whole version len identification number 
       };
     }
 
--- an IPv6 packet with UDP or TCP behind its header
+-- an IPv6 packet with UDP, TCP or ICMPv6 behind its header
 pub has_ipv6 : (bytes left : List ℕ) (header : Ipv6Header) (ip : PlainIp)
     → IsIpv6Packet bytes (parts_of header ip.payload.now left)
     → (header.next_header.0 ≡ udp_number) ⊎ (header.next_header.0 ≡ tcp_number)
-    → ip.version ≡ 6 → ip.len ≡ 40 → ip.identification ≡ 0 → ip.number ≡ header.next_header
+    ⊎ (header.next_header.0 ≡ icmpv6_number) → ip.version ≡ 6 → ip.len ≡ 40 → ip.identification ≡ 0 → ip.number ≡ header.next_header
     → ip.end ≡ ipv6_payload_source header ip.payload.now → HasPlainIp (Some only_ipv6) bytes ip
 has_ipv6 bytes left header ip cut known version len identification number end =
     let payload : IpPayload = record {
@@ -223,20 +229,18 @@ has_ipv6 bytes left header ip cut known version len identification number end =
       };
     }
 
--- a packet of one version is one of any
-pub any_ipv4 : (bytes : List ℕ) (ip : PlainIp) → HasPlainIp (Some only_ipv4) bytes ip → HasPlainIp (Some any_ip) bytes ip
-any_ipv4 bytes ip has = record {
-  layer = has.layer;
-  is = (ipv4_part has.is.0, has.is.1, has.is.2);
-  shown = has.shown;
-}
-
-pub any_ipv6 : (bytes : List ℕ) (ip : PlainIp) → HasPlainIp (Some only_ipv6) bytes ip → HasPlainIp (Some any_ip) bytes ip
-any_ipv6 bytes ip has = record {
-  layer = has.layer;
-  is = (ipv6_part has.is.0, has.is.1, has.is.2);
-  shown = has.shown;
-}
+-- a net part that begins with a packet of one version begins with one of any
+pub any_version : (type : EtherType) (bytes : List ℕ) (net : NetLayer) (transport : Option TransportLayer)
+    → (type.0 ≡ ipv4_type) ⊎ (type.0 ≡ ipv6_type) → IsNetPart slices (net_kind type) bytes (Some net) transport
+    → IsNetPart slices (Some any_ip) bytes (Some net) transport
+any_version type bytes net transport (inl is) part =
+    let here : IsNetPart slices (Some only_ipv4) bytes (Some net) transport =
+    subst (λ (n : ℕ). IsNetPart slices (net_kind (record { 0 = n })) bytes (Some net) transport) is part in
+    (here.0, (ipv4_part here.1.0, here.1.1, here.1.2), here.2, here.3)
+any_version type bytes net transport (inr is) part =
+    let here : IsNetPart slices (Some only_ipv6) bytes (Some net) transport =
+    subst (λ (n : ℕ). IsNetPart slices (net_kind (record { 0 = n })) bytes (Some net) transport) is part in
+    (here.0, (ipv6_part here.1.0, here.1.1, here.1.2), here.2, here.3)
 
 -- a type that begins a tag is none of a net layer
 tagged_kind : (type : EtherType) → BeginsLinkExtension type → net_kind type ≡ None
@@ -245,26 +249,81 @@ tagged_kind type (inl (inr (inl is))) = ap (λ (n : ℕ). net_kind (record { 0 =
 tagged_kind type (inl (inr (inr is))) = ap (λ (n : ℕ). net_kind (record { 0 = n })) is
 tagged_kind type (inr is) = ap (λ (n : ℕ). net_kind (record { 0 = n })) is
 
--- so bytes with an IP packet are of a type that begins none
-pub begins_none : (type : EtherType) (bytes : List ℕ) (ip : PlainIp) → HasPlainIp (net_kind type) bytes ip
-    → ¬ BeginsLinkExtension type
-begins_none type bytes ip has =
-    λ begins. subst (λ (kind : Option NetKind). IsPlainNet kind bytes has.layer) (tagged_kind type begins) has.is
+-- so bytes with a net layer are of a type that begins none
+pub begins_none : (type : EtherType) (bytes : List ℕ) (net : NetLayer) (transport : Option TransportLayer)
+    → IsNetPart slices (net_kind type) bytes (Some net) transport → ¬ BeginsLinkExtension type
+begins_none type bytes net transport part =
+    λ begins.
+    let none : IsNetPart slices None bytes (Some net) transport =
+    subst (λ (kind : Option NetKind). IsNetPart slices kind bytes (Some net) transport) (tagged_kind type begins) part in
+    none-some net (sym none.0)
 
--- the layers of an IP packet and of what is in it are the net part of bytes
+-- a net layer and what is in its payload are the net part of bytes
+pub net_part : (kind : Option NetKind) (bytes : List ℕ) (layer : NetLayer) (transport : Option TransportLayer)
+    → IsPlainNet kind bytes layer → IsTransportBehind slices (net_payload layer) transport
+    → IsNetPart slices kind bytes (Some layer) transport
+net_part None bytes layer transport is inside = absurd is
+net_part (Some kind) bytes layer transport is inside = (layer, is, refl, inside)
+
+-- so are the layers of an IP packet and of what is in it
 pub plain_part : (kind : Option NetKind) (bytes : List ℕ) (layer : NetLayer) (payload : IpPayload)
-    (transport : TransportLayer) → IsPlainNet kind bytes layer → net_payload layer ≡ Some payload
-    → IsTransportIn slices payload (Some transport) → IsNetPart slices kind bytes (Some layer) (Some transport)
-plain_part None bytes layer payload transport is same inside = absurd is
-plain_part (Some kind) bytes layer payload transport is same inside =
-    (layer, is, refl, subst (λ (p : Option IpPayload). IsTransportBehind slices p (Some transport)) (sym same) inside)
+    (transport : Option TransportLayer) → IsPlainNet kind bytes layer → net_payload layer ≡ Some payload
+    → IsTransportIn slices payload transport → IsNetPart slices kind bytes (Some layer) transport
+plain_part kind bytes layer payload transport is same inside =
+    net_part kind bytes layer transport is
+    (subst (λ (p : Option IpPayload). IsTransportBehind slices p transport) (sym same) inside)
+
+-- ---- what is said of a net layer
+
+-- what set the end of a payload, and its bytes, where there is one
+abbrev source_in : Option IpPayload → LenSource
+source_in None = source.Slice
+source_in (Some payload) = payload.source
+
+abbrev bytes_in : Option IpPayload → List ℕ
+bytes_in None = []
+bytes_in (Some payload) = payload.bytes
+
+-- a net layer's payload is what lies behind it, and the layer sets its end
+pub has_payload : (layer : NetLayer) (payload : IpPayload) → net_payload layer ≡ Some payload
+    → (net_end (Some layer) ≡ payload.source) × (behind_net [] (Some layer) ≡ payload.bytes)
+has_payload (ipv4 header extensions inside) payload is = (ap source_in is, ap bytes_in is)
+has_payload (ipv6 header extensions inside) payload is = (ap source_in is, ap bytes_in is)
+has_payload (arp packet) payload is = absurd (none-some payload is)
+
+-- behind one without a payload lies nothing
+pub has_none : (layer : NetLayer) → net_payload layer ≡ None
+    → (net_end (Some layer) ≡ source.ArpAddrLengths) × (behind_net [] (Some layer) ≡ [])
+has_none (ipv4 header extensions inside) is = absurd (none-some inside (sym is))
+has_none (ipv6 header extensions inside) is = absurd (none-some inside (sym is))
+has_none (arp packet) is = (refl, refl)
+
+-- what is said of header and transport layer is said of the net layer
+pub net_is_told : (offset : ℕ) (net : NetLayer) (transport : Option TransportLayer) (end : LenSource)
+    (bytes : List ℕ) (header : Part) (ip : Ip) (old new : Packet)
+    → (net_end (Some net) ≡ end) × (behind_net [] (Some net) ≡ bytes)
+    → header ≡ part (kind_number (Some net)) offset (net_len (Some net)) → ip ≡ ip_in (Some net)
+    → new ≡ transport_told (offset + header.len) end bytes transport (record old { net = header; ip = ip })
+    → new ≡ net_told offset net transport old
+net_is_told offset net transport end bytes header ip old new behind header_is ip_is same =
+    same ∙ (λ i. transport_told (offset + (header_is i).len) (sym behind.0 i) (sym behind.1 i) transport
+    (record old { net = header_is i; ip = ip_is i }))
+
+-- so is what is said of a plain packet
+pub plain_is_told : (offset : ℕ) (net : NetLayer) (transport : Option TransportLayer) (ip : PlainIp)
+    (old new : Packet) → IsPlainIp net ip → new ≡ plain_told offset ip transport old
+    → new ≡ net_told offset net transport old
+plain_is_told offset net transport ip old new shown same =
+    net_is_told offset net transport ip.end ip.payload.now (part ip.version offset ip.len) (plain_ip ip) old new
+    (has_payload net (plain_payload ip) shown.payload)
+    (λ i. record { kind = sym shown.kind i; offset = offset; len = sym shown.len i }) (sym shown.says) same
 
 -- ---- all of it
 
 -- the layers of a plain frame
-abbrev pub plain_layers : Option LinkLayer → List LinkExtension → NetLayer → TransportLayer → Layers
+abbrev pub plain_layers : Option LinkLayer → List LinkExtension → NetLayer → Option TransportLayer → Layers
 plain_layers link tags net transport =
-    record { link = link; link_exts = tags; net = Some net; transport = Some transport }
+    record { link = link; link_exts = tags; net = Some net; transport = transport }
 
 -- what cuts nothing leaves the end to what is in it
 cut_alone : (end : LenSource) → cut_by source.Slice end ≡ end
@@ -275,45 +334,37 @@ cut_alone source.Ipv6HeaderPayloadLen = refl
 cut_alone source.UdpHeaderLen = refl
 cut_alone source.ArpAddrLengths = refl
 
--- what is said of the IP packet, beside link header and tags, describes the layers
-pub plain_described : (link : Option LinkLayer) (tags : List LinkExtension) (net : NetLayer) (transport : TransportLayer)
-    (ip : PlainIp) (offset : ℕ) (old new : Packet) → IsPlainIp net ip → extensions_len_source tags ≡ source.Slice
+-- what lies behind a net layer does not depend on the bytes in which it lies
+behind_any : (bytes : List ℕ) (net : NetLayer) → behind_net [] (Some net) ≡ behind_net bytes (Some net)
+behind_any bytes (ipv4 header extensions payload) = refl
+behind_any bytes (ipv6 header extensions payload) = refl
+behind_any bytes (arp packet) = refl
+
+-- what is said of the net layer, beside link header and tags, describes the layers
+pub plain_described : (link : Option LinkLayer) (tags : List LinkExtension) (net : NetLayer)
+    (transport : Option TransportLayer) (offset : ℕ) (old new : Packet) → extensions_len_source tags ≡ source.Slice
     → offset ≡ link_len link + tags_len tags → old.link ≡ link_part link
     → old.link_exts ≡ tag_slots (link_len link) tags → old.link_ext_count ≡ length tags
-    → old.refusal ≡ no_refusal → new ≡ plain_told offset ip transport old
+    → old.refusal ≡ no_refusal → new ≡ net_told offset net transport old
     → new ≡ description (plain_layers link tags net transport)
-plain_described link tags net transport ip offset old new shown uncut place link_told tags_told count refused same =
-    let end : ip.end ≡ cut_by (extensions_len_source tags) (net_end (Some net)) =
-    sym shown.end ∙ sym (cut_alone (net_end (Some net)))
-    ∙ ap (λ (e : LenSource). cut_by e (net_end (Some net))) (sym uncut) in
-    let len = sym shown.len in
-    same ∙ (λ i. record {
+plain_described link tags net transport offset old new uncut place link_told tags_told count refused same =
+    let end : net_end (Some net) ≡ cut_by (extensions_len_source tags) (net_end (Some net)) =
+    sym (cut_alone (net_end (Some net))) ∙ ap (λ (e : LenSource). cut_by e (net_end (Some net))) (sym uncut) in
+    let behind = behind_any (payload_behind (link_payload link) tags) net in
+    same ∙ (λ i. transport_told (place i + net_len (Some net)) (end i) (behind i) transport (record old {
       link = link_told i;
       link_exts = tags_told i;
       link_ext_count = count i;
-      source_port = (plain_told offset ip transport old).source_port;
-      destination_port = (plain_told offset ip transport old).destination_port;
-      net = record { kind = sym shown.kind i; offset = place i; len = len i };
-      ip = sym shown.says i;
-      transport = record {
-        kind = (plain_told offset ip transport old).transport.kind;
-        offset = place i + len i;
-        len = (plain_told offset ip transport old).transport.len;
-      };
-      payload = record {
-        len_source = source_number (cut_by (end i) (header_end transport.header));
-        incomplete = 0;
-        offset = place i + len i + (plain_told offset ip transport old).transport.len;
-        len = length transport.payload;
-      };
+      net = part (kind_number (Some net)) (place i) (net_len (Some net));
+      ip = ip_in (Some net);
       refusal = refused i;
-    })
+    }))
 
 -- the bytes are a frame of Ethernet II with these tags and what they hold
 pub plain_frame : (bytes left : List ℕ) (frame : Ethernet2Slice) (tags : List LinkExtension) (net : NetLayer)
-    (transport : TransportLayer) → IsEthernet2 bytes (ethernet2_slice_parts frame left)
+    (transport : Option TransportLayer) → IsEthernet2 bytes (ethernet2_slice_parts frame left)
     → IsInside slices most_link_exts (Some (ethernet2_slice_header frame).ether_type) (ethernet2_slice_payload frame)
-    tags (Some net) (Some transport)
+    tags (Some net) transport
     → IsFrame ethernet_entry bytes
     (plain_layers (Some (ethernet2 (ethernet2_slice_header frame) (ethernet2_slice_payload frame))) tags net transport)
 plain_frame bytes left frame tags net transport is inside = (ethernet2_slice_parts frame left, is, refl, inside)

@@ -11,7 +11,7 @@ ghost use Rattle.etherparse_c.specs.Building.{tcp_of, udp_between};
 ghost use Rattle.etherparse_c.specs.Placing.{IsPlaced};
 
 use crate::numbers;
-use crate::placing::placed;
+use crate::placing::both_placed;
 use crate::route::{Route, TcpFields};
 use etherparse::err::packet::BuildWriteError;
 use etherparse::{
@@ -86,7 +86,7 @@ pub extern "C" fn etherparse_1_build_icmp_echo(
 /// A step of the builder that holds IP headers.
 pub(crate) type IpStep = PacketBuilderStep<IpHeaders>;
 
-/// Whether a frame was appended.
+/// Whether the headers of a frame were appended.
 pub(crate) type Written = Result<(), BuildWriteError>;
 
 /// What a frame has behind its IP headers, besides the payload.
@@ -94,12 +94,13 @@ pub(crate) trait IsBehind: Drop {
     /// The transport header that it is.
     ghost header: { Self → TransportHeader };
 
-    /// Appends the frame of these IP headers, the transport header and the payload.
-    fn write(self, step: IpStep, frame: &mut Vec<u8>, payload: &[u8]) -> Written
-        ensures { MatchResult result
-            (λ _. IsBuildable (held_behind step (header self)) (length payload.now)
-            × (frame.new.items ≡ frame.old.items ++ built_frame (held_behind step (header self)) payload.now))
-            (IsBuildError (held_behind step (header self)) (length payload.now)) };
+    /// Appends the headers of the frame of these IP headers, the transport header and the payload.
+    fn write_headers(self, step: IpStep, headers: &mut Vec<u8>, payload: &[u8]) -> Written
+        ensures { let held = held_behind step (header self) in
+            MatchResult result
+            (λ _. IsBuildable held (length payload.now)
+            × (headers.new.items ++ payload.now ≡ headers.old.items ++ built_frame held payload.now))
+            (IsBuildError held (length payload.now)) };
 }
 
 /// The ports of a UDP datagram.
@@ -122,9 +123,9 @@ impl IsBehind for UdpPorts {
     ghost header = { λ ports. udp_between ports.source_port ports.destination_port };
 
     #[inline(always)]
-    fn write(self, step: IpStep, frame: &mut Vec<u8>, payload: &[u8]) -> Written {
+    fn write_headers(self, step: IpStep, headers: &mut Vec<u8>, payload: &[u8]) -> Written {
         step.udp(self.source_port, self.destination_port)
-            .write(frame, payload)
+            .write_headers(headers, payload)
     }
 }
 
@@ -132,8 +133,8 @@ impl IsBehind for TcpHeader {
     ghost header = { transport.Tcp };
 
     #[inline(always)]
-    fn write(self, step: IpStep, frame: &mut Vec<u8>, payload: &[u8]) -> Written {
-        step.tcp_header(self).write(frame, payload)
+    fn write_headers(self, step: IpStep, headers: &mut Vec<u8>, payload: &[u8]) -> Written {
+        step.tcp_header(self).write_headers(headers, payload)
     }
 }
 
@@ -141,19 +142,19 @@ impl IsBehind for Echo {
     ghost header = { λ echo. echo_header echo.is_ipv4 echo.is_reply echo.id echo.seq };
 
     #[inline(always)]
-    fn write(self, step: IpStep, frame: &mut Vec<u8>, payload: &[u8]) -> Written {
+    fn write_headers(self, step: IpStep, headers: &mut Vec<u8>, payload: &[u8]) -> Written {
         if self.is_ipv4 {
             step.icmpv4(icmpv4_echo(self.is_reply, self.id, self.seq))
-                .write(frame, payload)
+                .write_headers(headers, payload)
         } else {
             step.icmpv6(icmpv6_echo(self.is_reply, self.id, self.seq))
-                .write(frame, payload)
+                .write_headers(headers, payload)
         }
     }
 }
 
-/// Builds the frame of a route and what stands behind its IP headers, and copies it to the front of the buffer. Each
-/// arm is one chain of the builder, which is inlined: so no step is moved.
+/// Builds the frame of a route and what stands behind its IP headers at the front of the buffer. Each arm is one chain
+/// of the builder, which is inlined: so no step is moved.
 #[inline(always)]
 pub(crate) fn build<Behind: IsBehind>(
     alloc: Global,
@@ -190,7 +191,8 @@ pub(crate) fn build<Behind: IsBehind>(
     numbers::UNKNOWN_CHOICE
 }
 
-/// Builds the frame of these IP headers and what stands behind them, and copies it to the front of the buffer.
+/// Builds the frame of these IP headers and what stands behind them at the front of the buffer. Memory is taken for the
+/// headers alone, and the payload is copied once.
 #[inline(always)]
 pub(crate) fn write_behind<Behind: IsBehind>(
     alloc: Global,
@@ -203,9 +205,9 @@ pub(crate) fn write_behind<Behind: IsBehind>(
     ensures { IsBuilt (held_behind step (Behind.header behind)) payload.now
         buffer.old buffer.new written.new result }
 {
-    let mut frame = Vec::new(alloc);
-    let built = behind.write(step, &mut frame, payload);
-    copied(built, frame.as_slice(), buffer, written)
+    let mut headers = Vec::new(alloc);
+    let built = behind.write_headers(step, &mut headers, payload);
+    copied(built, headers.as_slice(), payload, buffer, written)
 }
 
 /// The TCP header of these fields.
@@ -258,10 +260,17 @@ fn icmpv6_echo(is_reply: u8, id: u16, seq: u16) -> Icmpv6Type
     }
 }
 
-/// Copies a frame that was built to the front of the buffer, where it has room, and answers the status.
-pub(crate) fn copied(built: Written, frame: &[u8], buffer: &mut [u8], written: &mut usize) -> u32
+/// Copies the headers that were built, and the payload behind them, to the front of the buffer, where it has room, and
+/// answers the status.
+pub(crate) fn copied(
+    built: Written,
+    headers: &[u8],
+    payload: &[u8],
+    buffer: &mut [u8],
+    written: &mut usize,
+) -> u32
     ensures { MatchResult built
-        (λ _. IsPlaced frame.now buffer.old buffer.new written.new result)
+        (λ _. IsPlaced (headers.now ++ payload.now) buffer.old buffer.new written.new result)
         (λ error. (written.new ≡ 0) × (buffer.new ≡ buffer.old)
         × (((error ≡ BuildWriteError.OutOfMemory) × (result ≡ 5))
         ⊎ ((error ≡ BuildWriteError.OutOfMemory → ⊥) × (result ≡ 4)))) }
@@ -274,5 +283,5 @@ pub(crate) fn copied(built: Written, frame: &[u8], buffer: &mut [u8], written: &
             numbers::TOO_LONG
         };
     }
-    placed(frame, buffer, written)
+    both_placed(headers, payload, buffer, written)
 }

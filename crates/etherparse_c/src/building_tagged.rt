@@ -162,8 +162,7 @@ fn build_tagged<Behind: IsBehind>(
     numbers::UNKNOWN_CHOICE
 }
 
-/// Builds the frame of these IP headers and a payload of this protocol number, and copies it to the front of the
-/// buffer.
+/// Builds the frame of these IP headers and a payload of this protocol number at the front of the buffer.
 fn write_ip(
     alloc: Global,
     step: IpStep,
@@ -174,9 +173,9 @@ fn write_ip(
 ) -> u32
     ensures { IsBuilt (ip_held step (record { 0 = number })) payload.now buffer.old buffer.new written.new result }
 {
-    let mut frame = Vec::new(alloc);
-    let built = step.write(&mut frame, IpNumber(number), payload);
-    copied(built, frame.as_slice(), buffer, written)
+    let mut headers = Vec::new(alloc);
+    let built = step.write_headers(&mut headers, IpNumber(number), payload);
+    copied(built, headers.as_slice(), payload, buffer, written)
 }
 
 /// The VLAN tags of a route, where there are one or two, and each identifier has its 12 bits.

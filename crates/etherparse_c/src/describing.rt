@@ -1,6 +1,6 @@
 //! What C is told of the layers of a frame.
 
-ghost use Rattle.std.specs.Prelude.{◌≡◌, ◌+◌, ◌<◌, ◌^◌};
+ghost use Rattle.std.specs.Prelude.{◌≡◌, ◌+◌, ◌<◌, ◌≤◌, ◌^◌};
 ghost use Rattle.std.specs.Option.{option_map};
 ghost use Rattle.etherparse.specs.LinkSlices.{link_layer_of};
 ghost use Rattle.etherparse.specs.Layers.{layers_of, net_layer_of};
@@ -108,42 +108,33 @@ pub(crate) fn link_part(link: &Option<LinkSlice<'_>>) -> Part
 
 /// The transport header, which begins `offset` bytes behind the frame's start.
 #[inline(always)]
-fn transport_part(transport: &Option<TransportSlice<'_>>, offset: usize) -> Part
-    ensures { let layer = option_map transport_layer_of transport.now in
+pub(crate) fn transport_part(transport: &Option<TransportSlice<'_>>, offset: usize) -> Part
+    ensures part { let layer = option_map transport_layer_of transport.now in
         result ≡ part (transport_kind layer) offset (transport_len layer) }
+    ensures bound { result.len ≤ 60 }
 {
-    match transport {
-        Some(TransportSlice::Udp(datagram)) => Part {
-            kind: numbers::TRANSPORT_UDP,
-            offset,
-            len: datagram.header_len(),
-        },
-        Some(TransportSlice::Tcp(segment)) => Part {
-            kind: numbers::TRANSPORT_TCP,
-            offset,
-            len: segment.header_len(),
-        },
-        Some(TransportSlice::Icmpv4(message)) => Part {
-            kind: numbers::TRANSPORT_ICMPV4,
-            offset,
-            len: message.header_len(),
-        },
-        Some(TransportSlice::Icmpv6(message)) => Part {
-            kind: numbers::TRANSPORT_ICMPV6,
-            offset,
-            len: message.header_len(),
-        },
-        None => Part {
+    let Some(layer) = transport else {
+        return Part {
             kind: 0,
             offset,
             len: 0,
+        };
+    };
+    Part {
+        kind: match layer {
+            TransportSlice::Udp(_) => numbers::TRANSPORT_UDP,
+            TransportSlice::Tcp(_) => numbers::TRANSPORT_TCP,
+            TransportSlice::Icmpv4(_) => numbers::TRANSPORT_ICMPV4,
+            TransportSlice::Icmpv6(_) => numbers::TRANSPORT_ICMPV6,
         },
+        offset,
+        len: layer.header_len(),
     }
 }
 
 /// The sender's port.
 #[inline(always)]
-fn source_port(transport: &Option<TransportSlice<'_>>) -> u16
+pub(crate) fn source_port(transport: &Option<TransportSlice<'_>>) -> u16
     ensures { result ≡ source_port_in (option_map transport_layer_of transport.now) }
 {
     match transport {
@@ -155,7 +146,7 @@ fn source_port(transport: &Option<TransportSlice<'_>>) -> u16
 
 /// The receiver's port.
 #[inline(always)]
-fn destination_port(transport: &Option<TransportSlice<'_>>) -> u16
+pub(crate) fn destination_port(transport: &Option<TransportSlice<'_>>) -> u16
     ensures { result ≡ destination_port_in (option_map transport_layer_of transport.now) }
 {
     match transport {
@@ -189,7 +180,7 @@ fn net_end(net: &Option<NetSlice<'_>>) -> LenSource
 
 /// The same of the transport layer.
 #[inline(always)]
-fn transport_end(transport: &Option<TransportSlice<'_>>) -> LenSource
+pub(crate) fn transport_end(transport: &Option<TransportSlice<'_>>) -> LenSource
     ensures { result ≡ transport_end (option_map transport_layer_of transport.now) }
 {
     match transport {

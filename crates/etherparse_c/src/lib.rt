@@ -26,6 +26,7 @@ mod pool_answer;
 mod pooling;
 mod refusing;
 mod route;
+mod sliced_net;
 mod slicing;
 mod slicing_many;
 mod state;

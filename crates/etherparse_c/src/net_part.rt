@@ -1,6 +1,6 @@
 //! What C is told of the net layer.
 
-ghost use Rattle.std.specs.Prelude.{◌≡◌};
+ghost use Rattle.std.specs.Prelude.{◌≡◌, ◌+◌, ◌<◌, ◌^◌, Some};
 ghost use Rattle.std.specs.Option.{option_map};
 ghost use Rattle.etherparse.specs.Bytes.{bit};
 ghost use Rattle.etherparse.specs.IpPayload.{IpPayload};
@@ -25,9 +25,19 @@ pub(crate) fn net_part(net: &Option<NetSlice<'_>>, offset: usize) -> Part
     ensures { let layer = option_map net_layer_of net.now in
         result ≡ part (net_kind layer) offset (net_len layer) }
 {
-    let Some(net) = net else {
-        return no_net_part(offset);
-    };
+    match net {
+        Some(net) => net_layer_part(net, offset),
+        None => no_net_part(offset),
+    }
+}
+
+/// The same of a net layer that is there.
+#[inline(always)]
+pub(crate) fn net_layer_part(net: &NetSlice<'_>, offset: usize) -> Part
+    ensures part { let layer = Some (net_layer_of net.now) in
+        result ≡ part (net_kind layer) offset (net_len layer) }
+    ensures bound { result.len < 2 ^ 63 + 64 }
+{
     Part {
         kind: match net {
             NetSlice::Ipv4(_) => numbers::NET_IPV4,
@@ -77,12 +87,23 @@ pub(crate) fn ip_part(net: &Option<NetSlice<'_>>) -> Ip
     ensures { result ≡ ip_in (option_map net_layer_of net.now) }
 {
     match net {
-        Some(NetSlice::Ipv4(packet)) => ipv4_part(packet),
-        Some(NetSlice::Ipv6(packet)) => {
+        Some(net) => ip_layer_part(net),
+        None => no_ip(),
+    }
+}
+
+/// The same of a net layer that is there.
+#[inline(always)]
+pub(crate) fn ip_layer_part(net: &NetSlice<'_>) -> Ip
+    ensures { result ≡ ip_in (Some (net_layer_of net.now)) }
+{
+    match net {
+        NetSlice::Ipv4(packet) => ipv4_part(packet),
+        NetSlice::Ipv6(packet) => {
             let payload = packet.payload();
             ipv6_part(packet.extensions(), payload.ip_number, payload.fragmented)
         }
-        Some(NetSlice::Arp(_)) | None => no_ip(),
+        NetSlice::Arp(_) => no_ip(),
     }
 }
 

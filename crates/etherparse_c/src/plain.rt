@@ -1,25 +1,28 @@
-//! Plain frames, as most are: IP without extension headers, behind Ethernet II and at most two VLAN tags or alone, and
-//! UDP or TCP. They are described without a packet in between.
+//! Plain frames, as most are: IP or ARP behind Ethernet II and at most two VLAN tags, or IP alone. They are described
+//! without a packet in between: UDP and TCP in one piece, behind an IP header alone, while they are read, and the others
+//! by slices of net and transport layer (`sliced_net`).
 //!
 //! Each call here may give up, by the answer false or none, where the bytes are another frame or no frame: what is said
 //! then is of no use.
 
-ghost use Rattle.std.specs.Prelude.{◌≡◌, ◌≤◌, ◌⊎◌, IfSome, Some, true};
-ghost use Rattle.etherparse.specs.IpNumbers.{tcp_number, udp_number};
+ghost use Rattle.std.specs.Prelude.{◌≡◌, ◌≤◌, ◌⊎◌, IfSome, Option, Some, true};
+ghost use Rattle.etherparse.specs.EtherTypes.{ipv4_type, ipv6_type};
+ghost use Rattle.etherparse.specs.IpNumbers.{icmpv6_number, tcp_number, udp_number};
 ghost use Rattle.etherparse.specs.Readings.{slices};
 ghost use Rattle.etherparse.specs.Types.Entry.TheVariants.{Ethernet as ethernet, Ip as ip_entry};
 ghost use Rattle.etherparse.specs.Frame.{IsFrame, IsTransportIn, net_kind};
-ghost use Rattle.etherparse.specs.Frame.{any_ip, only_ipv4, only_ipv6};
+ghost use Rattle.etherparse.specs.Frame.{only_ipv4, only_ipv6};
 ghost use Rattle.etherparse.specs.Layers.{Layers};
 ghost use Rattle.etherparse.specs.TransportParts.{TransportLayer};
 ghost use Rattle.etherparse.specs.UdpSlices.{udp_slice_header};
 ghost use Rattle.etherparse.specs.Types.TransportHeader.TheVariants as transport;
 ghost use Rattle.etherparse_c.specs.Description.{description, header_end};
-ghost use Rattle.etherparse_c.specs.Plain.{HasPlainIp, plain_payload, plain_told};
+ghost use Rattle.etherparse_c.specs.Plain.{HasPlainIp, TellsNet, plain_payload, plain_told};
 
 use crate::describing::{no_refusal, source_number};
 use crate::numbers;
-use crate::packet::{Ip, Packet, Part, Payload};
+use crate::packet::{Packet, Part, Payload};
+use crate::sliced_net::{describe_sliced, describe_whole};
 use crate::tags::no_tag;
 use crate::vlans::place_vlans;
 use etherparse::{
@@ -57,16 +60,13 @@ pub(crate) fn describe_plain(told: &mut Packet, bytes: &[u8]) -> bool
     ) else {
         return false;
     };
-    let Some(ip) = ip(behind.ether_type, behind.slice) else {
-        return false;
-    };
     told.link = Part {
         kind: numbers::LINK_ETHERNET2,
         offset: 0,
         len: Ethernet2Header::LEN,
     };
     told.refusal = no_refusal();
-    describe_ip(told, behind.offset, &ip)
+    describe_net(told, behind.offset, behind.ether_type, behind.slice)
 }
 
 /// Says what the layers of a plain frame are that begins with an IP header.
@@ -75,7 +75,7 @@ pub(crate) fn describe_plain_ip(told: &mut Packet, bytes: &[u8]) -> bool
     ensures { result ≡ true → ((layers : Layers) × IsFrame ip_entry bytes.now layers
         × (told.new ≡ description layers)) }
 {
-    let Some(packet) = ip_of_version(bytes) else {
+    let Some(ether_type) = type_of_version(bytes) else {
         return false;
     };
     told.link = Part {
@@ -86,27 +86,33 @@ pub(crate) fn describe_plain_ip(told: &mut Packet, bytes: &[u8]) -> bool
     told.link_exts = [no_tag(), no_tag(), no_tag()];
     told.link_ext_count = 0;
     told.refusal = no_refusal();
-    describe_ip(told, 0, &packet)
+    describe_net(told, 0, ether_type, bytes)
 }
 
-/// The IP packet that bytes begin with, by the version that they say.
+/// The type of the IP packet that bytes begin with, by the version that they say.
 #[inline(always)]
-fn ip_of_version<'a>(slice: &'a [u8]) -> Option<PlainIp<'a>>
-    ensures { IfSome result (HasPlainIp (Some any_ip) slice.now) }
+fn type_of_version(slice: &[u8]) -> Option<EtherType>
+    ensures { IfSome result (λ type. (type.0 ≡ ipv4_type) ⊎ (type.0 ≡ ipv6_type)) }
 {
     if slice.is_empty() {
         return None;
     }
     if slice[0] >> 4 == 4 {
-        let Some(packet) = ipv4(slice) else {
-            return None;
-        };
-        return Some(packet);
+        return Some(ether_type::IPV4);
     }
-    let Some(packet) = ipv6(slice) else {
-        return None;
+    Some(ether_type::IPV6)
+}
+
+/// Says what the net layer is that bytes of a type begin with, `offset` bytes behind the frame's start, and what is in it.
+#[inline(always)]
+fn describe_net(told: &mut Packet, offset: usize, ether_type: EtherType, slice: &[u8]) -> bool
+    requires { offset ≤ 64 }
+    ensures { result ≡ true → TellsNet (net_kind ether_type) slice.now offset told.old told.new }
+{
+    let Some(ip) = ip(ether_type, slice) else {
+        return describe_sliced(told, offset, ether_type, slice);
     };
-    Some(packet)
+    describe_ip(told, offset, &ip)
 }
 
 /// The IP packet that bytes of a type begin with.
@@ -148,7 +154,7 @@ fn ipv4<'a>(slice: &'a [u8]) -> Option<PlainIp<'a>>
     })
 }
 
-/// The IPv6 packet that bytes begin with, if UDP or TCP is behind its header.
+/// The IPv6 packet that bytes begin with, if UDP, TCP or ICMPv6 is behind its header.
 #[inline(always)]
 fn ipv6<'a>(slice: &'a [u8]) -> Option<PlainIp<'a>>
     ensures { IfSome result (HasPlainIp (Some only_ipv6) slice.now) }
@@ -157,7 +163,7 @@ fn ipv6<'a>(slice: &'a [u8]) -> Option<PlainIp<'a>>
         return None;
     };
     let number = header.next_header();
-    if !is_udp_or_tcp(number) {
+    if !ends_chain(number) {
         return None;
     }
     Some(PlainIp {
@@ -170,12 +176,13 @@ fn ipv6<'a>(slice: &'a [u8]) -> Option<PlainIp<'a>>
     })
 }
 
-/// Whether the number is that of UDP or of TCP.
+/// Whether the number is that of UDP, TCP or ICMPv6, and so none of an extension header.
 #[inline(always)]
-fn is_udp_or_tcp(number: IpNumber) -> bool
-    ensures { result ≡ true → (number.0 ≡ udp_number) ⊎ (number.0 ≡ tcp_number) }
+fn ends_chain(number: IpNumber) -> bool
+    ensures { result ≡ true
+        → (number.0 ≡ udp_number) ⊎ (number.0 ≡ tcp_number) ⊎ (number.0 ≡ icmpv6_number) }
 {
-    number == IpNumber::UDP || number == IpNumber::TCP
+    number == IpNumber::UDP || number == IpNumber::TCP || number == IpNumber::IPV6_ICMP
 }
 
 /// What the length field of a datagram sets the end of its payload by.
@@ -190,30 +197,27 @@ fn datagram_end(datagram: &UdpSlice<'_>) -> LenSource
     }
 }
 
-/// Says what an IP packet is, which begins `offset` bytes behind the frame's start, and the datagram or segment in it.
+/// Says what an IP packet is, which begins `offset` bytes behind the frame's start, and the transport layer in it.
 #[inline(always)]
 fn describe_ip(told: &mut Packet, offset: usize, ip: &PlainIp<'_>) -> bool
     requires offset { offset ≤ 64 }
     requires len { ip.now.len ≤ 64 }
-    ensures { result ≡ true → ((transport : TransportLayer)
-        × IsTransportIn slices (plain_payload ip.now) (Some transport)
+    ensures { result ≡ true → ((transport : Option TransportLayer)
+        × IsTransportIn slices (plain_payload ip.now) transport
         × (told.new ≡ plain_told offset ip.now transport told.old)) }
 {
     let transport_offset = offset + ip.len;
-    told.net = Part {
-        kind: u32::from(ip.version),
-        offset,
-        len: ip.len,
-    };
-    told.ip = Ip {
-        version: ip.version,
-        number: ip.number.0,
-        fragmented: 0,
-        more_fragments: 0,
-        fragment_offset: 0,
-        identification: ip.identification,
-        header_len: ip.len,
-    };
+    // Field by field, so that nothing is written between the fields.
+    told.net.kind = u32::from(ip.version);
+    told.net.offset = offset;
+    told.net.len = ip.len;
+    told.ip.version = ip.version;
+    told.ip.number = ip.number.0;
+    told.ip.fragmented = 0;
+    told.ip.more_fragments = 0;
+    told.ip.fragment_offset = 0;
+    told.ip.identification = ip.identification;
+    told.ip.header_len = ip.len;
     if ip.number == IpNumber::UDP {
         let Ok(datagram) = UdpSlice::from_slice(ip.payload) else {
             return false;
@@ -253,5 +257,5 @@ fn describe_ip(told: &mut Packet, offset: usize, ip: &PlainIp<'_>) -> bool
         };
         return true;
     }
-    false
+    describe_whole(told, transport_offset, ip.number, ip.end, ip.payload)
 }

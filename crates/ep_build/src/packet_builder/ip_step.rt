@@ -16,7 +16,7 @@ use crate::err::BuildWriteError;
 use crate::facts::link_fits;
 use crate::ip_part::IpPart;
 use crate::link_part::LinkPart;
-use crate::writing::write_ip_part;
+use crate::writing::{write_ip_part, write_ip_part_headers};
 use ep_base::IpNumber;
 use ep_packet::IpHeaders;
 use ep_transport::{
@@ -195,6 +195,36 @@ impl PacketBuilderStep<IpHeaders> {
         ensures capacity { vec_capacity buf.old ≤ vec_capacity buf.new }
     {
         write_ip_part(
+            self.before,
+            self.last,
+            last_next_header_ip_number,
+            payload,
+            buf,
+        )
+    }
+
+    /// Appends the headers of the frame that `write` appends, with lengths over this payload, and not the payload: for a
+    /// caller that writes the payload elsewhere, as into a buffer of its own. What is appended, and the payload behind
+    /// it, are that frame. The refusals are those of `write`, but memory is wanted for the headers alone.
+    #[inline(always)]
+    pub fn write_headers(
+        self,
+        buf: &mut Vec<u8>,
+        last_next_header_ip_number: IpNumber,
+        payload: &[u8],
+    ) -> Result<(), BuildWriteError>
+        ensures ok { let held = ip_held self last_next_header_ip_number in
+            OnOk result (IsBuildable held (length payload.now)
+            × (buf.new.items ++ payload.now ≡ buf.old.items ++ built_frame held payload.now)) }
+        ensures err { OnErr result (buf.new.items ≡ buf.old.items) }
+        ensures refused { IfErr result
+            (IsBuildError (ip_held self last_next_header_ip_number) (length payload.now)) }
+        ensures fragment { OnOk result (IpStepReadsBack self last_next_header_ip_number payload.now) }
+        ensures full { result ≡ Err BuildWriteError.OutOfMemory → vec_capacity buf.old
+            < vec_len buf.old + built_size (ip_held self last_next_header_ip_number) 0 }
+        ensures capacity { vec_capacity buf.old ≤ vec_capacity buf.new }
+    {
+        write_ip_part_headers(
             self.before,
             self.last,
             last_next_header_ip_number,

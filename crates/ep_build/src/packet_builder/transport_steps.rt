@@ -11,7 +11,7 @@ use crate::err::BuildWriteError;
 use crate::facts::link_fits;
 use crate::ip_part::IpPart;
 use crate::link_part::LinkPart;
-use crate::writing::write_behind;
+use crate::writing::{write_behind, write_headers_behind};
 
 impl<
     Transport: HoldsHeaders<Before = (LinkPart, IpPart), Held = Transport> + IsTransport,
@@ -37,6 +37,27 @@ impl<
         let transport = self.last.into_transport();
         let (link, ip) = self.before;
         write_behind(link, ip, transport, payload, buf)
+    }
+
+    /// Appends the headers of the frame that `write` appends, with lengths and checksums over this payload, and not the
+    /// payload: for a caller that writes the payload elsewhere, as into a buffer of its own. What is appended, and the
+    /// payload behind it, are that frame. The refusals are those of `write`, but memory is wanted for the headers alone.
+    #[inline(always)]
+    pub fn write_headers(self, buf: &mut Vec<u8>, payload: &[u8]) -> Result<(), BuildWriteError>
+        ensures ok { let held = transport_held Transport.kind self in
+            OnOk result (IsBuildable held (length payload.now)
+            × (buf.new.items ++ payload.now ≡ buf.old.items ++ built_frame held payload.now)) }
+        ensures err { OnErr result (buf.new.items ≡ buf.old.items) }
+        ensures refused { IfErr result
+            (IsBuildError (transport_held Transport.kind self) (length payload.now)) }
+        ensures read_back { OnOk result (StepReadsBack Transport.kind self payload.now) }
+        ensures full { result ≡ Err BuildWriteError.OutOfMemory → vec_capacity buf.old
+            < vec_len buf.old + built_size (transport_held Transport.kind self) 0 }
+        ensures capacity { vec_capacity buf.old ≤ vec_capacity buf.new }
+    {
+        let transport = self.last.into_transport();
+        let (link, ip) = self.before;
+        write_headers_behind(link, ip, transport, payload, buf)
     }
 
     /// The number of bytes of the frame with a payload of this many bytes. Their sum must be a `usize`.

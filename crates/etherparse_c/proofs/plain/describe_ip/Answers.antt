@@ -1,4 +1,4 @@
-use Rattle.std.proofs.Common.{◌+◌, length, ap, refl, sym, ◌∙◌}
+use Rattle.std.proofs.Common.{◌+◌, length, Some, ap, refl, sym, ◌∙◌}
 use Rattle.std.proofs.lemmas.Bool.{eqb-true}
 use Rattle.etherparse.specs.Readings.{cut_by}
 use Rattle.etherparse.specs.Types.LenSource.{LenSource}
@@ -17,7 +17,7 @@ returns-then-eq c =
     let offset = c.args.offset + ip.len in
     let end = c.source_number.ensures ∙ ap source_number (c.cut_by.ensures
     ∙ ap (λ (e : LenSource). cut_by ip.end e) c.datagram_end.ensures) in (
-      transport_layer_of (transport.Udp c.in-Ok.datagram),
+      Some (transport_layer_of (transport.Udp c.in-Ok.datagram)),
       (refl, (eqb-true _ _ (sym c.eq.ensures ∙ c.if-eq.true), (ok.0, ok.2))),
       λ i. record {
         link = old.link;
@@ -25,7 +25,7 @@ returns-then-eq c =
         link_ext_count = old.link_ext_count;
         source_port = c.source_port-told.ensures i;
         destination_port = c.destination_port-told.ensures i;
-        net = record { kind = c.from.ensures i; offset = c.args.offset; len = ip.len };
+        net = record { kind = c.from-told.ensures i; offset = c.args.offset; len = ip.len };
         ip = plain_ip ip;
         transport = part 17 offset 8;
         payload = record {
@@ -45,7 +45,7 @@ returns-then-eq-2 c =
     let old = c.args.told.now in
     let ok = c.in-Ok-from_slice.ensures.ok in
     let offset = c.args.offset + ip.len in (
-      transport_layer_of (transport.Tcp c.in-Ok-from_slice.segment),
+      Some (transport_layer_of (transport.Tcp c.in-Ok-from_slice.segment)),
       (refl, (eqb-true _ _ (sym c.eq-2.ensures ∙ c.if-eq-2.true), ok.2)),
       λ i. record {
         link = old.link;
@@ -53,7 +53,7 @@ returns-then-eq-2 c =
         link_ext_count = old.link_ext_count;
         source_port = c.source_port-told-then-eq-2.ensures i;
         destination_port = c.destination_port-told-then-eq-2.ensures i;
-        net = record { kind = c.from.ensures i; offset = c.args.offset; len = ip.len };
+        net = record { kind = c.from-told.ensures i; offset = c.args.offset; len = ip.len };
         ip = plain_ip ip;
         transport = part 6 offset (20 + length (c.options.ensures.value i));
         payload = record {
