@@ -2,16 +2,22 @@
 """Compares packet_dump with tshark and tcpdump: python3 compare.py PROGRAM CAPTURE..
 
 PROGRAM is the built program, as out/packet_dump, and each CAPTURE a file, or a folder with files. Of each packet the
-time, addresses, ports, lengths, flags and sequence numbers, fragments, VLANs, and types of ICMP are compared with
-tshark's, and times, addresses, ports, lengths and fragments with tcpdump's, where both tell them, and the numbers of
-packets. It prints what differs, and at the end how much was compared, and what only one of them tells, by what
-stands around it. It needs tshark, tcpdump and editcap, and is no part of the gate.
+time, addresses, ports, lengths, flags and sequence numbers, fragments, VLANs, and types and codes of ICMP are compared
+with tshark's and tcpdump's, where both tell them, and the numbers of packets. It prints what differs, and at the end
+how much was compared and, in percent of the packets whose link type is read, what others tell of them and this does
+not, by cause. It needs tshark, tcpdump and editcap, and is no part of the gate.
+
+python3 compare.py --cut N PROGRAM CAPTURE.. compares each capture of which N bytes of each packet are kept.
 
 python3 compare.py --forms PROGRAM CAPTURE.. compares each capture in other forms too, as editcap writes them: pcap in
 microseconds and nanoseconds, and pcapng.
 
 python3 compare.py --reassembled PROGRAM CAPTURE.. compares the payloads that are put together from fragments: behind
 which packet each comes, its transport header and its bytes, with those of tshark, which keeps fragments without an end.
+
+With --verbose in front of these what packet_dump tells with that option is compared too: TTL, identification, DF,
+priorities, window and options of TCP, checksums, and the packet that an ICMP message quotes. With --all in front of
+that each difference is printed, and not the first five of a kind.
 """
 import os
 import re
@@ -24,17 +30,35 @@ from decimal import Decimal
 
 FIELDS = [
     "frame.number", "frame.cap_len", "frame.len", "frame.time_epoch", "frame.protocols", "_ws.malformed", "_ws.short",
-    "eth.src", "eth.dst", "ieee8021ad.id", "vlan.id", "ip.src", "ip.dst", "ip.id", "ip.frag_offset", "ip.flags.mf",
-    "ipv6.src", "ipv6.dst", "ipv6.fraghdr.ident", "ipv6.fraghdr.offset", "ipv6.fraghdr.more",
-    "udp.srcport", "udp.dstport", "udp.length", "tcp.srcport", "tcp.dstport", "tcp.len", "tcp.flags", "tcp.seq_raw",
-    "tcp.ack_raw", "icmp.type", "icmp.code", "icmpv6.type", "icmpv6.code", "arp.opcode", "arp.src.proto_ipv4",
-    "arp.dst.proto_ipv4",
+    "eth.src", "eth.dst", "sll.src.eth", "ieee8021ad.id", "vlan.id", "ip.src", "ip.dst", "ip.id", "ip.frag_offset",
+    "ip.flags.mf", "ip.len", "ip.hdr_len", "ip.proto", "ipv6.src", "ipv6.dst", "ipv6.plen", "ipv6.fraghdr.ident",
+    "ipv6.fraghdr.offset", "ipv6.fraghdr.more", "udp.srcport", "udp.dstport", "udp.length", "tcp.srcport",
+    "tcp.dstport", "tcp.len", "tcp.flags", "tcp.seq_raw", "tcp.ack_raw", "sctp.srcport", "sctp.dstport",
+    "dccp.srcport", "dccp.dstport", "icmp.type", "icmp.code", "icmpv6.type", "icmpv6.code", "arp.opcode",
+    "arp.src.proto_ipv4", "arp.dst.proto_ipv4", "arp.src.hw_mac", "icmp.redir_gw", "ieee8021ad.priority",
+    "vlan.priority", "ip.ttl", "ip.flags.df", "ip.checksum.status", "ipv6.hlim", "ipv6.flow", "tcp.window_size_value",
+    "tcp.options.mss_val", "tcp.options.wscale.shift", "tcp.options.timestamp.tsval", "tcp.options.sack_le",
+    "tcp.options.sack_re", "tcp.checksum.status", "udp.checksum.status", "icmp.checksum.status",
+    "icmpv6.checksum.status",
 ]
+DETAILS = [name for name in FIELDS if re.search(r"\.(ttl|df|hlim|flow|window_size_value|status)$|tcp\.options", name)]
+# What tshark has of both packets where a message of ICMP quotes one.
+QUOTED = ["ip.src", "ip.dst", "ipv6.src", "ipv6.dst", "udp.srcport", "udp.dstport", "tcp.srcport", "tcp.dstport"]
 PAYLOAD_FIELDS = [
     "frame.number", "udp.srcport", "udp.dstport", "udp.length", "tcp.srcport", "tcp.dstport", "tcp.len", "icmp.type",
     "icmpv6.type", "ip.reassembled.data", "ipv6.reassembled.data", "frame.protocols",
 ]
+TSHARK_OPTIONS = ["-E", "occurrence=a", "-E", "aggregator=,"]
+for setting in ("ip.defragment:FALSE", "ipv6.defragment:FALSE", "tcp.relative_sequence_numbers:FALSE",
+                "ip.check_checksum:TRUE", "tcp.check_checksum:TRUE", "udp.check_checksum:TRUE"):
+    TSHARK_OPTIONS += ["-o", setting]
+LENGTHS = ("udp.length", "tcp.len", "icmp.length", "ip.payload", "ipv6.payload")
+# What is counted where others tell it and this does not.
+WANTED = [name for name in FIELDS
+          if re.search(r"\.(src|dst|srcport|dstport|type|code)$|^sll|^arp|_gw$", name)
+          or name in ("udp.length", "tcp.len", "tcp.flags", "tcp.seq_raw", "tcp.ack_raw")]
 FLAGS = {"F": 1, "S": 2, "R": 4, "P": 8, "A": 16, "U": 32, "E": 64, "C": 128, "N": 256}
+TCPDUMP_FLAGS = {"F": 1, "S": 2, "R": 4, "P": 8, ".": 16, "U": 32, "E": 64, "W": 128}
 ICMPV4 = {"echo-reply": 0, "destination-unreachable": 3, "source-quench": 4, "redirect": 5, "echo-request": 8,
           "router-advertisement": 9, "router-solicitation": 10, "time-exceeded": 11, "parameter-problem": 12,
           "timestamp-request": 13, "timestamp-reply": 14, "address-mask-request": 17, "address-mask-reply": 18,
@@ -48,9 +72,23 @@ ICMPV6 = {"destination-unreachable": 1, "packet-too-big": 2, "time-exceeded": 3,
           "certification-path-solicitation": 148, "certification-path-advertisement": 149,
           "multicast-router-advertisement": 151, "multicast-router-solicitation": 152,
           "multicast-router-termination": 153, "extended-echo-request": 160, "extended-echo-reply": 161}
-# Blocks of packets that packet_dump reads, obsolete ones, which tcpdump and tshark read, and those that tshark counts.
-READ, OBSOLETE = {3, 6}, 2
-TOLD = READ | {OBSOLETE, 0xBAD, 0x40000BAD}
+# The names of the codes of a type, from 0 on.
+EXCEEDED = ["in-transit", "reassembly"]
+CODES = {
+    ("icmp", 3): ["network", "host", "protocol", "port", "fragmentation-needed", "source-route-failed",
+                  "network-unknown", "host-unknown", "source-isolated", "network-prohibited", "host-prohibited",
+                  "network-service", "host-service", "prohibited", "precedence-violation", "precedence-cutoff"],
+    ("icmp", 5): ["network", "host", "network-service", "host-service"],
+    ("icmp", 11): EXCEEDED,
+    ("icmp", 12): ["pointer", "missing-option", "bad-length"],
+    ("icmpv6", 1): ["no-route", "prohibited", "beyond-scope", "address", "port", "source-policy", "reject-route",
+                    "source-routing-header"],
+    ("icmpv6", 3): EXCEEDED,
+    ("icmpv6", 4): ["erroneous-header", "unrecognized-next-header", "unrecognized-option", "incomplete-header-chain"],
+}
+# Blocks of packets, and those that tshark counts too.
+READ = {2, 3, 6}
+TOLD = READ | {0xBAD, 0x40000BAD}
 FORMS = {"pcap": "pcap", "nsecpcap": "pcap", "pcapng": "pcapng"}
 
 
@@ -65,16 +103,50 @@ def ours(line):
     found["frame.number"], found["time"], rest = int(head[1]), head[2], head[3]
     if cut := re.search(r" cut (\d+) of (\d+)$", rest):
         found["cut"] = (int(cut[1]), int(cut[2]))
-    if rest.startswith(" refused") or rest.startswith(" link "):
-        found["refused"] = rest
+    if rest.startswith(" link "):
+        found["link"] = rest
         return found
-    if " stopped " in rest:
-        found["stopped"] = rest[rest.index(" stopped "):]
+    if stopped := re.search(r" (?:stopped|refused) .*", rest):
+        found["stopped"] = re.match(r" \w+ (\w+(?: [A-Z]\w+)?)", stopped[0])[1]
+        rest = rest[:stopped.start()] + rest[stopped.end():]
+    if " quotes " in rest and (quoted := re.search(r" quotes( .*)", rest)):
+        found["quoted"], rest = ours("0 -" + quoted[1]), rest[:quoted.start()]
+    if " ttl " in head[3] or " hop-limit " in head[3] or " pcp " in head[3]:
+        details_of(found, head[3])
+    found["incomplete"] = re.search(r" incomplete(?: |$)", line) is not None
+    outer_of(found, rest)
+    net_of(found, rest)
+    if " icmpv" in rest:
+        icmp_of(found, rest)
+    else:
+        transport_of(found, rest)
+    return found
+
+
+def outer_of(found, rest):
+    """Adds what a line says of the link layer, its extensions, and ARP."""
     if eth := re.search(r" eth (\S+) > (\S+)", rest):
         found["eth.src"], found["eth.dst"] = eth[1], eth[2]
-    if vlans := re.findall(r" vlan:(\d+)", rest):
-        found["vlans"] = [int(vlan) for vlan in vlans]
+    if sll := re.search(r" sll \S+ from ((?:\w\w:){5}\w\w)(?: |$)", rest):
+        found["sll.src.eth"] = sll[1]
+    found["vlans"] = [int(vlan) for vlan in re.findall(r" vlan:(\d+)", rest)]
+    if " arp " not in rest:
+        return
+    if arp := re.search(r" arp (who-has|reply)(?: (\d+\.\S+))?(?: tell (\d+\.\S+)| is-at (\S+))?", rest):
+        found["arp.opcode"] = 1 if arp[1] == "who-has" else 2
+        names = ("arp.dst.proto_ipv4", "arp.src.proto_ipv4") if arp[1] == "who-has" else ("arp.src.proto_ipv4",)
+        found.update((name, address) for name, address in zip(names, (arp[2], arp[3])) if address)
+        if arp[4]:
+            found["arp.src.hw_mac"] = arp[4]
+    if arp := re.search(r" arp operation (\d+)", rest):
+        found["arp.opcode"] = int(arp[1])
+
+
+def net_of(found, rest):
+    """Adds what a line says of IP, and of a payload that no transport header is read in."""
     for name, field in (("ipv4", "ip"), ("ipv6", "ipv6")):
+        if f" {name} " not in rest:
+            continue
         if ip := re.search(rf" {name} (\S+) > (\S+)", rest):
             found[field + ".src"], found[field + ".dst"] = ip[1], ip[2]
             if part := re.search(r" fragment id (\d+) offset (\d+)( more)?", rest):
@@ -82,12 +154,20 @@ def ours(line):
                 if field == "ipv6":
                     prefix = ("ipv6.fraghdr.ident", "ipv6.fraghdr.offset", "ipv6.fraghdr.more")
                 found.update(zip(prefix, (int(part[1]), int(part[2]), int(part[3] is not None))))
-    # Of a header that is cut, or in a first fragment, there is no length of a payload, nor of one that is incomplete.
-    if udp := re.search(r" udp (\d+) > (\d+)(?: len (\d+)\b(?! incomplete))?", rest):
+            if inside := re.search(rf" {name} .* protocol (\d+)(?: .*)? len (\d+)", rest):
+                if field == "ip" and " authentication" not in rest:
+                    found["ip.proto"], found["ip.payload"] = int(inside[1]), int(inside[2])
+                elif f"{ip[0]} protocol" in rest:
+                    found["ipv6.payload"] = int(inside[2])
+
+
+def transport_of(found, rest):
+    """Adds what a line says of UDP and TCP: of a header that is cut, or in a first fragment, there is no length."""
+    if udp := re.search(r" udp (\d+) > (\d+)(?: length (0))?(?: len (\d+))?", rest):
         found["udp.srcport"], found["udp.dstport"] = int(udp[1]), int(udp[2])
-        if udp[3] is not None:
-            found["udp.length"] = 8 + int(udp[3])
-    if tcp := re.search(r" tcp (\d+) > (\d+)(?: \[(\w*)\] seq (\d+)(?: ack (\d+))?)?(?: len (\d+)\b(?! incomplete))?", rest):
+        if udp[4] is not None:
+            found["udp.length"] = 0 if udp[3] else 8 + int(udp[4])
+    if tcp := re.search(r" tcp (\d+) > (\d+)(?: \[(\w*)\] seq (\d+)(?: ack (\d+))?)?(?: len (\d+))?", rest):
         found["tcp.srcport"], found["tcp.dstport"] = int(tcp[1]), int(tcp[2])
         if tcp[4] is not None:
             found["tcp.flags"], found["tcp.seq_raw"] = sum(FLAGS[letter] for letter in tcp[3]), int(tcp[4])
@@ -95,33 +175,68 @@ def ours(line):
             found["tcp.ack_raw"] = int(tcp[5])
         if tcp[6] is not None:
             found["tcp.len"] = int(tcp[6])
-    for name, table in (("icmpv4", ICMPV4), ("icmpv6", ICMPV6)):
-        if icmp := re.search(rf" {name} (?:type (\d+)(?: code (\d+))?|(\S+))", rest):
-            field = "icmp" if name == "icmpv4" else "icmpv6"
-            found[field + ".type"] = int(icmp[1]) if icmp[1] else table[icmp[3]]
-            if icmp[2]:
-                found[field + ".code"] = int(icmp[2])
-    if arp := re.search(r" arp (who-has|reply)(?: (\d+\.\S+))?(?: tell (\d+\.\S+))?", rest):
-        found["arp.opcode"] = 1 if arp[1] == "who-has" else 2
-        names = ("arp.dst.proto_ipv4", "arp.src.proto_ipv4") if arp[1] == "who-has" else ("arp.src.proto_ipv4",)
-        found.update((name, address) for name, address in zip(names, (arp[2], arp[3])) if address)
-    if arp := re.search(r" arp operation (\d+)", rest):
-        found["arp.opcode"] = int(arp[1])
-    return found
 
 
-def fields_of(path, fields, options):
-    """What tshark tells of the packets of a capture."""
-    command = ["tshark", "-r", path, "-n", "-T", "fields", "-E", "occurrence=f"] + options
+def icmp_of(found, rest):
+    """Adds what a line says of ICMP."""
+    for name, field, table in (("icmpv4", "icmp", ICMPV4), ("icmpv6", "icmpv6", ICMPV6)):
+        if icmp := re.search(rf" {name} (?:type (\d+)|(\S+))(?: code (\d+)| (\S+))?", rest):
+            kind = int(icmp[1]) if icmp[1] else table[icmp[2]]
+            names = CODES.get((field, kind), [])
+            # A code without a name is told by its number, and 0 not at all.
+            code = names.index(icmp[4]) if icmp[4] in names else int(icmp[3] or 0)
+            found[field + ".type"], found[field + ".code"] = kind, code
+            if length := re.search(r" len (\d+)", rest):
+                found["icmp.length"] = int(length[1]) + (20 if (field, code) == ("icmp", 0) and kind in (13, 14) else 8)
+            if to := re.search(r" redirect \S+ to (\S+)", rest):
+                found["icmp.redir_gw"] = to[1]
+
+
+def details_of(found, rest):
+    """Adds what a line says with --verbose."""
+    for names, form in (
+        (("ip.ttl", "ip.id"), r" ttl (\d+) id (\d+)"),
+        (("ipv6.hlim", "ipv6.flow"), r" hop-limit (\d+) flow (\d+)"),
+        (("tcp.window_size_value",), r" window (\d+)"),
+        (("tcp.options.mss_val",), r" mss (\d+)"),
+        (("tcp.options.wscale.shift",), r" wscale (\d+)"),
+        (("tcp.options.timestamp.tsval",), r" timestamp (\d+) echo"),
+        (("tcp.options.sack_le", "tcp.options.sack_re"), r" sack (\d+)-(\d+)"),
+    ):
+        if told := re.search(form, rest):
+            found.update((name, int(value)) for name, value in zip(names, told.groups()))
+    if "ip.ttl" in found:
+        found["ip.flags.df"] = int(re.search(r" ttl \d+ id \d+ df", rest) is not None)
+    for layer, word in re.findall(r" (header|tcp|udp|icmpv4|icmpv6) checksum (right|wrong)", rest):
+        layer = {"header": "ip", "icmpv4": "icmp"}.get(layer, layer)
+        found[layer + ".checksum.status"] = int(word == "right")
+    if priorities := re.findall(r" pcp (\d)", rest):
+        found["priorities"] = [int(priority) for priority in priorities]
+
+
+def told_by_tshark(path, fields, options):
+    """What tshark tells of the packets of a capture, and how it ended."""
+    command = ["tshark", "-r", path, "-n", "-T", "fields"] + options
     for field in fields:
         command += ["-e", field]
-    for line in subprocess.run(command, capture_output=True, text=True, errors="replace").stdout.splitlines():
-        yield {name: value for name, value in zip(fields, line.split("\t")) if value != ""}
+    run = subprocess.run(command, capture_output=True, text=True, errors="replace")
+    lines = [line.split("\t") for line in run.stdout.splitlines()]
+    return [{name: value for name, value in zip(fields, line) if value != ""} for line in lines], run
 
 
 def theirs(path):
-    options = ["-o", "ip.defragment:FALSE", "-o", "ipv6.defragment:FALSE", "-o", "tcp.relative_sequence_numbers:FALSE"]
-    for found in fields_of(path, FIELDS, options):
+    """The fields of each packet by tshark, the first of each, and how tshark ended."""
+    packets, run = told_by_tshark(path, FIELDS, TSHARK_OPTIONS)
+    for found in packets:
+        found.setdefault("frame.protocols", "")
+        nets = sum(1 + found[name].count(",") for name in ("ip.src", "ipv6.src") if name in found)
+        tags, priorities = tags_of(found, "id"), tags_of(found, "priority")
+        quoted = [(name, found[name].split(",")[name.startswith("ip"):]) for name in QUOTED if name in found]
+        for name, value in found.items():
+            if "," in value and name != "frame.protocols":
+                found[name] = value.split(",")[0]
+        found["nets"], found["vlans"], found["priorities"] = nets, tags, priorities
+        found["quoted"] = {name: values[0] for name, values in quoted if values}
         # It tells offsets in units of 8 bytes.
         for name in ("ip.frag_offset", "ipv6.fraghdr.offset"):
             if name in found:
@@ -129,25 +244,36 @@ def theirs(path):
         # Reserved bits are no flags.
         if "tcp.flags" in found:
             found["tcp.flags"] = str(number(found["tcp.flags"]) & 0x1FF)
-        yield found
+        if number(found.get("ip.len", "0")):
+            found["ip.payload"] = str(number(found["ip.len"]) - number(found["ip.hdr_len"]))
+        if "ipv6.plen" in found:
+            found["ipv6.payload"] = found["ipv6.plen"]
+    return packets, run
 
 
-def tcpdump_of(path):
-    """What tcpdump writes of each packet, its time in front, or nothing where it reads no such capture."""
-    command = ["tcpdump", "-nn", "-tt", "-q", "-v", "--nano", "-r", path]
+def tags_of(found, field):
+    """A field of the VLANs from the outside in, of which tshark tells those of 802.1ad apart."""
+    names = {layer: f"{layer}.{field}" for layer in ("vlan", "ieee8021ad")}
+    waiting = {layer: found[name].split(",") for layer, name in names.items() if name in found}
+    if not waiting:
+        return []
+    return [number(waiting[layer].pop(0)) for layer in found["frame.protocols"].split(":") if waiting.get(layer)]
+
+
+def tcpdump_of(path, options):
+    """What tcpdump writes of each packet, its time in front, and how it ended."""
+    command = ["tcpdump", "-nn", "-tt", "--nano"] + options + ["-r", path]
     run = subprocess.run(command, capture_output=True, text=True, errors="replace")
     begins = r"^(?=-?\d+\.\d{9,10} |\[Invalid header|\[Error converting time)"
-    texts = re.split(begins, run.stdout, flags=re.MULTILINE)[1:]
-    return texts if run.returncode == 0 else None
+    return re.split(begins, run.stdout, flags=re.MULTILINE)[1:], run
 
 
-def around(name, other):
-    """What stands around a field that tshark tells, as its names of layers."""
-    layers = other.get("frame.protocols", "").split(":")
-    wanted = {"ip": "ip", "ipv6": "ipv6", "ieee8021ad": "vlan"}.get(name.split(".")[0], name.split(".")[0])
-    if wanted in layers:
-        layers = layers[:layers.index(wanted) + 1]
-    return ":".join(layer for layer in layers if layer not in ("ethertype", "eth"))
+def around(names, other):
+    """What stands around the outermost of some fields that tshark tells, as its names of layers."""
+    layers = other["frame.protocols"].split(":")
+    wanted = {"vlan" if name == "vlan.id" else name.split(".")[0] for name in names}
+    places = [at for at, layer in enumerate(layers) if layer in wanted]
+    return ":".join(layer for layer in layers[:min(places) + 1 if places else None] if layer != "ethertype")
 
 
 def damaged_times(path):
@@ -163,9 +289,9 @@ def damaged_times(path):
     return found
 
 
-def kinds_of(path):
+def blocks_of(data):
     """The kinds of the blocks of a capture in the newer format, and none of another capture."""
-    data, at, order, kinds = open(path, "rb").read(), 0, "<", []
+    at, order, kinds = 0, "<", []
     while data[:4] == b"\n\r\r\n" and at + 12 <= len(data):
         if data[at:at + 4] == b"\n\r\r\n":
             order = "<" if data[at + 8:at + 12] == b"\x4d\x3c\x2b\x1a" else ">"
@@ -175,24 +301,26 @@ def kinds_of(path):
     return kinds
 
 
-def of_kinds(entries, kinds, told):
-    """Of what is told of the packets in blocks of some kinds that of those which packet_dump reads."""
-    kinds = [kind for kind in kinds if kind in told]
+def of_kinds(entries, kinds):
+    """Of what tshark tells of a capture that of the packets in blocks which packet_dump reads."""
+    kinds = [kind for kind in kinds if kind in TOLD]
     return [entry for entry, kind in zip(entries, kinds) if kind in READ] if kinds else entries
 
 
 class Tally:
     """What was counted, and what was said of it, a few times each."""
 
-    def __init__(self):
-        self.counted, self.reasons, self.said = Counter(), Counter(), Counter()
+    def __init__(self, shown):
+        self.counted, self.reasons, self.said, self.shown = Counter(), Counter(), Counter(), shown
+        self.differing, self.untold, self.links, self.words = Counter(), Counter(), Counter(), []
 
     def differs(self, path, at, name, mine, other):
         self.counted["differ"] += 1
+        self.differing[name] += 1
         self.say(name, f"{path}: {at}: {name} {mine}, {other}")
 
     def say(self, name, text):
-        if self.said[name] < 5:
+        if self.said[name] < self.shown:
             print(text, flush=True)
         self.said[name] += 1
 
@@ -200,6 +328,18 @@ class Tally:
         self.counted[f"{reader} fields"] += 1
         if not equal:
             self.differs(path, at, f"{reader} {name}", mine, other)
+
+    def write(self):
+        for reason, count in sorted(self.reasons.items(), key=lambda entry: (entry[0].split(":")[0], -entry[1])):
+            print(f"{count:8} {reason}")
+        for name, count in self.differing.most_common():
+            print(f"{count:8} differ: {name}")
+        read = self.counted["packets"] - sum(self.links.values())
+        for link, count in self.links.most_common():
+            print(f"{count:8} {100 * count / max(1, self.counted['packets']):6.2f} % of packets not read: {link}")
+        for cause, count in self.untold.most_common():
+            print(f"{count:8} {100 * count / max(1, read):6.2f} % of packets read: not told: {cause}")
+        print(", ".join(f"{value} {name}" for name, value in self.counted.items()))
 
 
 def same_time(first, mine, this):
@@ -220,55 +360,72 @@ def compare_times(tally, path, reader, mine, times, damaged):
             if first is None:
                 return
             continue
-        first = this if first is None else first
+        # Of the first packet, whose time is 0, tcpdump may tell none.
+        first = str(Decimal(this) - Decimal(a["time"])) if first is None else first
         tally.compared(path, a["frame.number"], "time", a["time"], f"{this} - {first}",
                        same_time(first, a["time"], this), reader)
 
 
-def compare_tshark(tally, path, a, b):
+def same(a, name, other):
+    """Whether a field is the same, where `len` counts the bytes that are there: of an incomplete payload no more."""
+    value, other = a[name], number(other) if isinstance(a[name], int) else other
+    if name == "udp.length" and other < 8:
+        # It says nothing of the bytes that are there.
+        return other > 0 or value in (0, 8)
+    return value <= other if name in LENGTHS and a["incomplete"] else value == other
+
+
+def missing_of(a, name, other):
+    """How what a length says stands to the bytes that are there of an incomplete payload, and to those left out."""
+    kept, original = a.get("cut", (0, 0))
+    gone = number(other) - a[name]
+    if gone == original - kept:
+        return "as many bytes are missing as the capture left out"
+    return "more are missing: the packet was short of them" if gone > original - kept else "fewer are missing: padding"
+
+
+def compare_tshark(tally, path, a, b, text):
+    """Compares what tshark tells; `text` is what tcpdump writes, which alone tells an IPv4 length of 0."""
     at = a["frame.number"]
     kept, original = int(b["frame.cap_len"]), int(b["frame.len"])
-    tally.compared(path, at, "lengths", a.get("cut"), (kept, original),
-                   a["cut"] == (kept, original) if "cut" in a else kept >= original)
-    if "refused" in a:
-        tally.counted["refused"] += 1
-        how = "cut" if "cut" in a else "malformed" if "_ws.malformed" in b or "_ws.short" in b else "read by tshark"
-        reason = re.sub(r" cut \d+ of \d+|, offset \d+", "", a["refused"])
-        tally.reasons["refused, " + how + ":" + re.sub(r"\b0x[0-9a-f]+|\d+ ", "N ", reason)] += 1
-        if how == "read by tshark":
-            tally.say(re.sub(r"\d+", "N", reason), f"{path}: {at}:{a['refused']}; tshark: {b['frame.protocols']}")
+    equal = a["cut"] == (kept, original) if "cut" in a else kept >= original
+    if "link" in a and "cut" in a:
+        # It leaves out what some link types have in front of the packet.
+        equal = a["cut"][0] - kept == a["cut"][1] - original >= 0
+    tally.compared(path, at, "lengths", a.get("cut"), (kept, original), equal)
+    if "link" in a:
         return
-    if "stopped" in a:
-        tally.counted["stopped"] += 1
-        tally.reasons[re.sub(r"\d+", "N", re.sub(r" cut \d+ of \d+|, offset \d+", "", a["stopped"]))] += 1
-    tags = [number(b[name]) for name in ("ieee8021ad.id", "vlan.id") if name in b]
-    if "vlans" not in a and tags:
-        tally.reasons["tshark alone: VLAN behind " + around("vlan.id", b)] += 1
-    elif tags:
-        tally.compared(path, at, "vlans", a["vlans"], tags, a["vlans"][:len(tags)] == tags)
+    for name in ("vlans", "priorities"):
+        if name in a and a[name] and b[name]:
+            tally.compared(path, at, name, a[name], b[name], a[name] == b[name][:len(a[name])])
+    for name, value in a.get("quoted", {}).items():
+        if name in b["quoted"]:
+            other = b["quoted"][name]
+            tally.compared(path, at, "quoted " + name, value, other, str(value) == other)
+    for name in DETAILS if tally.words else []:
+        if name in b and name not in a and not (name.endswith("status") and b[name] not in ("0", "1")):
+            around_it = "stopped" if "stopped" in a else "incomplete" if a["incomplete"] else around([name], b)
+            tally.reasons[f"tshark alone: {name}: {around_it}"] += 1
     for name, value in a.items():
         if name.startswith("eth.") and re.match(r"eth:(?:cfp:)?eth:", b["frame.protocols"]):
             tally.reasons["of two Ethernet headers tshark tells the inner one"] += 1
-        elif name in b and name != "frame.number":
-            other = b[name]
-            tally.compared(path, at, name, value, other,
-                           value == number(other) if isinstance(value, int) else value == other)
-        elif "." in name and name not in b:
+        elif name.endswith(".checksum.status") and b.get(name) not in ("0", "1"):
+            tally.reasons[f"packet_dump alone: {name}; tshark says {b.get(name)}"] += 1
+        elif name in LENGTHS and "cut" in a and "IP bad-len 0" in text:
+            # No field says how long the packet is: tshark presumes that all bytes are its.
+            tally.reasons["lengths not compared: of a segment whose IPv4 length is left to the card, and cut"] += 1
+        elif name in b and name not in ("frame.number", "vlans", "priorities", "quoted"):
+            if name in LENGTHS and a["incomplete"]:
+                tally.reasons[f"incomplete: {missing_of(a, name, b[name])}"] += 1
+            tally.compared(path, at, name, value, b[name], same(a, name, b[name]))
+        elif "." in name and name not in b and name not in ("frame.number", "icmp.length"):
             tally.reasons[f"packet_dump alone: {name.split('.')[0]}; tshark has {b['frame.protocols']}"] += 1
             tally.say(name + "-", f"{path}: {at}: {name} {value}, tshark has none: {b['frame.protocols']}")
-    # Of a fragment no transport header is read, and of an ICMP error none of the packet that it quotes.
-    if "ip.id" in a or "ipv6.fraghdr.ident" in a or "icmp.type" in a or "icmpv6.type" in a:
-        return
-    for name in ("ip.src", "ipv6.src", "udp.srcport", "tcp.srcport", "arp.opcode", "icmp.type", "icmpv6.type"):
-        if name in b and name not in a:
-            tally.reasons["tshark alone: " + around(name, b)] += 1
 
 
-def compare_tcpdump(tally, path, a, text):
-    """Whether the addresses, ports, lengths and fragments stand in what tcpdump writes."""
-    if "refused" in a:
-        return
-    at, seen = a["frame.number"], " ".join(text.split())
+def compare_ends(tally, path, a, seen):
+    """Compares addresses and ports with what tcpdump writes, and answers whether it tells ports and this does not."""
+    untold = False
     for field in ("ip", "ipv6"):
         if field + ".src" not in a:
             continue
@@ -284,17 +441,30 @@ def compare_tcpdump(tally, path, a, text):
             continue
         told = f"{found[1]} > {found[2]}:"
         if ends == apart and told != apart:
-            # It tells the ports of a first fragment, and those of other transports.
+            # It tells the ports of other transports too.
             told = re.sub(r"\.\d+ > (.*)\.\d+:$", r" > \1:", told)
+            untold = True
         elif told == apart and ends != apart and f" {ports[0]} > {ports[1]}:" in seen:
             # Behind extension headers it tells ports apart from addresses.
             told = ends
-        tally.compared(path, at, "ends", ends, told, told == ends, "tcpdump")
+        tally.compared(path, a["frame.number"], "ends", ends, told, told == ends, "tcpdump")
+    return untold
+
+
+def compare_tcpdump(tally, path, a, text):
+    """Compares addresses, ports, lengths and fragments, and answers whether it tells ports and this does not."""
+    if "link" in a:
+        return False
+    at, seen = a["frame.number"], " ".join(text.split())
+    untold = compare_ends(tally, path, a, seen)
     for name, form in (("udp.length", r"UDP, (?:bad )?length (\d+)"), ("tcp.len", r": tcp (\d+)")):
         if name in a and (found := re.search(form, seen)):
-            value = a[name] - 8 if name == "udp.length" else a[name]
-            tally.compared(path, at, name, value, found[1], value == int(found[1]), "tcpdump")
-    if "ip.id" in a and (found := re.search(r", id (\d+), offset (\d+), flags \[([^\]]*)\]", seen)):
+            other = int(found[1]) + (8 if name == "udp.length" else 0)
+            tally.compared(path, at, name, a[name], other, same(a, name, str(other)), "tcpdump")
+    if "icmp.length" in a and (found := re.search(r": (?:\[[^]]*\] )?ICMP6?,? .*?, length (\d+)", text)):
+        other = int(found[1])
+        tally.compared(path, at, "icmp.length", a["icmp.length"], other, same(a, "icmp.length", found[1]), "tcpdump")
+    if "ip.frag_offset" in a and (found := re.search(r", id (\d+), offset (\d+), flags \[([^\]]*)\]", seen)):
         told = (int(found[1]), int(found[2]), int("+" in found[3]))
         mine = (a["ip.id"], a["ip.frag_offset"], a["ip.flags.mf"])
         tally.compared(path, at, "fragment", mine, told, mine == told, "tcpdump")
@@ -304,37 +474,105 @@ def compare_tcpdump(tally, path, a, text):
     if "arp.dst.proto_ipv4" in a and (found := re.search(r"who-has (\S+)(?: \(\S+\))? tell (\S+),", seen)):
         mine = (a["arp.dst.proto_ipv4"], a["arp.src.proto_ipv4"])
         tally.compared(path, at, "arp", mine, found.groups(), mine == found.groups(), "tcpdump")
+    return untold
+
+
+def compare_outer(tally, path, a, text):
+    """Compares what tcpdump writes with its option -e: Ethernet's addresses, VLANs, flags, and sequence numbers."""
+    if "link" in a:
+        return
+    at = a["frame.number"]
+    if "eth.src" in a and (found := re.match(r"\S+ ((?:\w\w:){5}\w\w) > ((?:\w\w:){5}\w\w), ", text)):
+        mine = (a["eth.src"], a["eth.dst"])
+        tally.compared(path, at, "ethernet", mine, found.groups(), mine == found.groups(), "tcpdump")
+    tags = [int(tag) for tag in re.findall(r"\bvlan (\d+), p \d", text)]
+    if a["vlans"] and tags:
+        tally.compared(path, at, "vlans", a["vlans"], tags, a["vlans"] == tags[:len(a["vlans"])], "tcpdump")
+    form = r" Flags \[([^\]]*)\](?:, seq (\d+)(?::\d+)?)?(?:, ack (\d+))?"
+    if "tcp.flags" in a and (found := re.search(form, text)):
+        told = sum(TCPDUMP_FLAGS.get(letter, 0) for letter in found[1]) if found[1] != "none" else 0
+        tally.compared(path, at, "flags", a["tcp.flags"] & 255, told, a["tcp.flags"] & 255 == told, "tcpdump")
+        for name, other in (("tcp.seq_raw", found[2]), ("tcp.ack_raw", found[3])):
+            if name in a and other is not None:
+                tally.compared(path, at, name, a[name], other, a[name] == int(other), "tcpdump")
+
+
+def untold(a, b):
+    """What tshark tells of a packet and this does not, of what is wanted."""
+    names = [name for name in WANTED if name in b and name not in a and name not in a.get("quoted", {})]
+    if "tcp.flags" not in b or number(b["tcp.flags"]) & FLAGS["A"] == 0:
+        names = [name for name in names if name != "tcp.ack_raw"]
+    if b.get("arp.src.hw_mac") in (a.get("eth.src"), a.get("sll.src.eth")):
+        names = [name for name in names if name != "arp.src.hw_mac"]
+    return names + (["vlan.id"] if len(b["vlans"]) > len(a["vlans"]) else [])
+
+
+def cause_of(a, b, names):
+    """Why this does not tell what tshark does, or none where it tells all."""
+    lengths = [name for name in LENGTHS if name in a and name in b and a["incomplete"] and a[name] < number(b[name])]
+    alone = f" ({', '.join(names)})" if all(name in LENGTHS for name in names) else ""
+    if names and "stopped" in a:
+        return f"the header {a['stopped']} is {'cut' if 'cut' in a else 'malformed'}{alone}"
+    if names and ("ip.frag_offset" in a or "ipv6.fraghdr.ident" in a):
+        return f"in a fragment: {', '.join(sorted({name.split('.')[0] for name in names}))}{alone}"
+    if names and ("icmp.type" in a or "icmpv6.type" in a):
+        return "the packet that an ICMP message quotes"
+    if names and all(name.startswith("arp") for name in names) and "arp.opcode" in a:
+        return f"of ARP: {', '.join(names)}"
+    if names:
+        return "inside " + around(names, b)
+    if b["nets"] > len([1 for name in ("ip.src", "ipv6.src", "icmp.type", "icmpv6.type") if name in a]):
+        return "inside " + around([], b)
+    return "the length of a payload of which bytes are missing" if lengths else None
+
+
+def compare_two(tally, path, mine, other, texts, outer):
+    """Compares what is told of each packet, and counts why something is not told."""
+    for at, a in enumerate(mine):
+        b = other[at] if at < len(other) else None
+        ports = compare_tcpdump(tally, path, a, texts[at]) if at < len(texts) else False
+        if at < len(outer):
+            compare_outer(tally, path, a, outer[at])
+        if "link" in a:
+            tally.links[a["link"].split(" cut")[0].strip()] += 1
+        if b is None:
+            continue
+        compare_tshark(tally, path, a, b, texts[at] if at < len(texts) else "")
+        if "link" not in a:
+            cause = cause_of(a, b, untold(a, b))
+            cause = "ports by tcpdump alone: " + b["frame.protocols"] if cause is None and ports else cause
+            if cause is not None:
+                tally.untold[cause] += 1
+                tally.say(cause, f"{path}: {a['frame.number']}: not told: {cause}")
 
 
 def compare(tally, program, path):
-    run = subprocess.run([program, path], capture_output=True, text=True)
+    run = subprocess.run([program, *tally.words, path], capture_output=True, text=True)
     mine = [ours(line) for line in run.stdout.splitlines()]
-    other, texts, kinds = list(theirs(path)), tcpdump_of(path), kinds_of(path)
-    tally.counted["packets in obsolete blocks, and custom blocks"] += len([k for k in kinds if k in TOLD - READ])
-    other = of_kinds(other, kinds, TOLD)
-    texts = of_kinds(texts, kinds, READ | {OBSOLETE}) if texts is not None else None
-    damaged = damaged_times(path)
+    (other, by_tshark), kinds = theirs(path), blocks_of(open(path, "rb").read())
+    (texts, by_tcpdump), (outer, _) = tcpdump_of(path, ["-q", "-v"]), tcpdump_of(path, ["-e", "-S"])
+    tally.counted["custom blocks"] += len([kind for kind in kinds if kind in TOLD - READ])
+    other, damaged = of_kinds(other, kinds), damaged_times(path)
     tally.counted["captures"] += 1
     tally.counted["packets"] += len(mine)
     if run.returncode != 0:
         tally.reasons["status 1: " + re.sub(r"\d+", "N", run.stderr.strip().splitlines()[-1].replace(path, ""))] += 1
+        tally.counted["packets behind what packet_dump refuses"] += max(0, len(other) - len(mine))
         print(f"{path}: {run.stderr.strip()}; tshark has {len(other)} packets")
-    elif len(mine) != len(other):
-        tally.differs(path, "-", "number of packets", len(mine), f"tshark has {len(other)}")
-    if texts is None:
-        tally.counted["captures that tcpdump does not read"] += 1
-    else:
-        tally.counted["packets that tcpdump reads too"] += min(len(mine), len(texts))
-        if len(mine) != len(texts) and run.returncode == 0:
-            tally.differs(path, "-", "number of packets", len(mine), f"tcpdump has {len(texts)}")
-        if len(mine) == len(texts):
-            compare_times(tally, path, "tcpdump", mine, [text.split(" ")[0] for text in texts], damaged)
-            for a, text in zip(mine, texts):
-                compare_tcpdump(tally, path, a, text)
-    if run.returncode != 0 or len(mine) == len(other):
-        compare_times(tally, path, "tshark", mine, [b.get("frame.time_epoch") for b in other], damaged)
-        for a, b in zip(mine, other):
-            compare_tshark(tally, path, a, b)
+    for reader, told, ended in (("tshark", other, by_tshark), ("tcpdump", texts, by_tcpdump)):
+        tally.counted[f"packets that {reader} reads too"] += min(len(mine), len(told))
+        if ended.returncode != 0 and len(told) < len(mine):
+            tally.counted[f"captures that {reader} does not read whole"] += 1
+            tally.say(f"status {reader}", f"{path}: {reader}: {' '.join(ended.stderr.split())[-150:]}")
+        elif len(mine) != len(told) and run.returncode == 0:
+            tally.differs(path, "-", f"number of packets, {reader}", len(mine), len(told))
+    # Where numbers differ it is not known which packets are the same.
+    other = other if len(other) == len(mine) or run.returncode or by_tshark.returncode else []
+    if len(texts) != len(mine) and not run.returncode and not by_tcpdump.returncode:
+        texts = []
+    compare_times(tally, path, "tcpdump", mine, [text.split(" ")[0] for text in texts], damaged)
+    compare_times(tally, path, "tshark", mine, [b.get("frame.time_epoch") for b in other], damaged)
+    compare_two(tally, path, mine, other, texts, outer if len(outer) == len(texts) else [])
 
 
 def in_forms(tally, program, path):
@@ -347,6 +585,16 @@ def in_forms(tally, program, path):
                 compare(tally, program, to)
             else:
                 tally.counted["forms that editcap does not write"] += 1
+
+
+def cut(tally, program, path, kept):
+    """Compares a capture of which so many bytes of each packet are kept."""
+    with tempfile.TemporaryDirectory() as folder:
+        to = os.path.join(folder, os.path.basename(path))
+        if subprocess.run(["editcap", "-s", kept, path, to], capture_output=True).returncode == 0:
+            compare(tally, program, to)
+        else:
+            tally.counted["captures that editcap does not write"] += 1
 
 
 def payloads_of(program, path):
@@ -375,9 +623,9 @@ def reassembled(tally, program, path):
     for line in refused:
         tally.reasons["refused: " + re.sub(r"\d+", "N", line.split(" not reassembled: ")[1])] += 1
         tally.say("refused", f"{path}: {line}")
-    options = ["-o", "ip.defragment:TRUE", "-o", "ipv6.defragment:TRUE", "-o", "tcp.desegment_tcp_streams:FALSE", "-Y",
-               "ip.reassembled.data or ipv6.reassembled.data"]
-    other = {int(found["frame.number"]): found for found in fields_of(path, PAYLOAD_FIELDS, options)}
+    options = ["-E", "occurrence=f", "-o", "ip.defragment:TRUE", "-o", "ipv6.defragment:TRUE", "-o",
+               "tcp.desegment_tcp_streams:FALSE", "-Y", "ip.reassembled.data or ipv6.reassembled.data"]
+    other = {int(found["frame.number"]): found for found in told_by_tshark(path, PAYLOAD_FIELDS, options)[0]}
     for at in sorted(set(mine) | set(other)):
         if at not in mine or at not in other:
             one, protocols = ("packet_dump", "") if at in mine else ("tshark", other[at]["frame.protocols"])
@@ -390,6 +638,9 @@ def reassembled(tally, program, path):
         told = "".join(mine[at][1])
         tally.counted["bytes"] += len(told) // 2
         tally.compared(path, at, "bytes", told[:40], bytes_there[:40], bytes_there.endswith(told))
+        length = re.search(r" len (\d+)", mine[at][0])
+        tally.compared(path, at, "number of bytes", len(told) // 2, length and length[1],
+                       length is None or len(told) // 2 == int(length[1]))
         for name in PAYLOAD_FIELDS[1:9]:
             if name in found:
                 value = theirs_at.get(name)
@@ -406,13 +657,23 @@ def files_of(paths):
             yield path
 
 
-ways = {"--forms": in_forms, "--reassembled": reassembled}
-way, arguments = ways.get(sys.argv[1], compare), sys.argv[1:]
-total = Tally()
-if arguments[0] in ways:
-    arguments = arguments[1:]
-for path in files_of(arguments[1:]):
-    way(total, arguments[0], path)
-for reason, count in sorted(total.reasons.items(), key=lambda entry: (entry[0].split(":")[0], -entry[1])):
-    print(f"{count:8} {reason}")
-print(", ".join(f"{value} {name}" for name, value in total.counted.items()))
+def main(arguments):
+    total, way = Tally(5), compare
+    if arguments[:1] == ["--all"]:
+        total.shown, arguments = sys.maxsize, arguments[1:]
+    if arguments[:1] == ["--verbose"]:
+        total.words, arguments = arguments[:1], arguments[1:]
+    if arguments[:1] == ["--cut"]:
+        kept, arguments = arguments[1], arguments[2:]
+        way = lambda tally, program, path: cut(tally, program, path, kept)
+    elif arguments[:1] == ["--forms"]:
+        way, arguments = in_forms, arguments[1:]
+    elif arguments[:1] == ["--reassembled"]:
+        way, arguments = reassembled, arguments[1:]
+    for path in files_of(arguments[1:]):
+        way(total, arguments[0], path)
+    total.write()
+
+
+if __name__ == "__main__":
+    main(sys.argv[1:])

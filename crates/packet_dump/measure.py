@@ -3,10 +3,12 @@
 
 FOLDER is one of slice_bench's corpora.py. Of a million packets of each kind (64 bytes of UDP; mixed; fragments, with
 --reassemble; mixed ones cut at 96 bytes), whose captures are written there, it prints the user's processor time in
-seconds, the least of three runs (of tshark one), and the greatest resident size in MiB, with the lines thrown away.
+seconds, the least and the median of five runs in turns (of tshark one), and the greatest resident size in MiB, with the
+lines thrown away.
 With GIGABYTES it then prints both of a capture of so many, which a pipe brings. It needs tcpdump, tshark and GNU time.
 """
 import os
+import statistics
 import struct
 import subprocess
 import sys
@@ -26,7 +28,7 @@ def frames_of(path):
 
 
 def write(path, frames, kept):
-    """A capture of PACKETS packets, these frames over and over, a microsecond apart, of which so many bytes are kept."""
+    """A capture of PACKETS packets, these frames over and over, a microsecond apart, of each so many bytes kept."""
     with open(path, "wb") as out:
         out.write(HEADING)
         for at in range(PACKETS):
@@ -49,13 +51,15 @@ def taken(command, source=()):
     return float(seconds), int(kilobytes) / 1024
 
 
-def least(command, runs=3):
-    times, sizes = zip(*(taken(command) for _ in range(runs)))
-    return f"{min(times):6.2f} {max(sizes):6.1f}"
+def in_turns(commands, runs):
+    """Of each command the least and the median of the user's times, and the greatest resident size."""
+    for turns in zip(*([taken(command) for command in commands] for _ in range(runs))):
+        times, sizes = zip(*turns)
+        yield f"{min(times):6.2f} {statistics.median(times):6.2f} {max(sizes):6.1f}"
 
 
 def main(program, folder, gigabytes=0):
-    print("capture        packet_dump           tcpdump            tshark")
+    print("capture            packet_dump               tcpdump                tshark")
     for name, corpus, kept, words in (
         ("udp64", "udp64", 262144, []),
         ("mix", "mix", 262144, []),
@@ -64,8 +68,8 @@ def main(program, folder, gigabytes=0):
     ):
         path = f"{folder}/{name}.measured.pcap"
         write(path, list(frames_of(f"{folder}/{corpus}")), kept)
-        print(f"{name:10}", least([program, *words, path]), "  ", least(["tcpdump", "-nn", "-r", path]), "  ",
-              least(["tshark", "-n", "-r", path], 1), flush=True)
+        beside = in_turns([[program, *words, path], ["tcpdump", "-nn", "-r", path]], 5)
+        print(f"{name:10}", *beside, *in_turns([["tshark", "-n", "-r", path]], 1), sep="   ", flush=True)
     if gigabytes:
         packets = open(f"{folder}/mix.measured.pcap", "rb").read()[len(HEADING):]
         times = int(gigabytes * 1e9) // len(packets)

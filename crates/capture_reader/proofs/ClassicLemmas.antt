@@ -1,5 +1,5 @@
 -- The bytes of headings and records, and what is read from them.
-use Rattle.std.proofs.Common.{◌≡◌, ℕ, ◌+◌, ◌-◌, ◌^◌, ◌<◌, ◌≤◌, true, List, [], ◌∷◌, ◌++◌, Option, Some, None}
+use Rattle.std.proofs.Common.{◌≡◌, ℕ, ◌+◌, ◌-◌, ◌^◌, ◌<◌, ◌≤◌, List, [], ◌∷◌, ◌++◌, Option, Some, None}
 use Rattle.std.proofs.Common.{◌==◌, ◌&&◌, Bool, not, nat_lt, is_some}
 use Rattle.std.proofs.Common.{length, take, drop, get_or, slice_range, refl, sym, ap, ◌∙◌}
 use Rattle.std.proofs.Common.{append_assoc, length-append, length-drop, length-take-le, take-append-drop, arith}

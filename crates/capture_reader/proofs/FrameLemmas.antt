@@ -1,14 +1,13 @@
 -- What stands around a block, as it was read.
-use Rattle.std.proofs.Common.{◌≡◌, ℕ, ◌+◌, ◌-◌, ◌%◌, ◌≤◌, ◌==◌, ◌||◌, not, nat_lt}
+use Rattle.std.proofs.Common.{◌≡◌, ℕ, ◌+◌, ◌-◌, ◌≤◌}
 use Rattle.std.proofs.Common.{List, None, length, drop, slice_range, sym, ap, subst, ◌∙◌}
 use Rattle.std.proofs.Common.{length-drop, length-take-le, arith}
-use Rattle.std.proofs.lemmas.Bool.{eq-eqb, le-ltb, not_from_true, or_from}
 use Rattle.ep_base.specs.Bytes.{AreBytes}
-use Rattle.ep_base.specs.Tables.{Refuses, first_row}
+use Rattle.ep_base.specs.Tables.{first_row}
 use Rattle.capture_reader.specs.Numbers.{word32_at}
-use Rattle.capture_reader.specs.Blocks.{IsBlock, RefusesBlock, section_after}
-use Rattle.capture_reader.specs.Blocks.{block_in, block_of, block_rows, body_rows, has_no_order}
-use Rattle.capture_reader.specs.Blocks.{least_len, most_block, order_in, order_of}
+use Rattle.capture_reader.specs.Blocks.{IsBlock, section_after}
+use Rattle.capture_reader.specs.Blocks.{block_in, block_of, block_rows, body_rows}
+use Rattle.capture_reader.specs.Blocks.{order_in, order_of}
 use Rattle.capture_reader.specs.BlockContents.{FitsLen, IsFramed, Says, StandsIn, content_interfaces, content_shown}
 use Rattle.capture_reader.specs.BlockContents.{section_of}
 use Rattle.capture_reader.specs.Captures.{block_shown}
@@ -20,10 +19,7 @@ use Rattle.capture_reader.specs.declared.block.Framing.{Framing}
 use Rattle.capture_reader.specs.declared.byte_order.ByteOrder.{ByteOrder}
 use Rattle.capture_reader.specs.declared.byte_order.ByteOrder.TheVariants.{Big}
 use Rattle.capture_reader.specs.declared.interface.Interface.{Interface}
-use Rattle.capture_reader.specs.declared.refusal.Refusal.{Refusal}
-use Rattle.capture_reader.specs.declared.refusal.Refusal.TheVariants as refusal
 use Rattle.capture_reader.proofs.BlockLemmas.{block_is_read_by, least_12, none_of, rows_of}
-use Rattle.capture_reader.proofs.BodyLemmas.{row_pass}
 
 framed_len : (before : ByteOrder) (bytes : List ℕ) (frame : Framing) → IsFramed before bytes frame
     → word32_at (order_in before bytes) bytes 4 ≡ frame.len

@@ -1,9 +1,9 @@
 -- What the steps of a reader come upon, and what it is refused.
 use Rattle.std.proofs.Common.{◌≡◌, ℕ, ◌+◌, ◌%◌, ◌<◌, ◌≤◌, ◌==◌, ◌&&◌, min, nat_le, nat_lt, not, is_some, Bool, true}
 use Rattle.std.proofs.Common.{false}
-use Rattle.std.proofs.Common.{List, [], ◌∷◌, ◌++◌, Some, None, Result, Ok, Err, length, drop}
+use Rattle.std.proofs.Common.{List, [], ◌∷◌, ◌++◌, Some, Result, Ok, Err, length, drop}
 use Rattle.std.proofs.Common.{refl, sym, ap, subst, ◌∙◌, append_assoc, length-append, length-drop, arith}
-use Rattle.std.proofs.lemmas.Bool.{and_parts, le-leb, le-ltb, leb-true, lt-ltb, ltb-false, ltb-true}
+use Rattle.std.proofs.lemmas.Bool.{and_parts, le-leb, le-ltb, leb-true, ltb-false, ltb-true}
 use Rattle.std.proofs.lemmas.List.{append-nil}
 use Rattle.std.proofs.lemmas.Option.{none-some}
 use Rattle.std.proofs.Math.Nat.{min-le_right}
@@ -39,7 +39,7 @@ use Rattle.capture_reader.specs.declared.refusal.Refusal.{Refusal}
 use Rattle.capture_reader.specs.declared.refusal.Refusal.TheVariants as refusal
 use Rattle.capture_reader.proofs.BlockRefusalLemmas.{IsFinal, block_few, block_long, block_more, cut_behind, not_few}
 use Rattle.capture_reader.proofs.BodyLemmas.{row_pass}
-use Rattle.capture_reader.proofs.CaptureLemmas.{ended_empty, item_some, long_facts, none_of_some, start_rows}
+use Rattle.capture_reader.proofs.CaptureLemmas.{ended_empty, item_some, long_facts, start_rows}
 use Rattle.capture_reader.proofs.NumberLemmas.{word32_at-more}
 use Rattle.capture_reader.proofs.ClassicRefusalLemmas.{final_5, heading_few, heading_more, last_rows, record_few}
 use Rattle.capture_reader.proofs.ClassicRefusalLemmas.{record_more}

@@ -23,13 +23,20 @@ section_of order interfaces = record { order = order; interfaces = interfaces }
 -- the packet of which this is known, and which has these bytes
 abbrev pub known_shown : Known → List ℕ → PlainShown
 known_shown known bytes =
-    record { link = known.link_type; time = known.time; original_len = known.original_len; bytes = bytes }
+    record {
+      link = known.link_type;
+      interface = known.interface;
+      time = known.time;
+      original_len = known.original_len;
+      bytes = bytes;
+    }
 
--- what is known of a packet of an interface, whose block begins with this: the halves of its time stand behind 4 and 8
--- bytes, its length behind 16
-abbrev pub timed_known : ByteOrder → Interface → List ℕ → Known
-timed_known order about body = record {
+-- what is known of a packet of the interface of a number, whose block begins with this: the halves of its time stand
+-- behind 4 and 8 bytes, its length behind 16
+abbrev pub timed_known : ByteOrder → ℕ → Interface → List ℕ → Known
+timed_known order number about body = record {
   link_type = about.link_type;
+  interface = Some number;
   time = Some (block_time about (word32_at order body 4) (word32_at order body 8));
   original_len = word32_at order body 16;
 }

@@ -158,9 +158,11 @@ item_rows (in_records first) bytes = record_rows first.order bytes
 
 -- ---- what packets show
 
--- what a packet of either format shows: what it begins with, when it came, how long it was, and what was kept
+-- what a packet of either format shows: what it begins with, the number of its interface, when it came, how long it
+-- was, and what was kept
 pub record PlainShown : Type 0 where
   pub link : ℕ
+  pub interface : Option ℕ
   pub time : Option Time
   pub original_len : ℕ
   pub bytes : List ℕ
@@ -186,6 +188,7 @@ block_time about high low =
 abbrev pub record_shown : Heading → PlainPacket → PlainShown
 record_shown first one = record {
   link = link_of first.network;
+  interface = None;
   time = Some (record_time first one);
   original_len = one.original_len;
   bytes = one.bytes;
@@ -194,14 +197,20 @@ record_shown first one = record {
 abbrev pub enhanced_shown : Interface → PlainEnhanced → PlainShown
 enhanced_shown about one = record {
   link = about.link_type;
+  interface = Some one.number;
   time = Some (block_time about one.high one.low);
   original_len = one.original_len;
   bytes = one.bytes;
 }
 
 abbrev pub simple_shown : Interface → PlainSimple → PlainShown
-simple_shown about one =
-    record { link = about.link_type; time = None; original_len = one.original_len; bytes = one.bytes }
+simple_shown about one = record {
+  link = about.link_type;
+  interface = Some 0;
+  time = None;
+  original_len = one.original_len;
+  bytes = one.bytes;
+}
 
 -- what a block shows: that of a packet, or nothing
 abbrev pub block_shown : List Interface → PlainBlock → Option PlainShown

@@ -1,5 +1,5 @@
 -- The classic capture format (pcap, version 2.4): a heading, and then records, each a packet with its time.
-use Rattle.std.specs.Prelude.{◌≡◌, ℕ, ◌+◌, ◌%◌, ◌^◌, ◌<◌, ◌≤◌, ◌==◌, ◌&&◌, ◌||◌, Bool, true, not, nat_lt, if◌then◌else◌}
+use Rattle.std.specs.Prelude.{◌≡◌, ℕ, ◌+◌, ◌%◌, ◌^◌, ◌<◌, ◌≤◌, ◌==◌, ◌&&◌, Bool, not, nat_lt, if◌then◌else◌}
 use Rattle.std.specs.Prelude.{List, [], ◌∷◌, ◌++◌, Option, Some, None, is_some, length, slice_range}
 use Rattle.ep_base.specs.Tables.{Refuses}
 use Rattle.capture_reader.specs.Numbers.{word16, word32, word16_at, word32_at}

@@ -85,6 +85,7 @@ reader_shown reader = known_shown reader.known (reader_bytes reader)
 abbrev pub shown_of : Shown → PlainShown
 shown_of shown = record {
   link = shown.link_type;
+  interface = shown.interface;
   time = shown.time;
   original_len = shown.original_len;
   bytes = shown.bytes.now;

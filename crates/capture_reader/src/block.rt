@@ -234,6 +234,7 @@ impl Framing {
         let kept = simple_kept(about.snap_len, original_len);
         let known = Known {
             link_type: about.link_type,
+            interface: Some(0),
             time: None,
             original_len,
         };
@@ -253,7 +254,7 @@ impl Framing {
         }
         let about = interfaces[number as usize];
         let kept = self.order.word32(body, 12);
-        self.packet(self.timed(about, body), 20, kept, body)
+        self.packet(self.timed(number, about, body), 20, kept, body)
     }
 
     /// A packet of an interface, in the form that enhanced packets replace: behind the number of its interface, of two
@@ -272,19 +273,20 @@ impl Framing {
         }
         let about = interfaces[usize::from(number)];
         let kept = self.order.word32(body, 12);
-        self.packet(self.timed(about, body), 20, kept, body)
+        self.packet(self.timed(u32::from(number), about, body), 20, kept, body)
     }
 
-    /// What is known of a packet of an interface, which begins with this: its time stands behind four bytes, in two
-    /// halves, and its length behind sixteen.
-    fn timed(&self, about: Interface, body: &[u8]) -> Known
+    /// What is known of a packet of the interface of a number, which begins with this: its time stands behind four
+    /// bytes, in two halves, and its length behind sixteen.
+    fn timed(&self, number: u32, about: Interface, body: &[u8]) -> Known
         requires { 20 ≤ length body.now }
-        ensures { result ≡ timed_known self.now.order about body.now }
+        ensures { result ≡ timed_known self.now.order number about body.now }
     {
         let high = self.order.word32(body, 4);
         let low = self.order.word32(body, 8);
         Known {
             link_type: about.link_type,
+            interface: Some(number),
             time: Some(Time {
                 ticks: high as u64 * 0x1_0000_0000 + low as u64,
                 per_second: about.per_second,

@@ -45,7 +45,7 @@ pub fn constants()
     ensures lengths { (Heading.LEN ≡ 24) × (Record.LEN ≡ 16) × (Block.FRONT_LEN ≡ 8) }
     ensures most_kept { packet.MOST_KEPT ≡ 262144 }
     ensures no_record { Record.NONE ≡ record { seconds = 0; fraction = 0; original_len = 0; kept = 0 } }
-    ensures known { Known.NONE ≡ record { link_type = 0; time = None; original_len = 0 } }
+    ensures known { Known.NONE ≡ record { link_type = 0; interface = None; time = None; original_len = 0 } }
 {}
 
 /// Values are equal where they are the same.

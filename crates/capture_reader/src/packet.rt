@@ -96,6 +96,7 @@ impl Record {
         };
         Known {
             link_type: heading.link_type(),
+            interface: None,
             time: Some(Time {
                 ticks: self.seconds as u64 * per_second + self.fraction as u64,
                 per_second,

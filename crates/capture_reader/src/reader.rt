@@ -405,6 +405,7 @@ impl CaptureReader {
     {
         Shown {
             link_type: self.known.link_type,
+            interface: self.known.interface,
             time: self.known.time,
             original_len: self.known.original_len,
             bytes: &self.buffer.as_slice()[self.start..self.last],

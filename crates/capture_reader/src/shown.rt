@@ -16,6 +16,8 @@ pub struct Time {
 pub struct Known {
     /// What it begins with.
     pub link_type: u16,
+    /// The number of its interface, where the capture says so.
+    pub interface: Option<u32>,
     /// When it came, where the capture says so.
     pub time: Option<Time>,
     /// How many bytes it had.
@@ -26,6 +28,7 @@ impl Known {
     /// What is known of no packet.
     pub const NONE: Known = Known {
         link_type: 0,
+        interface: None,
         time: None,
         original_len: 0,
     };
@@ -36,6 +39,8 @@ impl Known {
 pub struct Shown<'a> {
     /// What it begins with.
     pub link_type: u16,
+    /// The number of its interface in its section, in the newer format; a classic capture says none.
+    pub interface: Option<u32>,
     /// When it came, where the capture says so.
     pub time: Option<Time>,
     /// How many bytes it had.

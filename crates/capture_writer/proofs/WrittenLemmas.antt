@@ -155,6 +155,7 @@ same_shown link shown fits is =
     let ticks = same_ticks (instant_in shown.time) passed.from in
     λ i. record {
       link = linked i;
+      interface = None;
       time = Some (record { ticks = ticks i; per_second = 1000000000; offset = pos 0 });
       original_len = shown.original_len;
       bytes = shown.bytes;

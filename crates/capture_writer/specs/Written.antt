@@ -100,9 +100,9 @@ IsWriteError link shown OutOfMemory = first_row (write_rows link shown) ≡ None
 abbrev pub nanos_time : ℕ → Time
 nanos_time instant = record { ticks = instant - epoch; per_second = 1000000000; offset = pos 0 }
 
--- a packet as it is read back: the same, but for the unit of its time
+-- a packet as it is read back: the same, but for the unit of its time, and without the number of its interface
 abbrev pub back_of : PlainShown → PlainShown
-back_of shown = record shown { time = Some (nanos_time (instant_in shown.time)) }
+back_of shown = record shown { interface = None; time = Some (nanos_time (instant_in shown.time)) }
 
 -- in front of others, what an item shows
 abbrev pub onto : Option PlainShown → List PlainShown → List PlainShown

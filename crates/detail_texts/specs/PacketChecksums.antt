@@ -1,6 +1,8 @@
 -- What is told of the checksum of a packet's transport layer.
 use Rattle.std.specs.Prelude.{ℕ, if◌then◌else◌, Bool, true, false, List, [], Option, Some, None}
 use Rattle.std.specs.List.{list_any}
+use Rattle.ep_base.specs.declared.len_source.LenSource.{LenSource}
+use Rattle.ep_base.specs.declared.len_source.LenSource.TheVariants as source
 use Rattle.ep_ext.specs.ExtensionParts.{ExtensionPart, routing}
 use Rattle.ep_transport.specs.declared.transport_slice.TransportSlice.{TransportSlice}
 use Rattle.ep_packet.specs.Layers.{NetLayer, ipv4, ipv6, arp}
@@ -17,13 +19,19 @@ is_routing part = false
 abbrev pub has_routing : List ExtensionPart → Bool
 has_routing parts = list_any is_routing parts
 
--- The checksum of a transport layer in a net layer. None is told behind a routing header, which may hold the destination
--- that is summed (RFC 8200, 8.1).
+-- whether no length field counts a payload of this source, so that bytes of it may be missing which nothing tells of
+abbrev pub is_uncounted : LenSource → Bool
+is_uncounted source.Slice = true
+is_uncounted other = false
+
+-- The checksum of a transport layer in a net layer. None is told of a payload that nothing counts, as of a segment that is
+-- left to a card, nor behind a routing header, which may hold the destination that is summed (RFC 8200, 8.1).
 abbrev pub net_checksum_text : Option NetLayer → TransportSlice → List ℕ
 net_checksum_text (Some (ipv4 header extensions payload)) transport =
-    checksum_text_ipv4 header.source header.destination transport
+    if is_uncounted payload.source then [] else checksum_text_ipv4 header.source header.destination transport
 net_checksum_text (Some (ipv6 header extensions payload)) transport =
-    if has_routing extensions then [] else checksum_text_ipv6 header.source header.destination transport
+    if is_uncounted payload.source then []
+    else if has_routing extensions then [] else checksum_text_ipv6 header.source header.destination transport
 net_checksum_text (Some (arp packet)) transport = []
 net_checksum_text None transport = []
 

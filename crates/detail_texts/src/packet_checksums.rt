@@ -4,17 +4,18 @@ ghost use Rattle.std.specs.Prelude.{◌≡◌, ◌++◌, OnOk};
 ghost use Rattle.std.specs.Option.{option_map};
 ghost use Rattle.ep_ext.specs.Ipv6ExtensionSlices.{extension_slice_part, ipv6_slice_parts};
 ghost use Rattle.ep_lax.specs.LaxViews.{lax_net_layer_of};
-ghost use Rattle.detail_texts.specs.PacketChecksums.{has_routing, inner_checksum_text, is_routing, net_checksum_text};
-ghost use Rattle.detail_texts.specs.PacketChecksums.{packet_checksum_text};
+ghost use Rattle.detail_texts.specs.PacketChecksums.{has_routing, inner_checksum_text, is_routing, is_uncounted};
+ghost use Rattle.detail_texts.specs.PacketChecksums.{net_checksum_text, packet_checksum_text};
 
 use crate::checksums::{push_checksum_ipv4, push_checksum_ipv6};
+use ep_base::LenSource;
 use ep_ext::{Ipv6ExtensionSlice, Ipv6ExtensionsSlice};
-use ep_lax::{LaxNetSlice, LaxSlicedPacket};
+use ep_lax::{LaxIpPayloadSlice, LaxNetSlice, LaxSlicedPacket};
 use ep_transport::TransportSlice;
 use std::alloc::AllocError;
 
 /// Appends whether the checksum of a packet's transport layer is the right one, where it has one and no byte of it is
-/// missing. None is told behind a routing header.
+/// missing. None is told of a payload that no length field counts, or behind a routing header.
 pub fn push_checksum(output: &mut Vec<u8>, packet: &LaxSlicedPacket<'_>) -> Result<(), AllocError>
     ensures { OnOk result (output.new.items ≡ output.old.items ++ packet_checksum_text packet.now) }
 {
@@ -50,10 +51,16 @@ fn push_behind(
 {
     match net {
         Some(LaxNetSlice::Ipv4(packet)) => {
+            if is_uncounted(packet.payload()) {
+                return Ok(());
+            }
             let header = packet.header();
             push_checksum_ipv4(output, header.source(), header.destination(), transport)
         }
         Some(LaxNetSlice::Ipv6(packet)) => {
+            if is_uncounted(packet.payload()) {
+                return Ok(());
+            }
             if has_routing(packet.extensions()) {
                 return Ok(());
             }
@@ -62,6 +69,13 @@ fn push_behind(
         }
         Some(LaxNetSlice::Arp(_)) | None => Ok(()),
     }
+}
+
+/// Whether no length field counts a payload.
+fn is_uncounted(payload: &LaxIpPayloadSlice<'_>) -> bool
+    ensures { result ≡ is_uncounted payload.now.len_source }
+{
+    matches!(payload.len_source, LenSource::Slice)
 }
 
 /// Whether a routing header is among extension headers.

@@ -8,10 +8,10 @@ use Rattle.capture_reader.specs.Captures.{Item, at_start, items_bytes}
 use Rattle.capture_reader.specs.Readers.{reader_rest}
 use Rattle.capture_writer.specs.Written.{capture_bytes}
 use Rattle.line_io.specs.Transfers.{Moves}
-use Rattle.packet_dump.specs.Dumps.{AreAllTexts, IsRefused}
+use Rattle.packet_dump.specs.Dumps.{AreAllTexts}
 use Rattle.packet_dump.specs.PacketCalls.{PoolHistory, new_pool}
-use Rattle.packet_dump.specs.Saves.{BeginsSaved, Closes, EndsAt, Flushes, IsCopy, Saves, asks, is_failed, new_state}
-use Rattle.packet_dump.specs.Sessions.{Drains, Stands, ending_of, ends_run}
+use Rattle.packet_dump.specs.Saves.{BeginsSaved, Closes, Flushes, IsCopy, Saves, asks, is_failed, new_state}
+use Rattle.packet_dump.specs.Sessions.{Gathered, Stands, ending_of, ends_run}
 use Rattle.packet_dump.specs.declared.dump_options.DumpOptions.{DumpOptions}
 use Rattle.packet_dump.specs.declared.saving.SaveFault.{SaveFault}
 use Rattle.packet_dump.specs.declared.saving.SaveState.{SaveState}
@@ -19,8 +19,7 @@ use Rattle.packet_dump.specs.declared.saving.SaveState.TheVariants.{Unasked, Ope
 use Rattle.packet_dump.specs.declared.saving.Saving.{Saving}
 use Rattle.packet_dump.specs.declared.session.Session.{Session}
 use Rattle.packet_dump.specs.declared.session.Standing.{Standing}
-use Rattle.packet_dump.specs.declared.session.Standing.TheVariants.{MayEnd, Enough, Cut, Refused}
-use Rattle.packet_dump.proofs.DumpLemmas.{Draining, is_refused}
+use Rattle.packet_dump.proofs.DumpLemmas.{Draining, ends_at}
 use Rattle.packet_dump.proofs.SavingLemmas.{begins_where}
 
 -- what a session read, and what was written of what is saved
@@ -92,10 +91,10 @@ copied_none options true had held = (
 
 -- more was put together
 pub copied_drained : (options : DumpOptions) (wanted : Bool) (old new : Session) (standing : Standing)
-    (start saving : Saving) (had has held holds : Option (List ℕ))
-    → Moves (Copied options wanted old start) had has held holds → Draining old new standing start saving
-    → Moves (Copied options wanted new saving) had has held holds
-copied_drained options wanted old new standing start saving had has held holds
+    (start behind : Gathered) (had has held holds : Option (List ℕ))
+    → Moves (Copied options wanted old start.saving) had has held holds → Draining old new standing start behind
+    → Moves (Copied options wanted new behind.saving) had has held holds
+copied_drained options wanted old new standing start behind had has held holds
     (read, saved, consumed, appended, (items, text, history, stands, texts, saves)) drain =
     let drained = (drain options read items text history stands texts).0 in (
       read,
@@ -191,28 +190,13 @@ copied_piece options wanted session saving piece had has then_has held holds
       ) saves,
     )
 
--- a run ends where the capture stands so
-ends_at : (options : DumpOptions) (ended : Bool) (standing : Standing) (session : Session) (read : List ℕ)
-    (items : List Item) (text : List ℕ) (start saving : Saving) → ends_run standing ended ≡ true
-    → (drains : Drains options session standing read items text start saving)
-    → EndsAt options ended (ending_of standing session.number) read (items ++ drains.0.more)
-ends_at options ended MayEnd session read items text start saving ends drains = (ends, drains.1.1, drains.1.0)
-ends_at options ended Enough session read items text start saving ends drains = drains.1
-ends_at options ended (Cut error) session read items text start saving ends drains = (
-  subst (λ e. IsRefused e read (items ++ drains.0.more, error)) (sym ends) drains.1.1,
-  drains.1.0,
-  drains.0.stands.number,
-)
-ends_at options ended (Refused error) session read items text start saving ends drains =
-    (is_refused ended read (items ++ drains.0.more, error) drains.1.1, drains.1.0, drains.0.stands.number)
-
--- and what is saved was written
+-- a run ends, and what is saved was written
 pub copied_ended : (options : DumpOptions) (wanted ended : Bool) (old new : Session) (standing : Standing)
-    (start saving closed : Saving) (had has held holds then_holds : Option (List ℕ))
-    → Moves (Copied options wanted old start) had has held holds → Draining old new standing start saving
-    → ends_run standing ended ≡ true → Closes saving closed holds then_holds
+    (start behind : Gathered) (closed : Saving) (had has held holds then_holds : Option (List ℕ))
+    → Moves (Copied options wanted old start.saving) had has held holds → Draining old new standing start behind
+    → ends_run standing ended ≡ true → Closes behind.saving closed holds then_holds
     → Moves (IsCopy options wanted ended (ending_of standing new.number) closed.state) had has held then_holds
-copied_ended options wanted ended old new standing start saving closed had has held holds then_holds
+copied_ended options wanted ended old new standing start behind closed had has held holds then_holds
     (read, saved, consumed, appended, (items, text, history, stands, texts, saves)) drain ends close =
     let drains = drain options read items text history stands texts in
     let all = items ++ drains.0.more in
@@ -221,5 +205,5 @@ copied_ended options wanted ended old new standing start saving closed had has h
       saved ++ flushed.0,
       consumed,
       Appends-trans held holds then_holds saved flushed.0 appended flushed.1,
-      (all, ends_at options ended standing new read items text start saving ends drains, flushed.2),
+      (all, ends_at options ended standing new read items text start behind ends drains, flushed.2),
     )

@@ -1,5 +1,5 @@
 -- What was read and written of a capture, and where it stops.
-use Rattle.std.proofs.Common.{◌≡◌, ◌≤◌, ℕ, Bool, true, false, List, [], ◌++◌, Option, refl, sym, ap, subst, ◌∙◌, append_assoc, arith}
+use Rattle.std.proofs.Common.{◌≡◌, ◌≤◌, ℕ, Bool, if◌then◌else◌, true, false, List, [], ◌++◌, Option, refl, sym, ap, subst, ◌∙◌, append_assoc}
 use Rattle.std.proofs.KnownBytes.{Appends-nil, Appends-trans, Consumes-kept, Consumes-nil, Consumes-trans}
 use Rattle.std.proofs.lemmas.List.{append-nil}
 use Rattle.std.specs.Io.KnownBytes.{Appends, Consumes, Keeps}
@@ -8,11 +8,14 @@ use Rattle.capture_reader.specs.Readers.{reader_rest}
 use Rattle.line_io.specs.Transfers.{Moves}
 use Rattle.line_io.specs.WatchedWords.{AppendsFront}
 use Rattle.capture_reader.specs.declared.refusal.CaptureError.{CaptureError}
-use Rattle.packet_dump.specs.Dumps.{AreAllTexts, AreShown, BeginsDump, IsDump, IsRefused, IsSummedDump}
+use Rattle.packet_dump.specs.Dumps.{AreAllTexts, AreShown, BeginsDump, IsDump, IsRefused}
 use Rattle.packet_dump.specs.PacketCalls.{PoolHistory, new_pool}
-use Rattle.packet_dump.specs.Sessions.{Drains, Stands, ending_of, ends_run}
+use Rattle.packet_dump.specs.Saves.{EndsAt}
+use Rattle.packet_dump.specs.Sessions.{Drains, Gathered, Stands, ending_of, ends_run}
+use Rattle.packet_dump.specs.Summaries.{CountsFragments, IsCounted, IsCountedDump, PlainSummary, new_summary}
+use Rattle.packet_dump.specs.SummaryTexts.{IsSummedDump, summary_text}
 use Rattle.packet_dump.specs.declared.ending.Ending.{Ending}
-use Rattle.packet_dump.specs.declared.saving.Saving.{Saving}
+use Rattle.packet_dump.specs.declared.ending.Ending.TheVariants as end
 use Rattle.packet_dump.specs.declared.session.Session.{Session}
 use Rattle.packet_dump.specs.declared.session.Standing.{Standing}
 use Rattle.packet_dump.specs.declared.session.Standing.TheVariants.{MayEnd, Enough, Cut, Refused}
@@ -26,47 +29,36 @@ are_shown options session read items text history stands texts =
     (subst (λ n. n ≤ options.most) stands.number stands.within, history, texts)
 
 -- what is refused whatever follows is so where the reader has ended, and where it has not
-pub is_refused : (ended : Bool) (read : List ℕ) (found : List Item × CaptureError)
+is_refused : (ended : Bool) (read : List ℕ) (found : List Item × CaptureError)
     → ((more : List ℕ) → RefusesCapture (read ++ more) found) → IsRefused ended read found
 is_refused true read found refused = refused_here read found refused
 is_refused false read found refused = refused
 
--- where the capture stands so, and a run ends there, this is its dump
-dump_of : (options : DumpOptions) (ended : Bool) (standing : Standing) (session : Session) (read : List ℕ) (items : List Item)
-    (text : List ℕ) (start saving : Saving) → ends_run standing ended ≡ true
-    → Drains options session standing read items text start saving
-    → IsDump options ended (ending_of standing session.number) read (text ++ session.output.items)
-dump_of options ended MayEnd session read items text start saving ends drains = (
-  ends,
-  items ++ drains.0.more,
-  drains.1.1,
-  drains.1.0,
-  are_shown options session read (items ++ drains.0.more) (text ++ session.output.items) drains.0.after drains.0.stands
-      drains.0.texts,
-)
-dump_of options ended Enough session read items text start saving ends drains = (
-  items ++ drains.0.more,
-  drains.1.0,
-  drains.1.1,
-  are_shown options session read (items ++ drains.0.more) (text ++ session.output.items) drains.0.after drains.0.stands
-      drains.0.texts,
-)
-dump_of options ended (Cut error) session read items text start saving ends drains = (
-  items ++ drains.0.more,
+-- a run ends where the capture stands so
+pub ends_at : (options : DumpOptions) (ended : Bool) (standing : Standing) (session : Session) (read : List ℕ)
+    (items : List Item) (text : List ℕ) (start behind : Gathered) → ends_run standing ended ≡ true
+    → (drains : Drains options session standing read items text start behind)
+    → EndsAt options ended (ending_of standing session.number) read (items ++ drains.0.more)
+ends_at options ended MayEnd session read items text start behind ends drains = (ends, drains.1.1, drains.1.0)
+ends_at options ended Enough session read items text start behind ends drains = drains.1
+ends_at options ended (Cut error) session read items text start behind ends drains = (
   subst (λ e. IsRefused e read (items ++ drains.0.more, error)) (sym ends) drains.1.1,
   drains.1.0,
   drains.0.stands.number,
-  are_shown options session read (items ++ drains.0.more) (text ++ session.output.items) drains.0.after drains.0.stands
-      drains.0.texts,
 )
-dump_of options ended (Refused error) session read items text start saving ends drains = (
-  items ++ drains.0.more,
-  is_refused ended read (items ++ drains.0.more, error) drains.1.1,
-  drains.1.0,
-  drains.0.stands.number,
-  are_shown options session read (items ++ drains.0.more) (text ++ session.output.items) drains.0.after drains.0.stands
-      drains.0.texts,
-)
+ends_at options ended (Refused error) session read items text start behind ends drains =
+    (is_refused ended read (items ++ drains.0.more, error) drains.1.1, drains.1.0, drains.0.stands.number)
+
+-- what counts the packets of a dump too is one
+is_dump : (options : DumpOptions) (ended : Bool) (ending : Ending) (start summary : PlainSummary)
+    (read written : List ℕ) → IsCountedDump options ended ending start summary read written
+    → IsDump options ended ending read written
+is_dump options ended end.Whole start summary read written (items, ends, shown, behind, counted, fragments) =
+    (ends.0, items, ends.1, ends.2, shown)
+is_dump options ended end.Enough start summary read written (items, ends, shown, behind, counted, fragments) =
+    (items, ends.0, ends.1, shown)
+is_dump options ended (end.Broken packets error) start summary read written (items, ends, shown, behind, counted, fragments) =
+    (items, ends.0, ends.1, ends.2, shown)
 
 -- what was put together begins the dump, whatever comes behind
 begins : (options : DumpOptions) (session : Session) (read piece : List ℕ) (items : List Item) (front rest text : List ℕ)
@@ -85,49 +77,57 @@ begins options session read piece items front rest text history stands texts par
       (subst (λ (t : List ℕ). AreAllTexts options items t history) parts texts),
 )
 
--- what a session read and its writer wrote
-abbrev pub Told : DumpOptions → Session → List ℕ → List ℕ → Type 0
-Told options session read written =
+-- what a session read, its writer wrote, and was counted since a summary was this
+abbrev pub Told : DumpOptions → PlainSummary → Session → PlainSummary → List ℕ → List ℕ → Type 0
+Told options first session summary read written =
     (items : List Item) × (history : PoolHistory) × Stands options session read items history
-    × AreAllTexts options items written history
+    × AreAllTexts options items written history × IsCounted options items first summary
 
 -- what draining a session does
-abbrev pub Draining : Session → Session → Standing → Saving → Saving → Type 0
-Draining old new standing start saving = (options : DumpOptions) (read : List ℕ) (items : List Item) (text : List ℕ)
+abbrev pub Draining : Session → Session → Standing → Gathered → Gathered → Type 0
+Draining old new standing start behind = (options : DumpOptions) (read : List ℕ) (items : List Item) (text : List ℕ)
     (history : PoolHistory)
     → Stands options old read items history → AreAllTexts options items text history
-    → Drains options new standing read items text start saving
+    → Drains options new standing read items text start behind
 
 -- nothing was read or written
-pub Moves-new : (options : DumpOptions) (session : Session) (had held : Option (List ℕ))
-    → Stands options session [] [] (new_pool options.limit) → Moves (Told options session) had had held held
-Moves-new options session had held stands =
-    ([], [], Consumes-nil had, Appends-nil held, ([], new_pool options.limit, stands, (refl, refl)))
-
--- nothing more was read or written
-pub Moves-begun : (options : DumpOptions) (session : Session) (had has held holds : Option (List ℕ)) → Moves (Told options session) had has held holds
-    → Moves (BeginsDump options) had has held holds
-Moves-begun options session had has held holds (read, written, consumed, appended, (items, history, stands, texts)) = (
-  read,
-  written,
-  consumed,
-  appended,
-  subst (λ (s : List ℕ). BeginsDump options s written) (append-nil read)
-      (begins options session read [] items written [] written history stands texts (sym (append-nil written))),
+pub Moves-new : (options : DumpOptions) (session : Session) (summary : PlainSummary) (had held : Option (List ℕ))
+    → Stands options session [] [] (new_pool options.limit)
+    → Moves (Told options summary session summary) had had held held
+Moves-new options session summary had held stands = (
+  [],
+  [],
+  Consumes-nil had,
+  Appends-nil held,
+  ([], new_pool options.limit, stands, (refl, refl), ([], refl, refl)),
 )
 
+-- nothing more was read or written
+pub Moves-begun : (options : DumpOptions) (first : PlainSummary) (session : Session) (summary : PlainSummary)
+    (had has held holds : Option (List ℕ)) → Moves (Told options first session summary) had has held holds
+    → Moves (BeginsDump options) had has held holds
+Moves-begun options first session summary had has held holds
+    (read, written, consumed, appended, (items, history, stands, texts, counted)) = (
+      read,
+      written,
+      consumed,
+      appended,
+      subst (λ (s : List ℕ). BeginsDump options s written) (append-nil read)
+          (begins options session read [] items written [] written history stands texts (sym (append-nil written))),
+    )
+
 -- the lines that were put together were written in part
-pub Moves-front : (options : DumpOptions) (old new : Session) (standing : Standing) (start saving : Saving)
-    (had has held holds then_holds : Option (List ℕ))
-    → Moves (Told options old) had has held holds
-    → Draining old new standing start saving
+pub Moves-front : (options : DumpOptions) (first : PlainSummary) (old new : Session) (standing : Standing)
+    (start behind : Gathered) (had has held holds then_holds : Option (List ℕ))
+    → Moves (Told options first old start.summary) had has held holds
+    → Draining old new standing start behind
     → AppendsFront holds then_holds new.output.items → Moves (BeginsDump options) had has held then_holds
-Moves-front options old new standing start saving had has held holds then_holds (
+Moves-front options first old new standing start behind had has held holds then_holds (
   read,
   written,
   consumed,
   appended,
-  (items, history, stands, texts),
+  (items, history, stands, texts, counted),
 )
     drain (front, rest, more, parts) =
     let drained = (drain options read items written history stands texts).0 in
@@ -143,17 +143,18 @@ Moves-front options old new standing start saving had has held holds then_holds 
     )
 
 -- they were written whole
-pub Moves-drained : (options : DumpOptions) (old new : Session) (standing : Standing) (start saving : Saving)
-    (had has held holds then_holds : Option (List ℕ))
-    → Moves (Told options old) had has held holds
-    → Draining old new standing start saving
-    → Appends holds then_holds new.output.items → Moves (Told options new) had has held then_holds
-Moves-drained options old new standing start saving had has held holds then_holds (
+pub Moves-drained : (options : DumpOptions) (first : PlainSummary) (old new : Session) (standing : Standing)
+    (start behind : Gathered) (had has held holds then_holds : Option (List ℕ))
+    → Moves (Told options first old start.summary) had has held holds
+    → Draining old new standing start behind
+    → Appends holds then_holds new.output.items
+    → Moves (Told options first new behind.summary) had has held then_holds
+Moves-drained options first old new standing start behind had has held holds then_holds (
   read,
   written,
   consumed,
   appended,
-  (items, history, stands, texts),
+  (items, history, stands, texts, counted),
 )
     drain more =
     let drained = (drain options read items written history stands texts).0 in (
@@ -161,74 +162,116 @@ Moves-drained options old new standing start saving had has held holds then_hold
       written ++ new.output.items,
       consumed,
       Appends-trans held holds then_holds written new.output.items appended more,
-      (items ++ drained.more, drained.after, drained.stands, drained.texts),
+      (items ++ drained.more, drained.after, drained.stands, drained.texts, drained.counts first counted),
     )
 
--- and the capture stands so
-pub Moves-ended : (options : DumpOptions) (ended : Bool) (old new : Session) (standing : Standing)
-    (start saving : Saving)
-    (had has held holds then_holds : Option (List ℕ)) → Moves (Told options old) had has held holds
-    → Draining old new standing start saving → ends_run standing ended ≡ true
+-- and the capture stands so that a run ends
+pub Moves-ended : (options : DumpOptions) (ended : Bool) (first : PlainSummary) (old new : Session)
+    (standing : Standing) (start behind : Gathered) (last : PlainSummary)
+    (had has held holds then_holds : Option (List ℕ)) → Moves (Told options first old start.summary) had has held holds
+    → Draining old new standing start behind → ends_run standing ended ≡ true
+    → CountsFragments new.options.reassemble behind.summary last
     → Appends holds then_holds new.output.items
-    → Moves (IsDump options ended (ending_of standing new.number)) had has held then_holds
-Moves-ended options ended old new standing start saving had has held holds then_holds
-    (read, written, consumed, appended, (items, history, stands, texts)) drain ends more = (
+    → Moves (IsCountedDump options ended (ending_of standing new.number) first last) had has held then_holds
+Moves-ended options ended first old new standing start behind last had has held holds then_holds
+    (read, written, consumed, appended, (items, history, stands, texts, counted)) drain ends fragments more =
+    let drains = drain options read items written history stands texts in
+    let drained = drains.0 in
+    let all = items ++ drained.more in (
       read,
       written ++ new.output.items,
       consumed,
       Appends-trans held holds then_holds written new.output.items appended more,
-      dump_of options ended standing new read items written start saving ends (drain options read items written
-          history stands texts),
+      (
+        all,
+        ends_at options ended standing new read items written start behind ends drains,
+        are_shown options new read all (written ++ new.output.items) drained.after drained.stands drained.texts,
+        behind.summary,
+        drained.counts first counted,
+        subst (λ (o : DumpOptions). CountsFragments o.reassemble behind.summary last) drained.stands.options_is fragments,
+      ),
     )
 
+pub Moves-dump : (options : DumpOptions) (ended : Bool) (ending : Ending) (first last : PlainSummary)
+    (had has held holds : Option (List ℕ)) → Moves (IsCountedDump options ended ending first last) had has held holds
+    → Moves (IsDump options ended ending) had has held holds
+Moves-dump options ended ending first last had has held holds (read, written, consumed, appended, counted) =
+    (read, written, consumed, appended, is_dump options ended ending first last read written counted)
+
 -- no more was read
-pub Moves-kept : (options : DumpOptions) (session : Session) (had has then_has held holds : Option (List ℕ))
-    → Moves (Told options session) had has held holds → Keeps has then_has → Moves (Told options session) had then_has held holds
-Moves-kept options session had has then_has held holds (read, written, consumed, appended, told) kept =
+pub Moves-kept : (options : DumpOptions) (first : PlainSummary) (session : Session) (summary : PlainSummary)
+    (had has then_has held holds : Option (List ℕ)) → Moves (Told options first session summary) had has held holds
+    → Keeps has then_has → Moves (Told options first session summary) had then_has held holds
+Moves-kept options first session summary had has then_has held holds (read, written, consumed, appended, told) kept =
     (read, written, Consumes-kept had has then_has read consumed kept, appended, told)
 
 -- a piece was read, and not taken
-pub Moves-piece : (options : DumpOptions) (session : Session) (piece : List ℕ) (had has then_has held holds : Option (List ℕ))
-    → Moves (Told options session) had has held holds → Consumes has then_has piece → Moves (BeginsDump options) had then_has held holds
-Moves-piece options session piece had has then_has held holds (read, written, consumed, appended, (items, history, stands, texts)) more = (
-  read ++ piece,
-  written,
-  Consumes-trans had has then_has read piece consumed more,
-  appended,
-  begins options session read piece items written [] written history stands texts (sym (append-nil written)),
-)
-
--- a piece was read, and taken
-pub Moves-taken : (options : DumpOptions) (old new : Session) (piece : List ℕ) (had has then_has held holds : Option (List ℕ))
-    → Moves (Told options old) had has held holds → Consumes has then_has piece
-    → ((options : DumpOptions) (read : List ℕ) (items : List Item) (history : PoolHistory) → Stands options old read items history
-    → Stands options new (read ++ piece) items history)
-    → Moves (Told options new) had then_has held holds
-Moves-taken options old new piece had has then_has held holds (read, written, consumed, appended, (items, history, stands, texts)) more
-    take = (
+pub Moves-piece : (options : DumpOptions) (first : PlainSummary) (session : Session) (summary : PlainSummary)
+    (piece : List ℕ) (had has then_has held holds : Option (List ℕ))
+    → Moves (Told options first session summary) had has held holds → Consumes has then_has piece
+    → Moves (BeginsDump options) had then_has held holds
+Moves-piece options first session summary piece had has then_has held holds
+    (read, written, consumed, appended, (items, history, stands, texts, counted)) more = (
       read ++ piece,
       written,
       Consumes-trans had has then_has read piece consumed more,
       appended,
-      (items, history, take options read items history stands, texts),
+      begins options session read piece items written [] written history stands texts (sym (append-nil written)),
+    )
+
+-- a piece was read, and taken
+pub Moves-taken : (options : DumpOptions) (first : PlainSummary) (old new : Session) (summary : PlainSummary)
+    (piece : List ℕ) (had has then_has held holds : Option (List ℕ))
+    → Moves (Told options first old summary) had has held holds → Consumes has then_has piece
+    → ((options : DumpOptions) (read : List ℕ) (items : List Item) (history : PoolHistory) → Stands options old read items history
+    → Stands options new (read ++ piece) items history)
+    → Moves (Told options first new summary) had then_has held holds
+Moves-taken options first old new summary piece had has then_has held holds
+    (read, written, consumed, appended, (items, history, stands, texts, counted)) more take = (
+      read ++ piece,
+      written,
+      Consumes-trans had has then_has read piece consumed more,
+      appended,
+      (items, history, take options read items history stands, texts, counted),
     )
 
 -- no summary was wanted
-pub Moves-unsummed : (wanted : Bool) (options : DumpOptions) (ended : Bool) (ending : Ending) (had has held holds : Option (List ℕ))
-    → Moves (IsDump options ended ending) had has held holds
+pub Moves-unsummed : (wanted : Bool) (options : DumpOptions) (ended : Bool) (ending : Ending)
+    (first last : PlainSummary) (had has held holds : Option (List ℕ)) → wanted ≡ false
+    → first ≡ new_summary wanted options.quiet → Moves (IsCountedDump options ended ending first last) had has held holds
     → Moves (IsSummedDump wanted options ended ending) had has held holds
-Moves-unsummed wanted options ended ending had has held holds (read, written, consumed, appended, dump) =
-    (read, written, consumed, appended, (written, [], dump, sym (append-nil written), λ unasked. refl))
+Moves-unsummed wanted options ended ending first last had has held holds unasked new
+    (read, written, consumed, appended, counted) = (
+      read,
+      written,
+      consumed,
+      appended,
+      (
+        written,
+        last,
+        subst (λ (s : PlainSummary). IsCountedDump options ended ending s last read written) new counted,
+        subst (λ (b : Bool). written ≡ written ++ (if b then summary_text last else [])) (sym unasked)
+            (sym (append-nil written)),
+      ),
+    )
 
 -- a summary was wanted, and written
 pub Moves-summed : (wanted : Bool) (options : DumpOptions) (ended : Bool) (ending : Ending)
-    (had has held holds then_holds : Option (List ℕ)) → wanted ≡ true
-    → Moves (IsDump options ended ending) had has held holds → (text : List ℕ) × Appends holds then_holds text
+    (first last : PlainSummary) (had has held holds then_holds : Option (List ℕ)) → wanted ≡ true
+    → first ≡ new_summary wanted options.quiet → Moves (IsCountedDump options ended ending first last) had has held holds
+    → Appends holds then_holds (summary_text last)
     → Moves (IsSummedDump wanted options ended ending) had has held then_holds
-Moves-summed wanted options ended ending had has held holds then_holds asked (read, written, consumed, appended, dump) (text, more) = (
-  read,
-  written ++ text,
-  consumed,
-  Appends-trans held holds then_holds written text appended more,
-  (written, text, dump, refl, λ unasked. grind (arith, asked, unasked)),
-)
+Moves-summed wanted options ended ending first last had has held holds then_holds asked new
+    (read, written, consumed, appended, counted) more = (
+      read,
+      written ++ summary_text last,
+      consumed,
+      Appends-trans held holds then_holds written (summary_text last) appended more,
+      (
+        written,
+        last,
+        subst (λ (s : PlainSummary). IsCountedDump options ended ending s last read written) new counted,
+        subst (λ (b : Bool). written ++ summary_text last ≡ written ++ (if b then summary_text last else [])) (sym asked)
+            refl,
+      ),
+    )

@@ -1,4 +1,5 @@
 pub mod SessionLemmas
+pub mod SummaryLemmas
 pub mod DumpLemmas
 pub mod SavingLemmas
 pub mod CopyLemmas

@@ -1,7 +1,7 @@
 -- The list of the open streams' names, behind each thing that changes the pool.
 use Rattle.std.proofs.Common.{◌≡◌, ◌↔◌, ◌⊎◌, ℕ, ◌<◌, ◌≤◌, Bool, true, false, is_some, nat_eq, Option, Some, None}
 use Rattle.std.proofs.Common.{Result, Ok, Err}
-use Rattle.std.proofs.Common.{List, [], refl, sym, ap, ◌∙◌, inl, inr, arith, cond}
+use Rattle.std.proofs.Common.{List, [], refl, sym, subst, ap, ◌∙◌, inl, inr, arith, cond}
 use Rattle.std.specs.BTreeMap.{BTreeMap, get, is_at}
 use Rattle.std.specs.Bool.{Decides}
 use Rattle.std.specs.Cmp.{unsigned_Decides}
@@ -25,7 +25,7 @@ use Rattle.etherparse.specs.IpFragments.{IpFragment}
 use Rattle.etherparse.specs.Pools.{BecomesEntry, HoldsEntry, HoldsTable, NamesDiffer, Stream, TakesFragment, limit_of}
 use Rattle.etherparse.specs.Pools.{stream_named, streams_of}
 use Rattle.etherparse.specs.Streams.{same_numbers, same_stream, same_version}
-use Rattle.packet_dump.specs.OpenStreams.{IsListed, arrival_at, number_at, open_at, with_one, without}
+use Rattle.packet_dump.specs.OpenStreams.{IsListed, arrival_at, number_at, number_behind, open_at, with_one, without}
 use Rattle.packet_dump.specs.PacketCalls.{number_of}
 use Rattle.packet_dump.specs.declared.pooling.Arrival.{Arrival}
 
@@ -224,16 +224,23 @@ entry_number entry = option_map (λ at. at.number) (option_map (λ stream. strea
 abbrev pub IsNumberAfter : Option ℕ → ℕ → Option ℕ → Type 0
 IsNumberAfter had number has = (has ≡ had) ⊎ ((has ≡ None) ⊎ (has ≡ Some number))
 
-entry_number_after : (result : Result (Option IpDefragPayloadVec) IpDefragError) (old new : Option (Stream Arrival ℕ))
+is_number_after : (result : Result (Option IpDefragPayloadVec) IpDefragError) (had : Option ℕ) (number : ℕ)
+    → IsNumberAfter had number (number_behind result had number)
+is_number_after (Err error) had number = inl refl
+is_number_after (Ok None) had number = inr (inr refl)
+is_number_after (Ok (Some payload)) had number = inr (inl refl)
+
+-- which of these it is, the answer to the fragment says
+entry_number_behind : (result : Result (Option IpDefragPayloadVec) IpDefragError) (old new : Option (Stream Arrival ℕ))
     (fragment : IpFragment) (at : Arrival) → BecomesEntry result old fragment at new
-    → IsNumberAfter (entry_number old) at.number (entry_number new)
-entry_number_after (Err error) None None fragment at becomes = inl refl
-entry_number_after (Err error) None (Some new) fragment at becomes = absurd becomes
-entry_number_after (Err error) (Some old) None fragment at becomes = absurd becomes
-entry_number_after (Err error) (Some old) (Some new) fragment at becomes = inl (ap (λ t. Some t.number) becomes.2)
-entry_number_after (Ok None) old None fragment at becomes = absurd becomes
-entry_number_after (Ok None) old (Some new) fragment at becomes = inr (inr (ap (λ t. Some t.number) becomes.timestamp))
-entry_number_after (Ok (Some payload)) old new fragment at becomes = inr (inl (ap entry_number becomes.0))
+    → number_behind result (entry_number old) at.number ≡ entry_number new
+entry_number_behind (Err error) None None fragment at becomes = refl
+entry_number_behind (Err error) None (Some new) fragment at becomes = absurd becomes
+entry_number_behind (Err error) (Some old) None fragment at becomes = absurd becomes
+entry_number_behind (Err error) (Some old) (Some new) fragment at becomes = sym (ap (λ t. Some t.number) becomes.2)
+entry_number_behind (Ok None) old None fragment at becomes = absurd becomes
+entry_number_behind (Ok None) old (Some new) fragment at becomes = sym (ap (λ t. Some t.number) becomes.timestamp)
+entry_number_behind (Ok (Some payload)) old new fragment at becomes = sym (ap entry_number becomes.0)
 
 -- no other stream has changed
 pub others_same : (old new : IpDefragPool Arrival ℕ) (name : IpFragId ℕ)
@@ -254,10 +261,16 @@ module _ (old new : IpDefragPool Arrival ℕ) (name : IpFragId ℕ) (fragment : 
   pub taken_others : Others (λ other. number_at other old) (λ other. number_at other new) name
   taken_others = others_same old new name takes.others
 
-  pub taken_number : NamesDiffer nat_eq old → IsNumberAfter (number_at name old) at.number (number_at name new)
-  taken_number differ =
-      entry_number_after result (stream_named nat_eq name old) (stream_named nat_eq name new) fragment at
+  pub taken_behind : NamesDiffer nat_eq old
+      → number_behind result (number_at name old) at.number ≡ number_at name new
+  taken_behind differ =
+      entry_number_behind result (stream_named nat_eq name old) (stream_named nat_eq name new) fragment at
       (takes.entry differ)
+
+  taken_number : NamesDiffer nat_eq old → IsNumberAfter (number_at name old) at.number (number_at name new)
+  taken_number differ =
+      subst (λ has. IsNumberAfter (number_at name old) at.number has) (taken_behind differ)
+      (is_number_after result (number_at name old) at.number)
 
   module _ (differ : NamesDiffer nat_eq old) (last : ℕ) (later : last < at.number)
       (numbered : (other : IpFragId ℕ) (number : ℕ) → number_at other old ≡ Some number → number ≤ last) where

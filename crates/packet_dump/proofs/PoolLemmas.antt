@@ -28,7 +28,7 @@ use Rattle.etherparse.specs.Frame.{IsFrame}
 use Rattle.etherparse.specs.FrameRefusals.{RefusesFrame}
 use Rattle.etherparse.specs.Layers.{Layers}
 use Rattle.etherparse.specs.Types.SliceError.{SliceError}
-use Rattle.packet_dump.specs.OpenStreams.{number_at, open_at, with_one, without}
+use Rattle.packet_dump.specs.OpenStreams.{number_at, number_behind, open_at, with_one, without}
 use Rattle.packet_dump.specs.PacketCalls.{AreOpen, HoldsHistory, IsBounded, NumberCall, PoolHistory}
 use Rattle.packet_dump.specs.PacketCalls.{given_up, is_since, number_of, since_instant, since_packet, table_behind}
 use Rattle.packet_dump.specs.PacketCalls.{with_call, with_frame, with_sweep}
@@ -39,8 +39,8 @@ use Rattle.packet_dump.specs.declared.pooling.Arrival.{Arrival}
 use Rattle.packet_dump.specs.declared.pooling.Pooling.{Pooling}
 use Rattle.packet_dump.specs.declared.dump_options.DumpOptions.{DumpOptions}
 use Rattle.packet_dump.proofs.OpenLemmas.{among_numbered, dropped_among, entry_number, name_decides, number_held}
-use Rattle.packet_dump.proofs.OpenLemmas.{others_same, relisted, swept_listed, taken_fresh, taken_numbered}
-use Rattle.packet_dump.proofs.OpenLemmas.{taken_others}
+use Rattle.packet_dump.proofs.OpenLemmas.{others_same, relisted, swept_listed, taken_behind, taken_fresh}
+use Rattle.packet_dump.proofs.OpenLemmas.{taken_numbered, taken_others}
 
 -- ---- one call more
 
@@ -135,7 +135,7 @@ pub frame_pooled : OneMoreCall → (old new : Pooling) (between : BTreeMap ℕ (
     (name : IpFragId ℕ) (stood stands : Option ℕ) → TakesFrame nat_eq old.pool new.pool carried at 0 result
     → IsFalse (wants_memory result) → option_map (λ c. name_of c 0) carried ≡ Some name → (before : PoolHistory)
     → HoldsPooling before old → before.number < at.number → new.swept ≡ old.swept
-    → stood ≡ number_at name old.pool → stands ≡ number_at name new.pool
+    → stood ≡ number_at name old.pool → stands ≡ number_behind result stood at.number
     → ((number : ℕ) → get nat_cmp between number ≡ without (get nat_cmp old.names) stood number)
     → ((number : ℕ) → get nat_cmp new.names number ≡ with_one (get nat_cmp between) name stands number)
     → HoldsPooling (record before { number = at.number; calls = before.calls ++ gives_frame carried at 0 ∷ [] }) new
@@ -147,16 +147,19 @@ frame_pooled law old new between (Some carried) at result name stood stands take
     let own : TakesFragment nat_eq old.pool new.pool name carried.fragment at result =
     subst (λ n. TakesFragment nat_eq old.pool new.pool n carried.fragment at result) same takes in
     let differ = held.held.table.apart in
+    let now : number_at name new.pool ≡ stands =
+    sym (stands_is ∙ ap (λ had. number_behind result had at.number) stood_is
+    ∙ taken_behind old.pool new.pool name carried.fragment at result own differ) in
     let after =
     HoldsHistory-frame law old.pool new.pool (Some carried) at 0 result takes enough before held.held in
     record {
       swept = swept ∙ held.swept;
       held = record { limit = after.limit; table = after.table };
       listed = relisted old.names between new.names old.pool new.pool name stood stands held.listed (sym stood_is)
-          (sym stands_is) taken put (taken_others old.pool new.pool name carried.fragment at result own)
+          now taken put (taken_others old.pool new.pool name carried.fragment at result own)
           (λ number is.
           taken_fresh old.pool new.pool name carried.fragment at result own differ before.number later held.numbered
-          old.names held.listed number (sym stands_is ∙ is));
+          old.names held.listed number (now ∙ is));
       numbered = taken_numbered old.pool new.pool name carried.fragment at result own differ before.number later
           held.numbered;
     }

@@ -1,6 +1,6 @@
 -- The lines of the items of a capture, one behind the other.
 use Rattle.std.proofs.Common.{◌≡◌, ◌≢◌, false, ℕ, ◌+◌, ◌<◌, ◌≤◌, arith, List, [], ◌∷◌, ◌++◌, Option, Some, None, refl}
-use Rattle.std.proofs.Common.{sym, ap, subst, ◌∙◌, append_assoc}
+use Rattle.std.proofs.Common.{sym, ap, subst, ◌∙◌, append_assoc, length, length-append}
 use Rattle.std.proofs.lemmas.List.{append-nil}
 use Rattle.capture_reader.specs.Captures.{Item, PlainShown, Stage, at_start, RefusesCapture, shown_in}
 use Rattle.capture_reader.specs.Captures.{stage_after, stage_behind}
@@ -13,8 +13,9 @@ use Rattle.packet_dump.specs.Dumps.{packets_in, progress_after, progress_behind,
 use Rattle.packet_dump.specs.PacketCalls.{PoolHistory, new_pool}
 use Rattle.packet_dump.specs.PacketLines.{start_text}
 use Rattle.packet_dump.specs.Saves.{GoesOn, Saves, Selects}
-use Rattle.packet_dump.specs.Sessions.{AwaitsPacket, Counts, Drained, Drains, HoldsPooling, PushesLine, Stands}
+use Rattle.packet_dump.specs.Sessions.{AwaitsPacket, Counts, Drained, Drains, Gathered, HoldsPooling, PushesLine, Stands}
 use Rattle.packet_dump.specs.Sessions.{StandsSo}
+use Rattle.packet_dump.specs.Summaries.{AreHeld, CountsPacket, Held, IsCounted, IsHeld}
 use Rattle.packet_dump.specs.Shown.{first_after, instant_in, latest_after}
 use Rattle.packet_dump.specs.declared.saving.Saving.{Saving}
 use Rattle.packet_dump.specs.declared.session.Session.{Session}
@@ -22,6 +23,7 @@ use Rattle.packet_dump.specs.declared.session.Standing.{Standing}
 use Rattle.packet_dump.specs.declared.session.Standing.TheVariants.{Enough}
 use Rattle.packet_dump.specs.declared.dump_options.DumpOptions.{DumpOptions}
 use Rattle.packet_dump.proofs.SavingLemmas.{saves_stays}
+use Rattle.packet_dump.proofs.SummaryLemmas.{counts_on, counts_other_more, counts_packet_more}
 use Rattle.packet_dump.proofs.PoolLemmas.{pooled_number}
 
 -- ---- an item more
@@ -123,13 +125,14 @@ goes_on options start saving next items more item first second wanted saved save
 
 -- an item that shows this was read, and its text put together
 drains_shown : (options : DumpOptions) (old new : Session) (read : List ℕ) (items : List Item) (text : List ℕ)
-    (start saving next : Saving) → (drained : Drained options old read items text start saving)
+    (start was next : Gathered) → (drained : Drained options old read items text start was)
     → (item : Item) (shown : PlainShown)
     → shown_in (stage_behind at_start (items ++ drained.more)) item ≡ Some shown
     → ReadsMore new.capture read (items ++ drained.more) item → PushesLine old new drained.after shown
-    → GoesOn options saving next (items ++ drained.more) ((items ++ drained.more) ++ item ∷ [])
+    → GoesOn options was.saving next.saving (items ++ drained.more) ((items ++ drained.more) ++ item ∷ [])
+    → CountsPacket options.strict shown was.summary next.summary
     → old.number ≢ old.options.most → Drained options new read items text start next
-drains_shown options old new read items text start saving next drained item shown shows reads line saves fewer =
+drains_shown options old new read items text start was next drained item shown shows reads line saves counts fewer =
     let before = items ++ drained.more in
     let known = progress_behind none_read before in
     let stands = drained.stands in
@@ -176,25 +179,28 @@ drains_shown options old new read items text start saving next drained item show
       });
       texts = subst (λ s. AreAllTexts options s (text ++ new.output.items) line.after) all
           (subst (λ (t : List ℕ). AreAllTexts options (before ++ item ∷ []) t line.after) output texts);
-      saves = goes_on options start saving next items drained.more item drained.saves saves;
+      saves = goes_on options start.saving was.saving next.saving items drained.more item drained.saves saves;
+      counts = counts_on options start.summary was.summary next.summary items drained.more item drained.counts
+          (counts_packet_more options before item shown was.summary next.summary shows counts);
     }
 
 -- a packet was read, and its text put together
 pub drains_packet : (options : DumpOptions) (old new : Session) (moved : CaptureReader) (read : List ℕ) (items : List Item)
-    (text : List ℕ) (start saving next : Saving) → (drained : Drained options old read items text start saving)
+    (text : List ℕ) (start was next : Gathered) → (drained : Drained options old read items text start was)
     → (found : (item : Item) × ReadsMore moved read (items ++ drained.more) item
     × ShowsItem moved (stage_behind at_start (items ++ drained.more)) item)
     → ((before : PoolHistory) → AwaitsPacket before (old.number + 1) old.pooling
     → PushesLine (record old { capture = moved }) new before (reader_shown moved))
     → ((items : List Item) (item : Item) → old.number ≡ packets_in items
     → shown_in (stage_behind at_start items) item ≡ Some (reader_shown moved)
-    → GoesOn old.options saving next items (items ++ item ∷ []))
+    → GoesOn old.options was.saving next.saving items (items ++ item ∷ []))
+    → CountsPacket old.options.strict (reader_shown moved) was.summary next.summary
     → new.capture ≡ moved → old.number ≢ old.options.most → Drained options new read items text start next
-drains_packet options old new moved read items text start saving next drained found push save capture fewer =
+drains_packet options old new moved read items text start was next drained found push save counts capture fewer =
     let before = items ++ drained.more in
     let given : drained.after.number ≤ old.number = drained.stands.given in
     let line = push drained.after (record { holds = drained.stands.pooled; later = omega arith }) in
-    drains_shown options old new read items text start saving next drained found.0 (reader_shown moved) found.2.shown
+    drains_shown options old new read items text start was next drained found.0 (reader_shown moved) found.2.shown
     (subst (λ r. ReadsMore r read before found.0) (sym capture) found.1)
     (record {
       options = line.options;
@@ -208,17 +214,19 @@ drains_packet options old new moved read items text start saving next drained fo
       first = line.first;
       latest = line.latest;
     })
-    (subst (λ o. GoesOn o saving next before (before ++ found.0 ∷ [])) drained.stands.options_is
-    (save before found.0 drained.stands.number found.2.shown)) fewer
+    (subst (λ o. GoesOn o was.saving next.saving before (before ++ found.0 ∷ [])) drained.stands.options_is
+    (save before found.0 drained.stands.number found.2.shown))
+    (subst (λ (o : DumpOptions). CountsPacket o.strict (reader_shown moved) was.summary next.summary)
+    drained.stands.options_is counts) fewer
 
 -- something else was read, and the session knows what it knew
 pub drains_other : (options : DumpOptions) (old new : Session) (read : List ℕ) (items : List Item) (text : List ℕ)
-    (start saving : Saving) → (drained : Drained options old read items text start saving) → (item : Item)
+    (start was : Gathered) → (drained : Drained options old read items text start was) → (item : Item)
     → IsOther (stage_behind at_start (items ++ drained.more)) item
     → ReadsMore new.capture read (items ++ drained.more) item → new.options ≡ old.options → new.number ≡ old.number
     → new.first ≡ old.first → new.latest ≡ old.latest → new.pooling ≡ old.pooling
-    → new.output.items ≡ old.output.items → Drained options new read items text start saving
-drains_other options old new read items text start saving drained item shows reads same number first latest pooling
+    → new.output.items ≡ old.output.items → Drained options new read items text start was
+drains_other options old new read items text start was drained item shows reads same number first latest pooling
     output =
     let before = items ++ drained.more in
     let stands = drained.stands in
@@ -245,20 +253,22 @@ drains_other options old new read items text start saving drained item shows rea
           (subst (λ (t : List ℕ). AreAllTexts options (before ++ item ∷ []) (text ++ t) drained.after) (sym output)
           (subst (λ (t : List ℕ). AreAllTexts options (before ++ item ∷ []) t drained.after)
           (append-nil (text ++ old.output.items)) texts));
-      saves = goes_on options start saving saving items drained.more item drained.saves
+      saves = goes_on options start.saving was.saving was.saving items drained.more item drained.saves
           (λ wanted saved saves.
-          saves_stays options wanted false saving.state before item (saved ++ saving.bytes.items)
+          saves_stays options wanted false was.saving.state before item (saved ++ was.saving.bytes.items)
           (λ link is_open. subst (λ s. Selects options s []) (sym shows) refl) saves);
+      counts = counts_on options start.summary was.summary was.summary items drained.more item drained.counts
+          (counts_other_more options before item was.summary shows);
     }
 
 -- nothing more was read, and the capture stands so
 pub drains_end : (options : DumpOptions) (old new : Session) (standing : Standing) (read : List ℕ) (items : List Item)
-    (text : List ℕ) (start saving : Saving) → (drained : Drained options old read items text start saving) → Reads
+    (text : List ℕ) (start was : Gathered) → (drained : Drained options old read items text start was) → Reads
     new.capture read (items ++ drained.more)
     → new.options ≡ old.options → new.number ≡ old.number → new.first ≡ old.first → new.latest ≡ old.latest
     → new.pooling ≡ old.pooling → new.output.items ≡ old.output.items
-    → StandsSo options standing read (items ++ drained.more) → Drains options new standing read items text start saving
-drains_end options old new standing read items text start saving drained reads same number first latest pooling output
+    → StandsSo options standing read (items ++ drained.more) → Drains options new standing read items text start was
+drains_end options old new standing read items text start was drained reads same number first latest pooling output
     so = (
       record {
         more = drained.more;
@@ -276,6 +286,7 @@ drains_end options old new standing read items text start saving drained reads s
         texts = subst (λ (t : List ℕ). AreAllTexts options (items ++ drained.more) (text ++ t) drained.after) (sym output)
             drained.texts;
         saves = drained.saves;
+        counts = drained.counts;
       },
       so,
     )
@@ -353,9 +364,9 @@ pushes old new shown one this first latest before later same same_one is_this is
 pub drains_start : (options : DumpOptions) (old new : Session) → new.capture ≡ old.capture → new.options ≡ old.options
     → new.number ≡ old.number → new.first ≡ old.first → new.latest ≡ old.latest → new.pooling ≡ old.pooling
     → new.output.items ≡ [] → (read : List ℕ) (items : List Item) (text : List ℕ) (history : PoolHistory)
-    (saving : Saving) → Stands options old read items history → AreAllTexts options items text history
-    → Drained options new read items text saving saving
-drains_start options old new capture same number first latest pooling output read items text history saving stands
+    (start : Gathered) → Stands options old read items history → AreAllTexts options items text history
+    → Drained options new read items text start start
+drains_start options old new capture same number first latest pooling output read items text history start stands
     texts =
     let none = sym (append-nil items) in
     record {
@@ -375,5 +386,38 @@ drains_start options old new capture same number first latest pooling output rea
           (subst (λ (t : List ℕ). AreAllTexts options items t history)
           (sym (ap (λ (t : List ℕ). text ++ t) output ∙ append-nil text)) texts);
       saves = λ wanted saved saves.
-          subst (λ (i : List Item). Saves options wanted false saving.state i (saved ++ saving.bytes.items)) none saves;
+          subst (λ (i : List Item). Saves options wanted false start.saving.state i (saved ++ start.saving.bytes.items)) none
+          saves;
+      counts = λ first counted. subst (λ (i : List Item). IsCounted options i first start.summary) none counted;
     }
+
+-- ---- how many packets are counted
+
+held_number : (options : DumpOptions) (before : Progress) (item : Item) (shown : Option PlainShown) (one : List Held)
+    → IsHeld options shown one → (progress_with before item shown).number ≡ before.number + length one
+held_number options before item None one is = omega (arith, ap (λ (p : List Held). length p) is)
+held_number options before item (Some shown) one (content, holds, is) =
+    omega (arith, ap (λ (p : List Held). length p) is)
+
+held_behind : (options : DumpOptions) (items : List Item) (before : Progress) (packets : List Held)
+    → AreHeld options before.stage items packets
+    → (progress_behind before items).number ≡ before.number + length packets
+held_behind options [] before packets none = omega (arith, ap (λ (p : List Held). length p) none)
+held_behind options (item ∷ items) before packets (one, others, is, parts, behind) =
+    let next = progress_after before item in
+    let first : next.number ≡ before.number + length one =
+    held_number options before item (shown_in before.stage item) one is in
+    let rest : (progress_behind next items).number ≡ next.number + length others =
+    held_behind options items next others
+    (subst (λ (s : Stage). AreHeld options s items others)
+    (sym (progress_with-stage before item (shown_in before.stage item))) behind) in
+    let all : length packets ≡ length one + length others =
+    ap (λ (p : List Held). length p) parts ∙ length-append one others in
+    omega (arith, first, rest, all)
+
+-- as many as the items are
+pub held_packets : (options : DumpOptions) (items : List Item) (packets : List Held)
+    → AreHeld options at_start items packets → length packets ≡ packets_in items
+held_packets options items packets are =
+    let known : packets_in items ≡ 0 + length packets = held_behind options items none_read packets are in
+    omega (arith, known)

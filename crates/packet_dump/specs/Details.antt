@@ -1,5 +1,6 @@
 -- What is told of a packet beside the line's layers.
-use Rattle.std.specs.Prelude.{◌≡◌, ◌⊎◌, ℕ, Bool, true, false, List, [], ◌++◌, Option, Some, None, codes}
+use Rattle.std.specs.Prelude.{◌≡◌, ◌⊎◌, ℕ, if◌then◌else◌, Bool, true, false, List, [], ◌++◌, Option, Some, None, codes}
+use Rattle.std.specs.Fmt.{decimal}
 use Rattle.std.specs.Option.{option_and_then, option_map}
 use Rattle.detail_texts.specs.PacketDetails.{IsPacketDetails}
 use Rattle.detail_texts.specs.Quoted.{quoted_in}
@@ -43,6 +44,11 @@ IsQuoteOf (Some bytes) text = IsQuote bytes text
 -- the bytes that a packet quotes
 abbrev pub quoted_by : LaxSlicedPacket → Option (List ℕ)
 quoted_by slices = option_and_then quoted_in (option_map transport_layer_of slices.transport)
+
+-- the number of a packet's interface, where that is wanted and known
+abbrev pub interface_text : Bool → Option ℕ → List ℕ
+interface_text wanted (Some number) = if wanted then codes " interface " ++ decimal number else []
+interface_text wanted None = []
 
 -- the details of a packet: those of its layers, and the packet that it quotes
 abbrev pub AreDetails : LaxSlicedPacket → List ℕ → Type 0

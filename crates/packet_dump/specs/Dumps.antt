@@ -135,9 +135,3 @@ IsDump options ended (Broken packets error) read written =
 abbrev pub BeginsDump : DumpOptions → List ℕ → List ℕ → Type 0
 BeginsDump options read written =
     (items : List Item) × (more : List ℕ) × Begin read items × AreShown options items (written ++ more)
-
--- what was written is the lines of a dump, and where a summary is wanted its text behind them
-abbrev pub IsSummedDump : Bool → DumpOptions → Bool → Ending → List ℕ → List ℕ → Type 0
-IsSummedDump wanted options ended ending read written =
-    (lines summary : List ℕ) × IsDump options ended ending read lines × (written ≡ lines ++ summary)
-    × (wanted ≡ false → summary ≡ [])

@@ -16,6 +16,8 @@ pub mod SliceErrorTexts
 pub mod Saves
 pub mod Sessions
 pub mod Shown
+pub mod Summaries
+pub mod SummaryTexts
 pub mod ErrorTexts
 pub mod Transports
 pub mod Options

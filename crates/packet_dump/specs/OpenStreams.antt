@@ -1,8 +1,10 @@
 -- The open streams of the program's pool, and the list of their names.
-use Rattle.std.specs.Prelude.{◌≡◌, ◌↔◌, ℕ, nat_eq, if◌then◌else◌, is_some, Option, Some, None}
+use Rattle.std.specs.Prelude.{◌≡◌, ◌↔◌, ℕ, nat_eq, if◌then◌else◌, is_some, Option, Some, None, Result, Ok, Err}
 use Rattle.std.specs.BTreeMap.{BTreeMap, get}
 use Rattle.std.specs.Option.{option_map}
 use Rattle.std.specs.Ordering.{nat_cmp}
+use Rattle.etherparse.specs.Types.IpDefragError.{IpDefragError}
+use Rattle.etherparse.specs.Types.IpDefragPayloadVec.{IpDefragPayloadVec}
 use Rattle.etherparse.specs.Types.IpDefragPool.{IpDefragPool}
 use Rattle.etherparse.specs.Types.IpFragId.{IpFragId}
 use Rattle.etherparse.specs.Pools.{stream_named}
@@ -15,6 +17,12 @@ arrival_at name pool = option_map (λ stream. stream.timestamp) (stream_named na
 -- with the packet of which number
 abbrev pub number_at : IpFragId ℕ → IpDefragPool Arrival ℕ → Option ℕ
 number_at name pool = option_map (λ at. at.number) (arrival_at name pool)
+
+-- the same behind the answer to a fragment of the stream that came with the packet of this number, where it was another
+abbrev pub number_behind : Result (Option IpDefragPayloadVec) IpDefragError → Option ℕ → ℕ → Option ℕ
+number_behind (Ok None) stood number = Some number
+number_behind (Ok (Some payload)) stood number = None
+number_behind (Err error) stood number = stood
 
 -- what stands under each number, without what stands under this one
 abbrev pub without : {X : Type 0} → (ℕ → Option X) → Option ℕ → ℕ → Option X

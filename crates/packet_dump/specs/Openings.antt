@@ -4,7 +4,6 @@ use Rattle.std.specs.Prelude.{None, codes, drop, length, min, slice_index, slice
 use Rattle.std.specs.Fmt.{decimal}
 use Rattle.etherparse.specs.Bytes.{word_at}
 use Rattle.etherparse.specs.EtherTypes.{ipv4_type, ipv6_type}
-use Rattle.etherparse.specs.LinuxSll.{knows_hardware}
 use Rattle.etherparse.specs.Types.Entry.{Entry}
 use Rattle.etherparse.specs.Types.Entry.TheVariants.{Ethernet, LinuxSll, EtherType, Ip}
 use Rattle.packet_dump.specs.Links.{sender_text, way_name}
@@ -49,17 +48,21 @@ loopback_opening bytes = if nat_le 4 (length bytes) then family_opening (family_
 
 -- ---- Linux cooked captures
 
--- Whether the header of a capture of version 1 is read here: that of a hardware type which the library refuses. Its
--- protocol is an ether type.
-abbrev pub reads_sll : List ℕ → Bool
-reads_sll bytes = nat_le 16 (length bytes) && (nat_le (word_at bytes 0) 7 && not (knows_hardware (word_at bytes 2)))
-
-abbrev pub sll_opening : List ℕ → Opening
-sll_opening bytes = if reads_sll bytes then behind_front 16 (word_at bytes 14) else whole_of LinuxSll
-
 -- the hardware types whose protocol is no ether type: Frame Relay, IEEE 802.11 with a radiotap header, netlink
 abbrev pub has_no_type : ℕ → Bool
 has_no_type hardware = (hardware == 770) || (hardware == 803) || (hardware == 824)
+
+-- Those whose protocol is read here as an ether type, as that of a GRE tunnel is one (778; RFC 2784, 2.4). By that of
+-- Ethernet (1) and the loopback device (772) the library reads what is behind them.
+abbrev pub reads_hardware : ℕ → Bool
+reads_hardware hardware = not ((hardware == 1) || (hardware == 772) || has_no_type hardware)
+
+-- whether the header of a capture of version 1 is read here
+abbrev pub reads_sll : List ℕ → Bool
+reads_sll bytes = nat_le 16 (length bytes) && (nat_le (word_at bytes 0) 7 && reads_hardware (word_at bytes 2))
+
+abbrev pub sll_opening : List ℕ → Opening
+sll_opening bytes = if reads_sll bytes then behind_front 16 (word_at bytes 14) else whole_of LinuxSll
 
 -- Whether the header of a capture of version 2 (276) is read: 20 bytes, of the protocol (2), nothing (2), the number of
 -- the interface (4), the hardware type (2), which way the packet went (1), and the length (1) and bytes (8) of an address.

@@ -5,7 +5,7 @@ use Rattle.capture_reader.specs.Captures.{PlainShown}
 use Rattle.capture_reader.specs.declared.shown.Time.{Time}
 use Rattle.line_io.specs.Lines.{line_feed, space}
 use Rattle.etherparse.specs.Types.LaxSlicedPacket.{LaxSlicedPacket}
-use Rattle.packet_dump.specs.Details.{AreTold}
+use Rattle.packet_dump.specs.Details.{AreTold, interface_text}
 use Rattle.packet_dump.specs.Openings.{front_text}
 use Rattle.packet_dump.specs.PacketContents.{Content, bytes_text, content_kind, content_text, meets, shown_bytes}
 use Rattle.packet_dump.specs.PacketContents.{other_link, packet, refusal, shows_line}
@@ -44,16 +44,19 @@ moment_text form number first shown = decimal number ++ space ∷ time_text form
 abbrev pub start_text : TimeForm → ℕ → Option ℕ → PlainShown → List ℕ
 start_text form number first shown = moment_text form number first shown ++ front_text shown.link shown.bytes
 
--- what it ends with: how much was kept, these rows of bytes, and a line feed
-abbrev pub end_text : PlainShown → List ℕ → List ℕ
-end_text shown rows = cut_text (length shown.bytes) shown.original_len ++ rows ++ line_feed ∷ []
+-- what it ends with: the number of the interface, where details are wanted, how much was kept, these rows of bytes, and
+-- a line feed
+abbrev pub end_text : Bool → PlainShown → List ℕ → List ℕ
+end_text verbose shown rows =
+    interface_text verbose shown.interface ++ cut_text (length shown.bytes) shown.original_len ++ rows
+    ++ line_feed ∷ []
 
--- The line of a packet: its number, its time, its layers or why it is refused, these details, how much was kept, and the
--- bytes where they are wanted.
+-- The line of a packet: its number, its time, its layers or why it is refused, these details, its interface, how much was
+-- kept, and the bytes where they are wanted.
 abbrev pub line_text : DumpOptions → ℕ → Option ℕ → PlainShown → Content → List ℕ → List ℕ
 line_text options number first shown content details =
     start_text options.time number first shown ++ content_text content ++ details
-    ++ end_text shown (bytes_text options.hex (shown_bytes options.whole content shown.bytes))
+    ++ end_text options.verbose shown (bytes_text options.hex (shown_bytes options.whole content shown.bytes))
 
 -- whether a packet that holds this is shown: its kind is, and the words of the filter hold
 abbrev pub shows_content : DumpOptions → Content → Bool

@@ -8,6 +8,7 @@ use Rattle.packet_dump.specs.OpenStreams.{IsListed, number_at}
 use Rattle.packet_dump.specs.PacketCalls.{HoldsHistory, PoolHistory}
 use Rattle.packet_dump.specs.Saves.{GoesOn}
 use Rattle.packet_dump.specs.Shown.{first_after, instant_in, latest_after}
+use Rattle.packet_dump.specs.Summaries.{CountsOn, PlainSummary, plain_of}
 use Rattle.packet_dump.specs.declared.ending.Ending.{Ending}
 use Rattle.packet_dump.specs.declared.ending.Ending.TheVariants as ending
 use Rattle.packet_dump.specs.declared.pooling.Pooling.{Pooling}
@@ -15,6 +16,7 @@ use Rattle.packet_dump.specs.declared.saving.Saving.{Saving}
 use Rattle.packet_dump.specs.declared.session.Session.{Session}
 use Rattle.packet_dump.specs.declared.session.Standing.{Standing}
 use Rattle.packet_dump.specs.declared.session.Standing.TheVariants.{MayEnd, Enough, Cut, Refused}
+use Rattle.packet_dump.specs.declared.summary.Summary.{Summary}
 use Rattle.packet_dump.specs.declared.dump_options.DumpOptions.{DumpOptions}
 
 -- This became of the pool. Its open streams are listed, and no fragment of one came with a later packet than the last.
@@ -58,19 +60,28 @@ StandsSo options (Cut error) read items = AreFewer options items × RefusesCaptu
 StandsSo options (Refused error) read items =
     AreFewer options items × ((more : List ℕ) → RefusesCapture (read ++ more) (items, error))
 
--- more items were read, and their text was put together, and what is saved of them
+-- what is kept of packets beside their lines: what is saved of them, and what is counted
+pub record Gathered : Type 0 where
+  pub saving : Saving
+  pub summary : PlainSummary
+
+abbrev pub gathered : Saving → Summary → Gathered
+gathered saving summary = record { saving = saving; summary = plain_of summary }
+
+-- more items were read, and their text was put together, what is saved of them, and they were counted
 pub record Drained (options : DumpOptions) (session : Session) (read : List ℕ) (items : List Item) (text : List ℕ)
-    (before saving : Saving) : Type 0 where
+    (before behind : Gathered) : Type 0 where
   pub more : List Item
   pub after : PoolHistory
   pub stands : Stands options session read (items ++ more) after
   pub texts : AreAllTexts options (items ++ more) (text ++ session.output.items) after
-  pub saves : GoesOn options before saving items (items ++ more)
+  pub saves : GoesOn options before.saving behind.saving items (items ++ more)
+  pub counts : CountsOn options before.summary behind.summary items (items ++ more)
 
 -- the same, and the capture stands so
-abbrev pub Drains : DumpOptions → Session → Standing → List ℕ → List Item → List ℕ → Saving → Saving → Type 0
-Drains options session standing read items text before saving =
-    (drained : Drained options session read items text before saving) × StandsSo options standing read (items ++
+abbrev pub Drains : DumpOptions → Session → Standing → List ℕ → List Item → List ℕ → Gathered → Gathered → Type 0
+Drains options session standing read items text before behind =
+    (drained : Drained options session read items text before behind) × StandsSo options standing read (items ++
     drained.more)
 
 -- a packet was counted, and its text put together behind what became of the pool

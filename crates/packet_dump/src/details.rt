@@ -4,12 +4,32 @@ ghost use Rattle.std.specs.Prelude.{◌≡◌, ◌++◌, ℕ, List, OnOk};
 ghost use Rattle.std.specs.Option.{option_copied};
 ghost use Rattle.etherparse.specs.LaxPackets.{lax_layers_of};
 ghost use Rattle.etherparse.specs.StrictFrames.{layers_in};
-ghost use Rattle.packet_dump.specs.Details.{AreDetails, AreTold, IsQuote, IsQuoteOf, quoted_by, quoted_rest, quoted_text};
+ghost use Rattle.packet_dump.specs.Details.{AreDetails, AreTold, IsQuote, IsQuoteOf, interface_text, quoted_by};
+ghost use Rattle.packet_dump.specs.Details.{quoted_rest, quoted_text};
 
 use crate::layers::{push_incomplete, push_inner, push_outer, push_transport_front};
 use detail_texts::quoted_packet;
 use etherparse::{Entry, LaxSlicedPacket};
+use line_io::decimals;
 use std::alloc::AllocError;
+
+/// Appends the number of a packet's interface, where that is wanted and known.
+pub fn push_interface(
+    output: &mut Vec<u8>,
+    wanted: bool,
+    interface: Option<u32>,
+) -> Result<(), AllocError>
+    ensures { OnOk result (output.new.items ≡ output.old.items ++ interface_text wanted interface) }
+{
+    let Some(number) = interface else {
+        return Ok(());
+    };
+    if wanted {
+        decimals::push_behind(output, b" interface ", u64::from(number))
+    } else {
+        Ok(())
+    }
+}
 
 /// Appends the details of a packet, where they are wanted.
 pub fn push_told(

@@ -6,6 +6,7 @@ ghost use Rattle.line_io.specs.Transfers.{Transfers};
 ghost use Rattle.line_io.specs.WatchedWords.{has_ended, has_failed, inner_of, reads_left};
 ghost use Rattle.packet_dump.specs.Dumps.{BeginsDump, IsDump};
 ghost use Rattle.packet_dump.specs.Saves.{BeginsSaved, IsCopy, asks, is_failed, new_state};
+ghost use Rattle.packet_dump.specs.Summaries.{IsCountedDump, plain_of};
 
 use crate::dump_options::DumpOptions;
 use crate::ending::Ending;
@@ -49,6 +50,10 @@ pub fn run<R: Read, W: Write, F: Write>(
         R.remaining reader.old reader.new W.contents writer.old writer.new) }
     ensures err { OnErr result (Transfers (BeginsDump options) R.remaining reader.old reader.new
         W.contents writer.old writer.new) }
+
+    // The packets of these lines, and those that are read and not shown, were counted, where a summary is wanted.
+    ensures counts { IfOk result (λ ending. Transfers (IsCountedDump options (has_ended reader.new) ending
+        (plain_of summary.old) (plain_of summary.new)) R.remaining reader.old reader.new W.contents writer.old writer.new) }
 
     // What was written into the file is the capture of the packets that are shown of what was read, and at an error
     // begins it. Where none is wanted, it is nothing.

@@ -9,16 +9,20 @@ ghost use Rattle.etherparse.specs.LaxPackets.{lax_layers_of};
 ghost use Rattle.etherparse.specs.Layers.{layers_of};
 ghost use Rattle.etherparse.specs.LaxViews.{lax_extensions_of, lax_net_layer_of};
 ghost use Rattle.etherparse.specs.LinkSlices.{link_layer_of};
+ghost use Rattle.etherparse.specs.StrictFrames.{layers_in};
 ghost use Rattle.packet_dump.specs.PacketContents.{Content, HoldsLaxly, bytes_text, content_with};
+ghost use Rattle.packet_dump.specs.Openings.{is_cooked};
 ghost use Rattle.packet_dump.specs.PacketContents.{has_extensions, has_header, has_layer, other_link, packet, refusal, shown_bytes};
 ghost use Rattle.packet_dump.specs.Details.{IsDetailed};
 ghost use Rattle.packet_dump.specs.Dumps.{HoldsDetailed, IsLine, IsTextBehind};
 ghost use Rattle.packet_dump.specs.PacketLines.{AppendsTold, cut_text, end_text, moment_text, parts_start, parts_text};
 ghost use Rattle.packet_dump.specs.PacketLines.{relative_text, tells_details, time_text};
 ghost use Rattle.packet_dump.specs.PacketCalls.{PoolHistory};
+ghost use Rattle.packet_dump.specs.PoolLines.{GivesWhere, arrival_of};
 ghost use Rattle.packet_dump.specs.Sessions.{AwaitsPacket, HoldsPooling};
+ghost use Rattle.packet_dump.specs.Summaries.{CountsBehind, CountsPacket, counted, plain_of};
 
-use crate::details::push_told;
+use crate::details::{push_interface, push_told};
 use crate::dump_options::{DumpOptions, Kind, TimeForm};
 use crate::layers::push_packet;
 use crate::openings::{Opening, opening_of, push_front};
@@ -56,14 +60,16 @@ pub fn push_line(
     options: &DumpOptions,
     parts: &LineParts<'_>,
 ) -> Result<(), AllocError>
-    ensures { OnOk result ((before : PoolHistory) → AwaitsPacket before parts.now.number pooling.old →
+    ensures line { OnOk result ((before : PoolHistory) → AwaitsPacket before parts.now.number pooling.old →
         (line : List ℕ) × (after : PoolHistory) × IsLine options.now parts.now.number parts.now.first parts.now.latest
         before (shown_of parts.now.shown) line after
         × HoldsPooling after pooling.new × (output.new.items ≡ output.old.items ++ line)) }
+    ensures counts { OnOk result (CountsPacket options.now.strict (shown_of parts.now.shown) (plain_of summary.old)
+        (plain_of summary.new)) }
 {
     let bytes = parts.shown.bytes;
     let Some(opening) = opening_of(parts.shown.link_type, bytes) else {
-        summary.count_unread(parts.shown.link_type)?;
+        summary.count_unread(&parts.shown)?;
         return push_other(output, options, parts);
     };
     let behind = &bytes[opening.skipped..];
@@ -80,9 +86,11 @@ fn push_behind(
     opening: Opening,
     bytes: &[u8],
 ) -> Result<(), AllocError>
-    ensures { OnOk result ((before : PoolHistory) → AwaitsPacket before parts.now.number pooling.old →
+    ensures line { OnOk result ((before : PoolHistory) → AwaitsPacket before parts.now.number pooling.old →
         (text : List ℕ) × (after : PoolHistory) × IsTextBehind options.now parts.now opening bytes.now before text after
         × HoldsPooling after pooling.new × (output.new.items ≡ output.old.items ++ text)) }
+    ensures counts { OnOk result (CountsBehind options.now.strict opening bytes.now (shown_of parts.now.shown)
+        (plain_of summary.old) (plain_of summary.new)) }
 {
     if options.asks_frames() {
         push_checked(output, pooling, summary, options, parts, opening, bytes)
@@ -101,9 +109,11 @@ fn push_checked(
     opening: Opening,
     bytes: &[u8],
 ) -> Result<(), AllocError>
-    ensures { OnOk result ((before : PoolHistory) → AwaitsPacket before parts.now.number pooling.old →
+    ensures line { OnOk result ((before : PoolHistory) → AwaitsPacket before parts.now.number pooling.old →
         (text : List ℕ) × (after : PoolHistory) × IsTextBehind options.now parts.now opening bytes.now before text after
         × HoldsPooling after pooling.new × (output.new.items ≡ output.old.items ++ text)) }
+    ensures counts { OnOk result (CountsBehind options.now.strict opening bytes.now (shown_of parts.now.shown)
+        (plain_of summary.old) (plain_of summary.new)) }
 {
     match SlicedPacket::from_entry(opening.entry, bytes) {
         Ok(sliced) => {
@@ -127,16 +137,42 @@ fn push_frame(
     sliced: &SlicedPacket<'_>,
 ) -> Result<(), AllocError>
     requires frame { IsFrame opening.entry bytes.now (layers_of sliced.now) }
-    ensures { OnOk result ((before : PoolHistory) → AwaitsPacket before parts.now.number pooling.old →
+    ensures line { OnOk result ((before : PoolHistory) → AwaitsPacket before parts.now.number pooling.old →
         (text : List ℕ) × (after : PoolHistory) × IsTextBehind options.now parts.now opening bytes.now before text after
         × HoldsPooling after pooling.new × (output.new.items ≡ output.old.items ++ text)) }
+    ensures counts { OnOk result (CountsBehind options.now.strict opening bytes.now (shown_of parts.now.shown)
+        (plain_of summary.old) (plain_of summary.new)) }
 {
     strict_frames();
     let mut read = LaxSlicedPacket::new();
     let _ = read.slice_into(opening.entry, bytes);
     push_read(output, summary, options, parts, opening, &read)?;
+    give_where(
+        output, pooling, options, parts, opening, bytes, sliced, &read,
+    )
+}
+
+/// Gives a frame, which was read laxly too, to the pool where payloads are put together, and appends what it answers.
+fn give_where(
+    output: &mut Vec<u8>,
+    pooling: &mut Pooling,
+    options: &DumpOptions,
+    parts: &LineParts<'_>,
+    opening: Opening,
+    bytes: &[u8],
+    sliced: &SlicedPacket<'_>,
+    read: &LaxSlicedPacket<'_>,
+) -> Result<(), AllocError>
+    requires frame { IsFrame opening.entry bytes.now (layers_of sliced.now) }
+    requires same { layers_in (lax_layers_of read.now) ≡ layers_of sliced.now }
+    ensures { OnOk result ((before : PoolHistory) → AwaitsPacket before parts.now.number pooling.old →
+        (text : List ℕ) × (after : PoolHistory)
+        × GivesWhere options.now.reassemble options.now (parts_start options.now.time parts.now) before
+        (arrival_of parts.now) opening bytes.now text after
+        × HoldsPooling after pooling.new × (output.new.items ≡ output.old.items ++ text)) }
+{
     if options.reassemble {
-        pooling.give(output, options, parts, sliced, &read)
+        pooling.give(output, options, parts, sliced, read)
     } else {
         Ok(())
     }
@@ -153,9 +189,11 @@ fn push_no_frame(
     error: &SliceError,
 ) -> Result<(), AllocError>
     requires refuses { RefusesFrame opening.entry bytes.now error.now }
-    ensures { OnOk result ((content : Content) × (details : List ℕ)
+    ensures line { OnOk result ((content : Content) × (details : List ℕ)
         × HoldsDetailed options.now opening bytes.now content details
         × (output.new.items ≡ output.old.items ++ parts_text options.now parts.now content details)) }
+    ensures counts { OnOk result (CountsBehind options.now.strict opening bytes.now (shown_of parts.now.shown)
+        (plain_of summary.old) (plain_of summary.new)) }
 {
     if options.strict {
         push_refused(output, summary, options, parts, error)
@@ -173,9 +211,11 @@ fn push_lax(
     opening: Opening,
     bytes: &[u8],
 ) -> Result<(), AllocError>
-    ensures { OnOk result ((content : Content) × (details : List ℕ) × HoldsLaxly opening bytes.now content
+    ensures line { OnOk result ((content : Content) × (details : List ℕ) × HoldsLaxly opening bytes.now content
         × IsDetailed (tells_details options.now content) bytes.now content details
         × (output.new.items ≡ output.old.items ++ parts_text options.now parts.now content details)) }
+    ensures counts { OnOk result (CountsBehind false opening bytes.now (shown_of parts.now.shown) (plain_of summary.old)
+        (plain_of summary.new)) }
 {
     let mut read = LaxSlicedPacket::new();
     match read.slice_into(opening.entry, bytes) {
@@ -193,8 +233,10 @@ fn push_read(
     opening: Opening,
     read: &LaxSlicedPacket<'_>,
 ) -> Result<(), AllocError>
-    ensures { OnOk result (AppendsTold options.now parts.now read.now (content_with opening (lax_layers_of read.now))
+    ensures line { OnOk result (AppendsTold options.now parts.now read.now (content_with opening (lax_layers_of read.now))
         output.old.items output.new.items) }
+    ensures counts { OnOk result (plain_of summary.new ≡ counted (is_cooked opening) (shown_of parts.now.shown)
+        (content_with opening (lax_layers_of read.now)) (plain_of summary.old)) }
 {
     match &read.stop_err {
         Some(stop) => {
@@ -254,10 +296,12 @@ fn push_layers(
     opening: Opening,
     read: &LaxSlicedPacket<'_>,
 ) -> Result<(), AllocError>
-    ensures { OnOk result (AppendsTold options.now parts.now read.now (packet (lax_layers_of read.now))
+    ensures line { OnOk result (AppendsTold options.now parts.now read.now (packet (lax_layers_of read.now))
         output.old.items output.new.items) }
+    ensures counts { OnOk result (plain_of summary.new ≡ counted (is_cooked opening) (shown_of parts.now.shown)
+        (packet (lax_layers_of read.now)) (plain_of summary.old)) }
 {
-    summary.count_read(read, opening.is_cooked())?;
+    summary.count_read(&parts.shown, read, opening.is_cooked())?;
     if !options.shows_read(read) {
         return Ok(());
     }
@@ -267,7 +311,7 @@ fn push_layers(
     push_end(
         output,
         &parts.shown,
-        options.hex,
+        options,
         bytes_of(options.whole, parts.shown.bytes, read),
     )
 }
@@ -287,16 +331,18 @@ fn push_refused(
     parts: &LineParts<'_>,
     error: &SliceError,
 ) -> Result<(), AllocError>
-    ensures { OnOk result (output.new.items
+    ensures line { OnOk result (output.new.items
         ≡ output.old.items ++ parts_text options.now parts.now (refusal error.now) []) }
+    ensures counts { OnOk result (plain_of summary.new ≡ counted false (shown_of parts.now.shown) (refusal error.now)
+        (plain_of summary.old)) }
 {
-    summary.count_refusal(error)?;
+    summary.count_refusal(&parts.shown, error)?;
     if !options.shows_unread(Some(Kind::Refused)) {
         return Ok(());
     }
     push_start(output, options.time, parts)?;
     push_refusal(output, error)?;
-    push_end(output, &parts.shown, options.hex, parts.shown.bytes)
+    push_end(output, &parts.shown, options, parts.shown.bytes)
 }
 
 /// Appends the line of a packet whose link type is not read, where all packets are shown.
@@ -313,7 +359,7 @@ fn push_other(
     }
     push_start(output, options.time, parts)?;
     decimals::push_behind(output, b" link ", u64::from(parts.shown.link_type))?;
-    push_end(output, &parts.shown, options.hex, parts.shown.bytes)
+    push_end(output, &parts.shown, options, parts.shown.bytes)
 }
 
 /// Appends what the line of a packet begins with: its number, its time in this form, and what is told of a header that
@@ -343,23 +389,24 @@ fn push_moment(
     push_time(output, form, parts.first, parts.shown.time)
 }
 
-/// Appends what the line of a packet ends with: how much was kept where that is not all, bytes where they are wanted,
-/// and the line feed.
+/// Appends what the line of a packet ends with: its interface where details are wanted, how much was kept where that is
+/// not all, bytes where they are wanted, and the line feed.
 fn push_end(
     output: &mut Vec<u8>,
     shown: &Shown<'_>,
-    hex: bool,
+    options: &DumpOptions,
     bytes: &[u8],
 ) -> Result<(), AllocError>
-    ensures { OnOk result (output.new.items
-        ≡ output.old.items ++ end_text (shown_of shown.now) (bytes_text hex bytes.now)) }
+    ensures { OnOk result (output.new.items ≡ output.old.items
+        ++ end_text options.now.verbose (shown_of shown.now) (bytes_text options.now.hex bytes.now)) }
 {
+    push_interface(output, options.verbose, shown.interface)?;
     push_cut(
         output,
         shown.bytes.len() as u64,
         u64::from(shown.original_len),
     )?;
-    if hex {
+    if options.hex {
         push_rows(output, bytes)?;
     }
     output.push(b'\n')?;

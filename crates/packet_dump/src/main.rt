@@ -12,9 +12,11 @@ ghost use Rattle.std.specs.Option.{option_copied};
 ghost use Rattle.std.specs.Process.{exit_status};
 ghost use Rattle.line_io.specs.Transfers.{Transfers};
 ghost use Rattle.line_io.specs.WatchedWords.{has_ended, has_failed, inner_of, reads_left};
-ghost use Rattle.packet_dump.specs.Dumps.{BeginsDump, IsSummedDump};
+ghost use Rattle.packet_dump.specs.Dumps.{BeginsDump};
 ghost use Rattle.packet_dump.specs.ErrorTexts.{hint_text, magic_hint, status_of, status_with};
 ghost use Rattle.packet_dump.specs.Saves.{BeginsSaved, IsCopy, asks, is_failed, new_state};
+ghost use Rattle.packet_dump.specs.Summaries.{plain_of};
+ghost use Rattle.packet_dump.specs.SummaryTexts.{IsSummedDump, summary_text};
 
 mod addresses;
 mod bytes;
@@ -24,6 +26,7 @@ pub mod ending;
 pub mod engine;
 mod filters;
 mod icmp_messages;
+pub mod laws;
 mod layers;
 mod lines;
 mod links;
@@ -86,9 +89,10 @@ the first. 'incomplete': bytes are missing that a length field says are there.
   --strict           read only whole frames, and refuse others
   --verbose          behind its layers what else a packet says: TTL,
                      identification, DF, priorities of VLANs, window and
-                     options of TCP, the packet that an ICMP error quotes;
-                     and whether checksums are right (or left to the card that
-                     sends, where the capture was made before)
+                     options of TCP, the packet that an ICMP error quotes, the
+                     interface's number in pcapng; and whether checksums are
+                     right (or left to the card that sends, where the capture
+                     was made before)
   --hex              the bytes of payloads too, 16 in a row, and as characters
   --hex=frame        those of whole packets, headers and all
   --reassemble       put IP payloads together from their fragments: a line more
@@ -275,34 +279,16 @@ fn dump_input<R: Read + Drop>(
     target: Option<&str>,
     wanted: bool,
 ) -> ExitCode {
-    let mut reader = Watched::new(input, MOST_READS);
-    let mut writer = Watched::new(rt.stdout(), 0);
     let mut saving = Saving::new(rt.alloc(), target.is_some());
     let Some(name) = target else {
         let mut file = Watched::new(NoFile, 0);
-        let outcome = dump_reader(
-            rt.alloc(),
-            options,
-            wanted,
-            &mut reader,
-            &mut writer,
-            &mut saving,
-            &mut file,
-        );
+        let outcome = dump_into(rt, options, wanted, input, &mut saving, &mut file);
         return ended(rt, path, outcome);
     };
     match fs::File::create_new(rt, name) {
         Ok(created) => {
             let mut file = Watched::new(Target::new(created, rt, name), 0);
-            let outcome = dump_reader(
-                rt.alloc(),
-                options,
-                wanted,
-                &mut reader,
-                &mut writer,
-                &mut saving,
-                &mut file,
-            );
+            let outcome = dump_into(rt, options, wanted, input, &mut saving, &mut file);
             saved(rt, path, outcome, name, saving.state)
         }
         Err(error) => {
@@ -310,6 +296,32 @@ fn dump_input<R: Read + Drop>(
             ExitCode::from(1)
         }
     }
+}
+
+/// The same from an input to standard output, and into a file or none.
+fn dump_into<R: Read + Drop, F: Write>(
+    rt: &HostRuntime,
+    options: DumpOptions,
+    wanted: bool,
+    input: R,
+    saving: &mut Saving,
+    file: &mut Watched<F>,
+) -> Result<Ending, RunError>
+    requires file_sound { has_failed file.old ≡ false }
+    requires fresh { saving.old.state ≡ new_state (asks saving.old.state) }
+    requires empty { saving.old.bytes.items ≡ [] }
+{
+    let mut reader = Watched::new(input, MOST_READS);
+    let mut writer = Watched::new(rt.stdout(), 0);
+    dump_reader(
+        rt.alloc(),
+        options,
+        wanted,
+        &mut reader,
+        &mut writer,
+        saving,
+        file,
+    )
 }
 
 /// How many bytes a file has, where it is told how far it was read: it takes long, nobody sees the lines come, and
@@ -373,8 +385,8 @@ fn summarized<W: Write>(
     writer: &mut Watched<W>,
 ) -> Result<(), RunError>
     requires { has_failed writer.old ≡ false }
-    ensures all { OnOk result ((text : List ℕ)
-        × Appends (W.contents (inner_of writer.old)) (W.contents (inner_of writer.new)) text) }
+    ensures all { OnOk result (Appends (W.contents (inner_of writer.old)) (W.contents (inner_of writer.new))
+        (summary_text (plain_of summary.now))) }
     ensures read { result ≢ Err RunError.Read }
     ensures write { (result ≡ Err RunError.Write) ↔ (has_failed writer.new ≡ true) }
 {

@@ -1,9 +1,9 @@
 //! What packets of a link type begin with. Of some the program reads the header itself, and the library what is behind it.
 
 ghost use Rattle.std.specs.Prelude.{◌≡◌, ◌≤◌, ◌++◌, true, IfSome, OnOk, length};
-ghost use Rattle.etherparse.specs.LinuxSll.{knows_hardware};
 ghost use Rattle.packet_dump.specs.Openings.{behind_front, family_in, family_opening, front_text, has_no_type};
-ghost use Rattle.packet_dump.specs.Openings.{is_bare_ip, is_cooked, is_ipv6_family, loopback_opening, opening_of, reads_sll};
+ghost use Rattle.packet_dump.specs.Openings.{is_bare_ip, is_cooked, is_ipv6_family, loopback_opening, opening_of};
+ghost use Rattle.packet_dump.specs.Openings.{reads_hardware, reads_sll};
 ghost use Rattle.packet_dump.specs.Openings.{reads_sll2, sll2_front, sll2_interface, sll2_opening, sll_front, sll_opening, way_text, whole_of};
 
 use crate::bytes::word_at;
@@ -121,16 +121,19 @@ fn loopback_opening(bytes: &[u8]) -> Option<Opening>
     }
 }
 
-/// Whether the library reads the header of a Linux cooked capture of this hardware type.
-fn knows_hardware(hardware: u16) -> bool
-    ensures { result ≡ knows_hardware hardware }
+/// Whether the protocol of a hardware type is no ether type.
+fn has_no_type(hardware: u16) -> bool
+    ensures { result ≡ has_no_type hardware }
 {
-    hardware == 1
-        || hardware == 772
-        || hardware == 770
-        || hardware == 803
-        || hardware == 778
-        || hardware == 824
+    hardware == 770 || hardware == 803 || hardware == 824
+}
+
+/// Whether the protocol of a hardware type is read here as an ether type: by that of Ethernet and of the loopback device
+/// the library reads what is behind them.
+fn reads_hardware(hardware: u16) -> bool
+    ensures { result ≡ reads_hardware hardware }
+{
+    !(hardware == 1 || hardware == 772 || has_no_type(hardware))
 }
 
 /// Whether the header of a Linux cooked capture is read here.
@@ -138,7 +141,7 @@ fn reads_sll(bytes: &[u8]) -> bool
     ensures value { result ≡ reads_sll bytes.now }
     ensures long { result ≡ true → 16 ≤ length bytes.now }
 {
-    bytes.len() >= 16 && word_at(bytes, 0) <= 7 && !knows_hardware(word_at(bytes, 2))
+    bytes.len() >= 16 && word_at(bytes, 0) <= 7 && reads_hardware(word_at(bytes, 2))
 }
 
 /// What a packet of a Linux cooked capture begins with.
@@ -151,13 +154,6 @@ fn sll_opening(bytes: &[u8]) -> Opening
     } else {
         whole_of(Entry::LinuxSll)
     }
-}
-
-/// Whether the protocol of a hardware type is no ether type.
-fn has_no_type(hardware: u16) -> bool
-    ensures { result ≡ has_no_type hardware }
-{
-    hardware == 770 || hardware == 803 || hardware == 824
 }
 
 /// Whether the header of a Linux cooked capture of version 2 is read.

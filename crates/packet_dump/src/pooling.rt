@@ -13,7 +13,7 @@ ghost use Rattle.packet_dump.specs.PacketLines.{parts_start};
 ghost use Rattle.packet_dump.specs.PacketCalls.{IsBounded, PoolHistory, is_since, new_pool, since_instant};
 ghost use Rattle.packet_dump.specs.PacketCalls.{with_frame, with_sweep};
 ghost use Rattle.packet_dump.specs.PoolLines.{GivesFrame, IsCallText, arrival_of, oldest_from};
-ghost use Rattle.packet_dump.specs.OpenStreams.{arrival_at, number_at, open_at, with_one, without};
+ghost use Rattle.packet_dump.specs.OpenStreams.{arrival_at, number_at, number_behind, open_at, with_one, without};
 ghost use Rattle.packet_dump.specs.Sessions.{AwaitsPacket, HoldsPooling};
 
 use crate::dump_options::DumpOptions;
@@ -141,7 +141,7 @@ impl Pooling {
         };
         let stood = number_at(&self.pool, &name);
         let answer = self.pool.process_sliced_packet(sliced, arrival, 0);
-        let stands = number_at(&self.pool, &name);
+        let stands = number_behind(&answer, stood, parts.number);
         push_answer(output, options, parts, read, &answer)?;
         unlist(&mut self.names, stood);
         list(&mut self.names, name, stands)?;
@@ -218,6 +218,22 @@ fn number_at(pool: &IpDefragPool<Arrival, u64>, name: &IpFragId<u64>) -> Option<
     match pool.timestamp(name) {
         Some(arrival) => Some(arrival.number),
         None => None,
+    }
+}
+
+/// The number under which a stream is listed behind the pool's answer to a fragment of it that came with the packet of
+/// this number, where it stood under another, if under any. The pool is not asked once more, which would take time.
+fn number_behind(
+    answer: &Result<Option<IpDefragPayloadVec>, IpDefragError>,
+    stood: Option<u64>,
+    number: u64,
+) -> Option<u64>
+    ensures { result ≡ number_behind answer.now stood number }
+{
+    match answer {
+        Ok(None) => Some(number),
+        Ok(Some(_)) => None,
+        Err(_) => stood,
     }
 }
 

@@ -7,7 +7,8 @@ ghost use Rattle.packet_dump.specs.Dumps.{AreAllTexts, packets_in};
 ghost use Rattle.packet_dump.specs.PacketCalls.{PoolHistory, new_pool};
 ghost use Rattle.packet_dump.specs.Saves.{GoesOn, is_failed};
 ghost use Rattle.packet_dump.specs.Sessions.{AwaitsPacket, Counts, Drains, PushesLine, Stands, ending_of, ends_run};
-ghost use Rattle.packet_dump.specs.Sessions.{taken_by};
+ghost use Rattle.packet_dump.specs.Sessions.{gathered, taken_by};
+ghost use Rattle.packet_dump.specs.Summaries.{CountsFragments, CountsPacket, plain_of};
 ghost use Rattle.packet_dump.specs.declared.dump_options.DumpOptions.{DumpOptions};
 
 use crate::dump_options::DumpOptions;
@@ -102,7 +103,8 @@ impl Session {
         ensures drains { IfOk result (λ standing. (options : DumpOptions) (read : List ℕ) (items : List Item) (text : List ℕ)
             (history : PoolHistory) → Stands options self.old read items history →
             AreAllTexts options items text history →
-            Drains options self.new standing read items text saving.old saving.new) }
+            Drains options self.new standing read items text (gathered saving.old summary.old)
+            (gathered saving.new summary.new)) }
         ensures failed { is_failed saving.new.state ≡ is_failed saving.old.state }
         ensures taken { OnOk result (taken_by self.new ≡ taken_by self.old) }
         ensures counts { OnOk result (Counts self.new) }
@@ -140,7 +142,9 @@ impl Session {
     }
 
     /// Counts what became of fragments.
-    pub fn count_pool(&mut self, summary: &mut Summary) {
+    pub fn count_pool(&mut self, summary: &mut Summary)
+        ensures { CountsFragments self.old.options.reassemble (plain_of summary.old) (plain_of summary.new) }
+    {
         if self.options.reassemble {
             summary.count_fragments(self.pooling.fragments());
         }
@@ -177,9 +181,10 @@ impl Session {
             AwaitsPacket before (self.old.number + 1) self.old.pooling →
             PushesLine self.old self.new before (reader_shown self.old.capture)) }
         ensures counts { self.new.number ≤ self.old.number + 1 }
+        ensures summed { OnOk result (CountsPacket self.old.options.strict (reader_shown self.old.capture)
+            (plain_of summary.old) (plain_of summary.new)) }
     {
         let shown = self.capture.shown();
-        summary.count_packet(&shown);
         let this = instant_in(&shown);
         let first = first_after(self.first, this);
         let latest = latest_after(self.latest, this);

@@ -1,4 +1,4 @@
-use Rattle.std.proofs.Common.{◌≡◌, ℕ, List, ◌++◌, ◌∙◌, ap, drop, arith}
+use Rattle.std.proofs.Common.{◌≡◌, ℕ, ◌++◌, ◌∙◌, ap, drop, arith}
 use Rattle.ep_base.specs.Bytes.{AreBytes}
 use Rattle.capture_reader.specs.Numbers.{word32, word32_at}
 use Rattle.capture_reader.proofs.NumberLemmas.{word32_front}

@@ -1,4 +1,4 @@
-use Rattle.std.proofs.Common.{◌≡◌, ℕ, ◌%◌, ap, ◌∙◌, sym, arith}
+use Rattle.std.proofs.Common.{◌≡◌, ◌%◌, arith}
 use Rattle.ep_base.specs.Bytes.{AreBytes}
 use Rattle.capture_reader.specs.Numbers.{word32_at}
 use Rattle.capture_reader.proofs.CaptureLemmas.{front_fits, long_facts}

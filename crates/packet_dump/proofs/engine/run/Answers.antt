@@ -4,19 +4,19 @@ use Rattle.std.specs.Io.KnownBytes.{Appends}
 use Rattle.line_io.specs.Transfers.{Moves}
 use Rattle.line_io.specs.WatchedWords.{AppendsFront, has_ended, inner_of}
 use Rattle.line_io.proofs.ResultLemmas.{at_exit}
-use Rattle.packet_dump.specs.Dumps.{IsDump}
 use Rattle.packet_dump.specs.Saves.{BeginsSaved, IsCopy, asks}
-use Rattle.packet_dump.specs.Sessions.{ends_run}
+use Rattle.packet_dump.specs.Sessions.{ends_run, gathered}
+use Rattle.packet_dump.specs.Summaries.{IsCountedDump, plain_of}
 use Rattle.packet_dump.proofs.CopyLemmas.{copied_begun, copied_drained, copied_ended, copied_flushed, copied_kept}
 use Rattle.packet_dump.proofs.CopyLemmas.{copied_new}
 use Rattle.packet_dump.proofs.CopyLemmas.{copied_none, copied_piece, copied_taken, new_sound}
-use Rattle.packet_dump.proofs.DumpLemmas.{Moves-begun, Moves-drained, Moves-ended, Moves-front, Moves-kept, Moves-piece}
-use Rattle.packet_dump.proofs.DumpLemmas.{Moves-new, Moves-taken}
+use Rattle.packet_dump.proofs.DumpLemmas.{Moves-begun, Moves-drained, Moves-dump, Moves-ended, Moves-front, Moves-kept}
+use Rattle.packet_dump.proofs.DumpLemmas.{Moves-new, Moves-piece, Moves-taken}
 use Rattle.packet_dump.proofs.engine.run.Goals as goal
 
 pub pieces-init : goal.pieces-init
 pieces-init g c = (
-  Moves-new c.args.options c.new-session.result (g.R.Read.remaining (inner_of c.args.reader.now))
+  Moves-new c.args.options c.new-session.result (plain_of c.args.summary.now) (g.R.Read.remaining (inner_of c.args.reader.now))
       (g.W.Write.contents (inner_of c.args.writer.now)) c.new-session.ensures.stands,
   c.requires.reader_sound,
   c.requires.writer_sound,
@@ -42,8 +42,8 @@ returns-in_err-write_all-clause-err g c =
     let holds = contents (inner_of c.pieces.writer) in
     let then_holds = contents (inner_of c.write_all.new.self) in
     at_exit c.from_residual-in_err-write_all.result
-    (Moves-front c.args.options c.pieces.session c.drain.new.self c.in_ok-standing.standing c.pieces.saving
-    c.drain.new.saving (remaining (inner_of c.args.reader.now))
+    (Moves-front c.args.options (plain_of c.args.summary.now) c.pieces.session c.drain.new.self c.in_ok-standing.standing
+    (gathered c.pieces.saving c.pieces.summary) (gathered c.drain.new.saving c.drain.new.summary) (remaining (inner_of c.args.reader.now))
     (remaining (inner_of c.pieces.reader)) (contents (inner_of c.args.writer.now)) holds then_holds
     c.pieces.invariant.0 c.in_ok-standing.ensures.drains
     (subst (AppendsFront holds then_holds) c.as_slice.ensures.value c.in_err-write_all.ensures.front))
@@ -63,9 +63,10 @@ returns-in_err-close-clause-err g c =
     let holds = g.W.Write.contents (inner_of c.pieces.writer) in
     let then_holds = g.W.Write.contents (inner_of c.write_all.new.self) in
     at_exit c.from_residual-in_err-close.result
-    (Moves-begun c.args.options c.drain.new.self had has held then_holds
-    (Moves-drained c.args.options c.pieces.session c.drain.new.self c.in_ok-standing.standing c.pieces.saving
-    c.drain.new.saving
+    (Moves-begun c.args.options (plain_of c.args.summary.now) c.drain.new.self (plain_of c.drain.new.summary) had has held then_holds
+    (Moves-drained c.args.options (plain_of c.args.summary.now) c.pieces.session c.drain.new.self
+    c.in_ok-standing.standing (gathered c.pieces.saving c.pieces.summary)
+    (gathered c.drain.new.saving c.drain.new.summary)
     had has held holds then_holds c.pieces.invariant.0 c.in_ok-standing.ensures.drains
     (subst (Appends holds then_holds) c.as_slice.ensures.value c.in_ok-write_all.ensures.all)))
 
@@ -92,28 +93,36 @@ returns-then-ends_run-clause-saved g c =
     subst (λ e. Moves (IsCopy c.args.options wanted ended e c.close.new.self.state) had has held then_holds)
     (sym c.ending-ending.ensures)
     (copied_ended c.args.options wanted ended c.pieces.session c.drain.new.self c.in_ok-standing.standing
-    c.pieces.saving
-    c.drain.new.saving c.close.new.self had has held holds then_holds c.pieces.invariant.7
+    (gathered c.pieces.saving c.pieces.summary) (gathered c.drain.new.saving c.drain.new.summary) c.close.new.self had has held holds then_holds c.pieces.invariant.7
     c.in_ok-standing.ensures.drains
     (subst (λ e. ends_run c.in_ok-standing.standing e ≡ true) c.ended.ensures (sym c.if-ends_run.ensures))
     c.in_ok-close.ensures.closes)
 
-pub returns-then-ends_run-clause-ok : goal.returns-then-ends_run-clause-ok
-returns-then-ends_run-clause-ok g c =
-    let remaining = g.R.Read.remaining in
-    let contents = g.W.Write.contents in
-    let had = remaining (inner_of c.args.reader.now) in
-    let has = remaining (inner_of c.pieces.reader) in
-    let held = contents (inner_of c.args.writer.now) in
-    let holds = contents (inner_of c.pieces.writer) in
-    let then_holds = contents (inner_of c.write_all.new.self) in
-    subst (λ e. Moves (IsDump c.args.options (has_ended c.pieces.reader) e) had has held then_holds)
+pub returns-then-ends_run-clause-counts : goal.returns-then-ends_run-clause-counts
+returns-then-ends_run-clause-counts g c =
+    let had = g.R.Read.remaining (inner_of c.args.reader.now) in
+    let has = g.R.Read.remaining (inner_of c.pieces.reader) in
+    let held = g.W.Write.contents (inner_of c.args.writer.now) in
+    let holds = g.W.Write.contents (inner_of c.pieces.writer) in
+    let then_holds = g.W.Write.contents (inner_of c.write_all.new.self) in
+    let first = plain_of c.args.summary.now in
+    let last = plain_of c.count_pool.new.summary in
+    subst (λ e. Moves (IsCountedDump c.args.options (has_ended c.pieces.reader) e first last) had has held then_holds)
     (sym c.ending-ending.ensures)
-    (Moves-ended c.args.options (has_ended c.pieces.reader) c.pieces.session c.drain.new.self
-    c.in_ok-standing.standing c.pieces.saving c.drain.new.saving had has held holds then_holds
+    (Moves-ended c.args.options (has_ended c.pieces.reader) first c.pieces.session c.drain.new.self
+    c.in_ok-standing.standing (gathered c.pieces.saving c.pieces.summary)
+    (gathered c.drain.new.saving c.drain.new.summary) last had has held holds then_holds
     c.pieces.invariant.0 c.in_ok-standing.ensures.drains
     (subst (λ e. ends_run c.in_ok-standing.standing e ≡ true) c.ended.ensures (sym c.if-ends_run.ensures))
+    c.count_pool.ensures
     (subst (Appends holds then_holds) c.as_slice.ensures.value c.in_ok-write_all.ensures.all))
+
+pub returns-then-ends_run-clause-ok : goal.returns-then-ends_run-clause-ok
+returns-then-ends_run-clause-ok g c =
+    Moves-dump c.args.options (has_ended c.pieces.reader) c.ending-ending.result (plain_of c.args.summary.now)
+    (plain_of c.count_pool.new.summary) (g.R.Read.remaining (inner_of c.args.reader.now))
+    (g.R.Read.remaining (inner_of c.pieces.reader)) (g.W.Write.contents (inner_of c.args.writer.now))
+    (g.W.Write.contents (inner_of c.write_all.new.self)) (returns-then-ends_run-clause-counts g c)
 
 pub returns-in_err-count-clause-err : goal.returns-in_err-count-clause-err
 returns-in_err-count-clause-err g c =
@@ -126,10 +135,11 @@ returns-in_err-count-clause-err g c =
     let holds = contents (inner_of c.pieces.writer) in
     let then_holds = contents (inner_of c.write_all.new.self) in
     at_exit c.from_residual-in_err-count.result
-    (Moves-begun c.args.options c.drain.new.self had then_has held then_holds
-    (Moves-kept c.args.options c.drain.new.self had has then_has held then_holds
-    (Moves-drained c.args.options c.pieces.session c.drain.new.self c.in_ok-standing.standing c.pieces.saving
-    c.drain.new.saving had has held holds then_holds
+    (Moves-begun c.args.options (plain_of c.args.summary.now) c.drain.new.self (plain_of c.drain.new.summary) had then_has held then_holds
+    (Moves-kept c.args.options (plain_of c.args.summary.now) c.drain.new.self (plain_of c.drain.new.summary) had has then_has held then_holds
+    (Moves-drained c.args.options (plain_of c.args.summary.now) c.pieces.session c.drain.new.self
+    c.in_ok-standing.standing (gathered c.pieces.saving c.pieces.summary)
+    (gathered c.drain.new.saving c.drain.new.summary) had has held holds then_holds
     c.pieces.invariant.0 c.in_ok-standing.ensures.drains
     (subst (Appends holds then_holds) c.as_slice.ensures.value c.in_ok-write_all.ensures.all))
     c.in_err-count.ensures.bytes))
@@ -148,8 +158,8 @@ returns-in_err-count-clause-begun g c =
     (copied_begun options wanted c.drain.new.self c.flush.new.self had then_has held then_holds
     (copied_kept options wanted c.drain.new.self c.flush.new.self had has then_has held then_holds
     (copied_flushed options wanted c.drain.new.self c.drain.new.saving c.flush.new.self had has held holds then_holds
-    (copied_drained options wanted c.pieces.session c.drain.new.self c.in_ok-standing.standing c.pieces.saving
-    c.drain.new.saving had has held holds c.pieces.invariant.7 c.in_ok-standing.ensures.drains)
+    (copied_drained options wanted c.pieces.session c.drain.new.self c.in_ok-standing.standing
+    (gathered c.pieces.saving c.pieces.summary) (gathered c.drain.new.saving c.drain.new.summary) had has held holds c.pieces.invariant.7 c.in_ok-standing.ensures.drains)
     c.flush.ensures.flushes c.flush.ensures.bytes) c.in_err-count.ensures.bytes))
 
 pub returns-in_err-take-clause-begun : goal.returns-in_err-take-clause-begun
@@ -167,8 +177,8 @@ returns-in_err-take-clause-begun g c =
     then_has
     held then_holds
     (copied_flushed options wanted c.drain.new.self c.drain.new.saving c.flush.new.self had has held holds then_holds
-    (copied_drained options wanted c.pieces.session c.drain.new.self c.in_ok-standing.standing c.pieces.saving
-    c.drain.new.saving had has held holds c.pieces.invariant.7 c.in_ok-standing.ensures.drains)
+    (copied_drained options wanted c.pieces.session c.drain.new.self c.in_ok-standing.standing
+    (gathered c.pieces.saving c.pieces.summary) (gathered c.drain.new.saving c.drain.new.summary) had has held holds c.pieces.invariant.7 c.in_ok-standing.ensures.drains)
     c.flush.ensures.flushes c.flush.ensures.bytes) c.in_ok-count.ensures.bytes.0)
 
 pub returns-in_err-take-clause-err : goal.returns-in_err-take-clause-err
@@ -182,9 +192,11 @@ returns-in_err-take-clause-err g c =
     let holds = contents (inner_of c.pieces.writer) in
     let then_holds = contents (inner_of c.write_all.new.self) in
     at_exit c.from_residual-in_err-take.result
-    (Moves-piece c.args.options c.drain.new.self (take c.in_ok-count.count c.read.new.piece) had has then_has held then_holds
-    (Moves-drained c.args.options c.pieces.session c.drain.new.self c.in_ok-standing.standing c.pieces.saving
-    c.drain.new.saving had has held holds then_holds
+    (Moves-piece c.args.options (plain_of c.args.summary.now) c.drain.new.self (plain_of c.drain.new.summary)
+    (take c.in_ok-count.count c.read.new.piece) had has then_has held then_holds
+    (Moves-drained c.args.options (plain_of c.args.summary.now) c.pieces.session c.drain.new.self
+    c.in_ok-standing.standing (gathered c.pieces.saving c.pieces.summary)
+    (gathered c.drain.new.saving c.drain.new.summary) had has held holds then_holds
     c.pieces.invariant.0 c.in_ok-standing.ensures.drains
     (subst (Appends holds then_holds) c.as_slice.ensures.value c.in_ok-write_all.ensures.all))
     c.in_ok-count.ensures.bytes.0)
@@ -207,10 +219,12 @@ pieces-preserved g c =
     let taken = c.in_ok-take.ensures in
     let counted = c.in_ok-count.ensures.counted in
     let before = c.pieces.invariant.5 in (
-      Moves-taken c.args.options c.drain.new.self c.take.new.self (take c.in_ok-count.count c.read.new.piece) had has then_has held
+      Moves-taken c.args.options (plain_of c.args.summary.now) c.drain.new.self c.take.new.self
+          (plain_of c.drain.new.summary) (take c.in_ok-count.count c.read.new.piece) had has then_has held
           then_holds
-          (Moves-drained c.args.options c.pieces.session c.drain.new.self c.in_ok-standing.standing c.pieces.saving
-          c.drain.new.saving had has held holds then_holds
+          (Moves-drained c.args.options (plain_of c.args.summary.now) c.pieces.session c.drain.new.self
+          c.in_ok-standing.standing (gathered c.pieces.saving c.pieces.summary)
+          (gathered c.drain.new.saving c.drain.new.summary) had has held holds then_holds
           c.pieces.invariant.0 drained.drains
           (subst (Appends holds then_holds) c.as_slice.ensures.value c.in_ok-write_all.ensures.all))
           c.in_ok-count.ensures.bytes.0 taken.stands,
@@ -226,8 +240,7 @@ pieces-preserved g c =
           file_holds
           file_then
           (copied_drained c.args.options wanted c.pieces.session c.drain.new.self c.in_ok-standing.standing
-          c.pieces.saving
-          c.drain.new.saving had has file_held file_holds c.pieces.invariant.7 drained.drains)
+          (gathered c.pieces.saving c.pieces.summary) (gathered c.drain.new.saving c.drain.new.summary) had has file_held file_holds c.pieces.invariant.7 drained.drains)
           c.flush.ensures.flushes c.flush.ensures.bytes) c.in_ok-count.ensures.bytes.0 taken.stands,
       c.flush.ensures.failed,
     )
@@ -242,6 +255,6 @@ returns-in_err-standing-clause-begun g c =
 pub returns-in_err-standing-clause-err : goal.returns-in_err-standing-clause-err
 returns-in_err-standing-clause-err g c =
     at_exit c.from_residual-in_err-standing.result
-    (Moves-begun c.args.options c.pieces.session (g.R.Read.remaining (inner_of c.args.reader.now))
+    (Moves-begun c.args.options (plain_of c.args.summary.now) c.pieces.session (plain_of c.pieces.summary) (g.R.Read.remaining (inner_of c.args.reader.now))
     (g.R.Read.remaining (inner_of c.pieces.reader)) (g.W.Write.contents (inner_of c.args.writer.now))
     (g.W.Write.contents (inner_of c.pieces.writer)) c.pieces.invariant.0)

@@ -4,13 +4,14 @@ use Rattle.line_io.specs.Transfers.{Moves}
 use Rattle.line_io.specs.WatchedWords.{has_failed, inner_of, is_at_end, reads_left}
 use Rattle.packet_dump.specs.Saves.{asks, is_failed}
 use Rattle.packet_dump.specs.Sessions.{Counts, taken_by}
+use Rattle.packet_dump.specs.Summaries.{plain_of}
 use Rattle.packet_dump.proofs.CopyLemmas.{Copied}
 use Rattle.packet_dump.proofs.DumpLemmas.{Told}
 use Rattle.packet_dump.proofs.engine.run.Given as goal
 
 abbrev pub invariant-pieces : goal.invariant-pieces
 invariant-pieces g l =
-    Moves (Told l.fn.options l.session)
+    Moves (Told l.fn.options (plain_of l.initial.summary) l.session (plain_of l.summary))
     (g.R.Read.remaining (inner_of l.initial.reader)) (g.R.Read.remaining (inner_of l.reader))
     (g.W.Write.contents (inner_of l.initial.writer)) (g.W.Write.contents (inner_of l.writer))
     × (has_failed l.reader ≡ false) × (has_failed l.writer ≡ false) × (length l.piece ≡ 65536)

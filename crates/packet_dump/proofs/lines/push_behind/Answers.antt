@@ -8,8 +8,8 @@ use Rattle.packet_dump.proofs.PoolLemmas.{not_given}
 use Rattle.packet_dump.proofs.ReadingLemmas.{neither}
 use Rattle.packet_dump.proofs.lines.push_behind.Goals as goal
 
-pub returns-else-asks_frames : goal.returns-else-asks_frames
-returns-else-asks_frames c =
+pub returns-else-asks_frames-clause-line : goal.returns-else-asks_frames-clause-line
+returns-else-asks_frames-clause-line c =
     let options = c.args.options.now in
     let parts = c.args.parts.now in
     let opening = c.args.opening in
@@ -31,4 +31,15 @@ returns-else-asks_frames c =
       ),
       held.holds,
       told.4 ∙ ap (λ (t : List ℕ). c.args.output.now.items ++ t) (sym (append-nil line)),
-    )) c.push_lax.ensures
+    )) c.push_lax.ensures.line
+
+pub returns-else-asks_frames-clause-counts : goal.returns-else-asks_frames-clause-counts
+returns-else-asks_frames-clause-counts c =
+    let options = c.args.options.now in
+    let none = neither options.strict options.reassemble (sym c.asks_frames.ensures ∙ c.if-asks_frames.false) in
+    on_ok_weaker c.push_lax.result
+    (λ found. (
+      found.0,
+      subst (λ s. HoldsBehind s c.args.opening c.args.bytes.now found.0) (sym none.0) found.1,
+      found.2,
+    )) c.push_lax.ensures.counts

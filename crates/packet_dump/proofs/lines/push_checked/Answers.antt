@@ -6,8 +6,8 @@ use Rattle.packet_dump.specs.PoolLines.{arrival_of}
 use Rattle.packet_dump.proofs.PoolLemmas.{no_frame}
 use Rattle.packet_dump.proofs.lines.push_checked.Goals as goal
 
-pub returns-in-Err : goal.returns-in-Err
-returns-in-Err c =
+pub returns-in-Err-clause-line : goal.returns-in-Err-clause-line
+returns-in-Err-clause-line c =
     let options = c.args.options.now in
     let parts = c.args.parts.now in
     on_ok_weaker c.push_no_frame.result
@@ -26,4 +26,4 @@ returns-in-Err c =
       ),
       held.holds,
       told.3 ∙ ap (λ (t : List ℕ). c.args.output.now.items ++ t) (sym (append-nil line)),
-    )) c.push_no_frame.ensures
+    )) c.push_no_frame.ensures.line

@@ -1,16 +1,18 @@
 use Rattle.std.proofs.Common.{◌≡◌, ◌++◌, ◌-◌, ℕ, List, [], Option, Some, ap, drop, inl, inr, length, length-drop, take, refl, sym, subst, ◌∙◌, arith}
 use Rattle.std.proofs.lemmas.List.{append-nil, take_all}
 use Rattle.std.proofs.lemmas.Result.{on_ok_weaker}
+use Rattle.capture_reader.specs.Readers.{shown_of}
 use Rattle.packet_dump.specs.Details.{IsDetailed}
 use Rattle.packet_dump.specs.Openings.{bytes_behind, opening_of}
 use Rattle.packet_dump.specs.PacketContents.{HoldsBehind, other_link}
 use Rattle.packet_dump.specs.PacketLines.{parts_start, parts_text, tells_details}
 use Rattle.packet_dump.specs.PoolLines.{GivesWhere, arrival_of}
+use Rattle.packet_dump.specs.Summaries.{counted, has_cooked, plain_of}
 use Rattle.packet_dump.specs.declared.openings.Opening.{Opening}
 use Rattle.packet_dump.proofs.lines.push_line.Goals as goal
 
-pub returns-in_default : goal.returns-in_default
-returns-in_default c =
+pub returns-in_default-clause-line : goal.returns-in_default-clause-line
+returns-in_default-clause-line c =
     let parts = c.args.parts.now in
     let content = other_link parts.shown.link_type in
     let unread = sym c.opening_of.ensures.value ∙ c.in_default.is in
@@ -23,8 +25,8 @@ returns-in_default c =
       rw append-nil pushed,
     )) c.push_other.ensures
 
-pub returns : goal.returns
-returns c =
+pub returns-clause-line : goal.returns-clause-line
+returns-clause-line c =
     let options = c.args.options.now in
     let parts = c.args.parts.now in
     let bytes = parts.shown.bytes.now in
@@ -57,4 +59,30 @@ returns c =
       ),
       told.3,
       told.4,
-    )) c.push_behind.ensures
+    )) c.push_behind.ensures.line
+
+pub returns-in_default-clause-counts : goal.returns-in_default-clause-counts
+returns-in_default-clause-counts c =
+    on_ok_weaker c.push_other.result
+    (λ pushed. (
+      other_link c.args.parts.now.shown.link_type,
+      inr (sym c.opening_of.ensures.value ∙ c.in_default.is, refl),
+      c.in_ok-count_unread.ensures,
+    )) c.push_other.ensures
+
+pub returns-clause-counts : goal.returns-clause-counts
+returns-clause-counts c =
+    let options = c.args.options.now in
+    let shown = shown_of c.args.parts.now.shown in
+    let opening = c.in-Some.opening in
+    let there : opening_of shown.link shown.bytes ≡ Some opening = sym c.opening_of.ensures.value ∙ c.in-Some.is in
+    let behind = drop opening.skipped shown.bytes in
+    let whole : take (length shown.bytes - opening.skipped) behind ≡ behind =
+    take_all (length shown.bytes - opening.skipped) behind (omega (arith, length-drop opening.skipped shown.bytes)) in
+    on_ok_weaker c.push_behind.result
+    (λ found. (
+      found.0,
+      inl (opening, there, subst (λ (b : List ℕ). HoldsBehind options.strict opening b found.0) whole found.1),
+      subst (λ o. plain_of c.push_behind.new.summary ≡ counted (has_cooked o) shown found.0 (plain_of c.args.summary.now))
+          (sym there) found.2,
+    )) c.push_behind.ensures.counts

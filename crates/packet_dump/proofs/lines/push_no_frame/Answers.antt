@@ -3,15 +3,15 @@ use Rattle.std.proofs.lemmas.Result.{on_ok_weaker}
 use Rattle.packet_dump.specs.PacketContents.{HoldsBehind, refusal}
 use Rattle.packet_dump.proofs.lines.push_no_frame.Goals as goal
 
-pub returns-then-options : goal.returns-then-options
-returns-then-options c =
+pub returns-then-options-clause-line : goal.returns-then-options-clause-line
+returns-then-options-clause-line c =
     let content = refusal c.args.error.now in
     let holds = subst (λ s. HoldsBehind s c.args.opening c.args.bytes.now content) (sym c.if-options.true)
     c.requires.refuses in
-    on_ok_weaker c.push_refused.result (λ pushed. (content, [], (holds, refl), pushed)) c.push_refused.ensures
+    on_ok_weaker c.push_refused.result (λ pushed. (content, [], (holds, refl), pushed)) c.push_refused.ensures.line
 
-pub returns-else-options : goal.returns-else-options
-returns-else-options c =
+pub returns-else-options-clause-line : goal.returns-else-options-clause-line
+returns-else-options-clause-line c =
     on_ok_weaker c.push_lax.result
     (λ told. (
       told.0,
@@ -21,4 +21,20 @@ returns-else-options c =
         told.3,
       ),
       told.4,
-    )) c.push_lax.ensures
+    )) c.push_lax.ensures.line
+
+pub returns-then-options-clause-counts : goal.returns-then-options-clause-counts
+returns-then-options-clause-counts c =
+    let content = refusal c.args.error.now in
+    let holds = subst (λ s. HoldsBehind s c.args.opening c.args.bytes.now content) (sym c.if-options.true)
+    c.requires.refuses in
+    on_ok_weaker c.push_refused.result (λ same. (content, holds, same)) c.push_refused.ensures.counts
+
+pub returns-else-options-clause-counts : goal.returns-else-options-clause-counts
+returns-else-options-clause-counts c =
+    on_ok_weaker c.push_lax.result
+    (λ found. (
+      found.0,
+      subst (λ s. HoldsBehind s c.args.opening c.args.bytes.now found.0) (sym c.if-options.false) found.1,
+      found.2,
+    )) c.push_lax.ensures.counts

@@ -1,7 +1,7 @@
-use Rattle.std.proofs.Common.{◌≡◌, ◌-◌, Some, refl, ap, subst, sym, ◌∙◌}
-use Rattle.ep_base.specs.Tables.{Refuses, first_row}
+use Rattle.std.proofs.Common.{◌-◌, refl, ap, subst, sym}
+use Rattle.ep_base.specs.Tables.{Refuses}
 use Rattle.capture_reader.specs.BlockContents.{section_of}
-use Rattle.capture_reader.specs.Captures.{front, in_section, inside, long_rows, section_rows}
+use Rattle.capture_reader.specs.Captures.{front, in_section, inside, long_rows}
 use Rattle.capture_reader.specs.Numbers.{word32_at}
 use Rattle.capture_reader.specs.Readers.{Answers, reader_rest, stage_of}
 use Rattle.capture_reader.proofs.ReaderLemmas.{front_refused, refused_part}

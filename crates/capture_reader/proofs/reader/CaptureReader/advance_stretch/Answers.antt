@@ -1,8 +1,8 @@
-use Rattle.std.proofs.Common.{◌≡◌, ◌≤◌, ◌<◌, ◌-◌, ◌++◌, ◌∙◌, min, refl, ap, subst, sym, length, take, drop}
+use Rattle.std.proofs.Common.{◌≡◌, ◌≤◌, ◌-◌, ◌∙◌, min, refl, ap, sym, length, take}
 use Rattle.std.proofs.Common.{length-take-le, take-append-drop, arith}
 use Rattle.capture_reader.specs.BlockContents.{section_of}
 use Rattle.capture_reader.specs.Captures.{inside, most_stretch, stretch}
-use Rattle.capture_reader.specs.Readers.{Answers, reader_rest, stage_of}
+use Rattle.capture_reader.specs.Readers.{reader_rest, stage_of}
 use Rattle.capture_reader.proofs.StepLemmas.{part_steps}
 use Rattle.capture_reader.proofs.reader.CaptureReader.advance_stretch.Goals as goal
 

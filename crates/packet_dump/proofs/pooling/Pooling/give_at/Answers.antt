@@ -27,7 +27,8 @@ returns c = λ before awaits.
           c.requires.same told.1),
       c.give_back.ensures (with_frame before layers at)
           (frame_pooled c.one_more_call.ensures old _ c.unlist.new.names carried at answer c.args.name
-          c.number_at-stood.result c.number_at-stands.result takes enough c.requires.named before awaits.holds
-          awaits.later refl c.number_at-stood.ensures c.number_at-stands.ensures c.unlist.ensures c.in_ok-list.ensures),
+          c.number_at-stood.result c.number_behind-stands.result takes enough c.requires.named before awaits.holds
+          awaits.later refl c.number_at-stood.ensures c.number_behind-stands.ensures c.unlist.ensures
+          c.in_ok-list.ensures),
       told.2,
     )

@@ -1,5 +1,6 @@
 use Rattle.std.proofs.Common.{◌+◌, ◌++◌, ap, refl, ◌∙◌}
 use Rattle.capture_reader.specs.Readers.{reader_left, reader_offset}
+use Rattle.packet_dump.specs.Sessions.{gathered}
 use Rattle.packet_dump.specs.declared.session.Standing.TheVariants as standing
 use Rattle.packet_dump.proofs.SessionLemmas.{counts_kept, counts_packet, drains_end, drains_other, drains_packet}
 use Rattle.packet_dump.proofs.SessionLemmas.{drains_start, enough_read, fewer_read}
@@ -9,7 +10,7 @@ pub items-init : goal.items-init
 items-init c = (
   λ options read items text history stands texts.
       drains_start options c.args.self.now _ refl refl refl refl refl refl c.clear.ensures.items read items text history
-      c.args.saving.now stands texts,
+      (gathered c.args.saving.now c.args.summary.now) stands texts,
   refl,
   c.requires.counts,
   refl,
@@ -22,10 +23,11 @@ items-preserved-in-Continue-branch-2 c =
     let pushed = c.in_ok-push_packet-in-Ok-Packet.ensures in (
       λ options read items text history stands texts.
           let drained = c.items.invariant.0 options read items text history stands texts in
-          drains_packet options c.items.self c.push_packet.new.self c.advance.new.self read items text c.args.saving.now
-          c.items.saving c.save_packet.new.saving drained
-          (advanced.reads read (items ++ drained.more) drained.stands.reads) pushed.line saved.saves pushed.capture
-          c.if-self.false,
+          drains_packet options c.items.self c.push_packet.new.self c.advance.new.self read items text
+          (gathered c.args.saving.now c.args.summary.now) (gathered c.items.saving c.items.summary)
+          (gathered c.save_packet.new.saving c.push_packet.new.summary) drained
+          (advanced.reads read (items ++ drained.more) drained.stands.reads) pushed.line saved.saves pushed.summed
+          pushed.capture c.if-self.false,
       ap (λ r. reader_offset r + reader_left r) pushed.capture ∙ advanced.total ∙ c.items.invariant.1,
       counts_packet c.items.self c.push_packet.new.self c.advance.new.self pushed.counts pushed.capture
           advanced.total (advanced.less tt) c.items.invariant.2,
@@ -38,7 +40,8 @@ items-preserved c =
       λ options read items text history stands texts.
           let drained = c.items.invariant.0 options read items text history stands texts in
           let found = advanced.reads read (items ++ drained.more) drained.stands.reads in
-          drains_other options c.items.self _ read items text c.args.saving.now c.items.saving drained found.0 found.1
+          drains_other options c.items.self _ read items text
+          (gathered c.args.saving.now c.args.summary.now) (gathered c.items.saving c.items.summary) drained found.0 found.1
           found.2 refl refl refl refl refl refl,
       advanced.total ∙ c.items.invariant.1,
       counts_kept _ _ _ c.items.invariant.2 advanced.grows,
@@ -51,7 +54,8 @@ returns-in-Ok-MayEnd-clause-drains c =
     λ options read items text history stands texts.
     let drained = c.items.invariant.0 options read items text history stands texts in
     let found = advanced.reads read (items ++ drained.more) drained.stands.reads in
-    drains_end options c.items.self _ standing.MayEnd read items text c.args.saving.now c.items.saving drained
+    drains_end options c.items.self _ standing.MayEnd read items text
+    (gathered c.args.saving.now c.args.summary.now) (gathered c.items.saving c.items.summary) drained
     found.0 refl refl refl refl refl refl
     (fewer_read options c.items.self read (items ++ drained.more) drained.after drained.stands c.if-self.false, found.1)
 
@@ -64,8 +68,8 @@ returns-in-Ok-Cut-clause-drains c =
     λ options read items text history stands texts.
     let drained = c.items.invariant.0 options read items text history stands texts in
     let found = advanced.reads read (items ++ drained.more) drained.stands.reads in
-    drains_end options c.items.self _ (standing.Cut c.in-Ok-Cut.error) read items text c.args.saving.now
-    c.items.saving drained
+    drains_end options c.items.self _ (standing.Cut c.in-Ok-Cut.error) read items text
+    (gathered c.args.saving.now c.args.summary.now) (gathered c.items.saving c.items.summary) drained
     found.0 refl refl refl refl refl refl
     (fewer_read options c.items.self read (items ++ drained.more) drained.after drained.stands c.if-self.false, found.1)
 
@@ -77,8 +81,8 @@ returns-in-Err-clause-drains c =
     λ options read items text history stands texts.
     let drained = c.items.invariant.0 options read items text history stands texts in
     let found = c.in-Err.ensures.reads read (items ++ drained.more) drained.stands.reads in
-    drains_end options c.items.self _ (standing.Refused c.in-Err.error) read items text c.args.saving.now
-    c.items.saving drained
+    drains_end options c.items.self _ (standing.Refused c.in-Err.error) read items text
+    (gathered c.args.saving.now c.args.summary.now) (gathered c.items.saving c.items.summary) drained
     found.0 refl refl refl refl refl refl
     (fewer_read options c.items.self read (items ++ drained.more) drained.after drained.stands c.if-self.false, found.1)
 
@@ -89,6 +93,7 @@ pub returns-then-self-clause-drains : goal.returns-then-self-clause-drains
 returns-then-self-clause-drains c =
     λ options read items text history stands texts.
     let drained = c.items.invariant.0 options read items text history stands texts in
-    drains_end options c.items.self _ standing.Enough read items text c.args.saving.now c.items.saving drained
+    drains_end options c.items.self _ standing.Enough read items text
+    (gathered c.args.saving.now c.args.summary.now) (gathered c.items.saving c.items.summary) drained
     drained.stands.reads refl refl refl refl refl refl
     (enough_read options c.items.self read (items ++ drained.more) drained.after drained.stands c.if-self.true)

@@ -4,7 +4,7 @@ use Rattle.capture_reader.specs.Readers.{reader_left}
 use Rattle.packet_dump.specs.Dumps.{AreAllTexts}
 use Rattle.packet_dump.specs.PacketCalls.{PoolHistory}
 use Rattle.packet_dump.specs.Saves.{is_failed}
-use Rattle.packet_dump.specs.Sessions.{Counts, Drained, Stands, taken_by}
+use Rattle.packet_dump.specs.Sessions.{Counts, Drained, Stands, gathered, taken_by}
 use Rattle.packet_dump.specs.declared.dump_options.DumpOptions.{DumpOptions}
 use Rattle.packet_dump.proofs.session.Session.drain.Given as goal
 
@@ -12,7 +12,7 @@ abbrev pub invariant-items : goal.invariant-items
 invariant-items l =
     ((options : DumpOptions) (read : List ℕ) (items : List Item) (text : List ℕ) (history : PoolHistory)
     → Stands options l.fn.self read items history → AreAllTexts options items text history
-    → Drained options l.self read items text l.fn.saving l.saving) × (taken_by l.self ≡ taken_by l.fn.self) × Counts
+    → Drained options l.self read items text (gathered l.fn.saving l.fn.summary) (gathered l.saving l.summary)) × (taken_by l.self ≡ taken_by l.fn.self) × Counts
     l.self
     × (is_failed l.saving.state ≡ is_failed l.fn.saving.state)
 
