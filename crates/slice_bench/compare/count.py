@@ -14,7 +14,6 @@ the rounds and the items. Prints the tables of docs/SPEED.md, or the one that is
 """
 import os
 import re
-import struct
 import subprocess
 import sys
 import tempfile
@@ -84,44 +83,37 @@ def fragments(program, made, folder):
         print(f"| {name} | " + " | ".join(f"{count[column]:,}" for count in counts) + " |", flush=True)
 
 
-def most_memory(command):
-    """The greatest resident size of a run, in bytes."""
-    process = subprocess.Popen(command, stdout=subprocess.DEVNULL)
-    _, status, used = os.wait4(process.pid, 0)
-    process.returncode = os.waitstatus_to_exitcode(status)
-    if process.returncode:
-        sys.exit(f"count.py: {' '.join(command)} ended with status {process.returncode}")
-    return used.ru_maxrss * 1024
+def floods_of_lines():
+    """The module that gives frame_bench floods of lines."""
+    sys.path.insert(0, f"{TOP}/crates/frame_bench/compare")
+    import floods
+
+    return floods
 
 
-def fragment(stream, place):
-    """The frame of a fragment of 64 bytes of a stream that has others behind it, with its length in front."""
-    ethernet = bytes(12) + b"\x08\x00"
-    name, flags = stream & 0xFFFF, 0x2000 | 8 * place
-    ipv4 = struct.pack(">BBHHHBBHII", 0x45, 0, 84, name, flags, 64, 17, 0, 1 + (stream >> 16), 2)
-    return struct.pack("<I", 98) + ethernet + ipv4 + bytes(64)
+def memory_of_streams():
+    """The bytes that frame_bench holds for an open stream: of one fragment of 64 bytes; of two, one stream after the
+    other; of two, all begun before one goes on. What as many fragments of one stream take is not in it."""
+    floods = floods_of_lines()
+    one, two = (floods.fragment(units, 1, "5a" * 64) for units in (0, 8))
 
+    def resident(packets):
+        rows = ((floods.pool_line(packet, channel), "none") for packet, channel in packets)
+        _, is_right, _, (_, last) = floods.measure(FRAME_BENCH, rows)
+        if not is_right:
+            sys.exit("count.py: frame_bench answered a fragment wrongly")
+        return last * 2**20
 
-def memory_of_streams(program, made):
-    """The bytes of memory that an open stream takes: of one fragment; of two, one stream after the other; of two, all
-    begun before one goes on. What as many frames of one stream take is not in it."""
-    def resident(fragments):
-        with open(f"{made}/open", "wb") as file:
-            file.writelines(fragments)
-        return most_memory([program, f"{made}/open", "1", "reassembly"])
-
-    one = (resident(fragment(stream, 0) for stream in range(OPEN)) - resident([fragment(0, 0)] * OPEN)) / OPEN
-    alone = resident([fragment(0, 0)] * 2 * OPEN_OF_TWO)
-    in_turn = resident(fragment(stream, place) for stream in range(OPEN_OF_TWO) for place in range(2))
-    at_once = resident(fragment(stream, place) for place in range(2) for stream in range(OPEN_OF_TWO))
-    return [one, (in_turn - alone) / OPEN_OF_TWO, (at_once - alone) / OPEN_OF_TWO]
+    alone = resident([(one, 0)] * OPEN)
+    first = resident((one, stream) for stream in range(OPEN))
+    in_turn = resident((packet, stream) for stream in range(OPEN_OF_TWO) for packet in (one, two))
+    at_once = resident((packet, stream) for packet in (one, two) for stream in range(OPEN_OF_TWO))
+    return [(first - alone) / OPEN, (in_turn - alone) / OPEN_OF_TWO, (at_once - alone) / OPEN_OF_TWO]
 
 
 def drop_of_none():
     """The microseconds that a drop takes that keeps all of 100,000 open streams."""
-    sys.path.insert(0, f"{TOP}/crates/frame_bench/compare")
-    import floods
-
+    floods = floods_of_lines()
     streams, drops = list(floods.first_fragments(range(100_000))), [("drop 0", "ok")] * 1000
     seconds = [min(floods.measure(FRAME_BENCH, rows)[2] for _ in range(3)) for rows in (streams, streams + drops)]
     return (seconds[1] - seconds[0]) / len(drops) * 1e6
@@ -167,9 +159,9 @@ def beside(program, made, folder):
         row(f"a fragment {name}", [here], by_hand, crate)
     here, by_hand = fragments_in_time(program, made, f"{folder}/crowd", 5)
     row("a fragment of 100,000 streams in turn", [here], by_hand, "slower than here", " ns")
-    name = "memory of an open stream: one fragment of 64 bytes; two; two, all begun before one goes on"
-    row(name, memory_of_streams(program, made), None, "567; 351 bytes", " bytes")
     if os.path.exists(FRAME_BENCH):
+        name = "memory of an open stream: one fragment of 64 bytes; two; two, all begun before one goes on"
+        row(name, memory_of_streams(), None, "567; 351 bytes", " bytes")
         row("a drop that keeps all of 100,000 streams", [drop_of_none()], None, "", " µs")
 
 
