@@ -263,6 +263,7 @@ impl<'a> SlicedPacket<'a> {
             part.offset,
             part.ether_type,
             part.slice,
+            true,
         )
     }
 
@@ -382,6 +383,7 @@ fn slice_behind(part: LinkPart<'_>) -> Result<SlicedPacket<'_>, SliceError>
         part.offset,
         part.ether_type,
         part.slice,
+        false,
     ) {
         Ok(()) => Ok(SlicedPacket {
             link: Some(part.link),

@@ -3,7 +3,7 @@
 //! Each call that says `Ok` has written what it is named for, whatever was there; at `Err` what it leaves is not said.
 //! All of them become one piece of code with the caller, so that no layer is moved on its way out.
 
-ghost use Rattle.std.specs.Prelude.{◌≡◌, ◌+◌, ◌<◌, ◌^◌, [], length, IfOk, IfErr, Some};
+ghost use Rattle.std.specs.Prelude.{◌≡◌, ◌+◌, ◌<◌, ◌^◌, [], length, IfOk, IfErr, None, Some};
 ghost use Rattle.std.specs.Option.{option_map};
 ghost use Rattle.ep_base.specs.Readings.{slices};
 ghost use Rattle.ep_base.specs.IpPayload.{ip_payload_of};
@@ -39,7 +39,8 @@ struct Inside<'a> {
 }
 
 /// Fills in what bytes of a type hold, where it is known: the link extensions, as many as are taken, the net layer and
-/// the transport layer. The bytes lie `offset` bytes behind the packet's start.
+/// the transport layer. The bytes lie `offset` bytes behind the packet's start. `in_place` says that the layers are
+/// those of a packet in memory, and no variables, which are to stay in registers.
 #[inline(always)]
 pub(crate) fn fill_inside<'a>(
     link_exts: &mut ArrayVec<LinkExtSlice<'a>, 3>,
@@ -48,6 +49,7 @@ pub(crate) fn fill_inside<'a>(
     offset: usize,
     ether_type: Option<EtherType>,
     slice: &'a [u8],
+    in_place: bool,
 ) -> Result<(), SliceError>
     requires place { offset + length slice.now < 2 ^ 64 }
     requires empty { link_exts.old.items ≡ [] }
@@ -64,6 +66,7 @@ pub(crate) fn fill_inside<'a>(
         inside.offset,
         inside.ether_type,
         inside.slice,
+        in_place,
     )
 }
 
@@ -110,7 +113,7 @@ fn fill_extensions<'a>(
 }
 
 /// Fills in the net layer that bytes of a type are, where it is known, and the transport layer in it. The bytes lie
-/// `offset` bytes behind the packet's start.
+/// `offset` bytes behind the packet's start. `in_place` as for `fill_inside`.
 #[inline(always)]
 fn fill_net<'a>(
     net: &mut Option<NetSlice<'a>>,
@@ -118,6 +121,7 @@ fn fill_net<'a>(
     offset: usize,
     ether_type: Option<EtherType>,
     slice: &'a [u8],
+    in_place: bool,
 ) -> Result<(), SliceError>
     requires { offset + length slice.now < 2 ^ 64 }
     ensures ok { IfOk result (λ _. HoldsNet (net_kind_in ether_type) slice.now net.new transport.new) }
@@ -128,11 +132,26 @@ fn fill_net<'a>(
         Some(ether_type::IPV6) => fill_ipv6(net, transport, offset, slice),
         Some(ether_type::ARP) => fill_arp(net, transport, offset, slice),
         _ => {
-            *net = None;
-            *transport = None;
+            if in_place {
+                fill_nothing(net, transport);
+            } else {
+                *net = None;
+                *transport = None;
+            }
             Ok(())
         }
     }
+}
+
+/// Takes both layers away. Apart, since inlined it would have the room of the new values zeroed for each packet; a
+/// caller that lends its variables to it keeps them in memory.
+#[inline(never)]
+fn fill_nothing(net: &mut Option<NetSlice<'_>>, transport: &mut Option<TransportSlice<'_>>)
+    ensures net { net.new ≡ None }
+    ensures transport { transport.new ≡ None }
+{
+    *net = None;
+    *transport = None;
 }
 
 /// Fills in the IPv4 packet that bytes are, and the transport layer in it. The bytes lie `offset` bytes behind the
