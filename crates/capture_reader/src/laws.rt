@@ -5,18 +5,21 @@ ghost use Rattle.ep_base.specs.Bytes.{AreBytes};
 ghost use Rattle.ep_base.specs.Tables.{IsDecided};
 ghost use Rattle.capture_reader.specs.Blocks.{IsBlock, RefusesBlock, Section};
 ghost use Rattle.capture_reader.specs.Captures.{IsCapture, RefusesCapture};
-ghost use Rattle.capture_reader.specs.Classic.{IsHeading, IsRecord, RefusesHeading, RefusesRecord};
+ghost use Rattle.capture_reader.specs.Classic.{IsHeading, IsRecord, RefusesHeading, RefusesRecord, packet_of};
+ghost use Rattle.capture_reader.specs.Readers.{shown_of};
 ghost use Rattle.capture_reader.specs.declared.byte_order.ByteOrder.{ByteOrder};
+ghost use Rattle.capture_reader.specs.declared.packet.Packet.{Packet};
 ghost use Rattle.capture_reader.specs.declared.packet.TheConstants as packet;
+ghost use Rattle.capture_reader.specs.declared.shown.Shown.{Shown};
 
 use crate::block::{Block, BlockKind};
 use crate::byte_order::ByteOrder;
 use crate::heading::{Heading, Resolution};
 use crate::interface::Interface;
-use crate::packet::Record;
+use crate::packet::{Packet, Record};
 use crate::reader::Advance;
 use crate::refusal::{CaptureError, Refusal};
-use crate::shown::{Known, Time};
+use crate::shown::{Known, Shown, Time};
 
 /// Bytes begin with a heading in one way, or are refused with one error, and never both.
 pub fn heading()
@@ -48,7 +51,7 @@ pub fn constants()
     ensures known { Known.NONE ≡ record { link_type = 0; interface = None; time = None; original_len = 0 } }
 {}
 
-/// Values are equal where they are the same.
+/// Values are equal where they are the same, packets by their bytes.
 pub fn comparisons()
     ensures orders { (a b : ByteOrder) → IsTrue (⟦<ByteOrder as PartialEq>⟧.eq a b) ↔ (a ≡ b) }
     ensures kinds { (a b : BlockKind) → IsTrue (⟦<BlockKind as PartialEq>⟧.eq a b) ↔ (a ≡ b) }
@@ -60,4 +63,6 @@ pub fn comparisons()
     ensures refusals { (a b : Refusal) → IsTrue (⟦<Refusal as PartialEq>⟧.eq a b) ↔ (a ≡ b) }
     ensures errors { (a b : CaptureError) → IsTrue (⟦<CaptureError as PartialEq>⟧.eq a b) ↔ (a ≡ b) }
     ensures advances { (a b : Advance) → IsTrue (⟦<Advance as PartialEq>⟧.eq a b) ↔ (a ≡ b) }
+    ensures packets { (a b : Packet) → IsTrue (⟦<Packet<'static> as PartialEq>⟧.eq a b) ↔ (packet_of a ≡ packet_of b) }
+    ensures shown { (a b : Shown) → IsTrue (⟦<Shown<'static> as PartialEq>⟧.eq a b) ↔ (shown_of a ≡ shown_of b) }
 {}
