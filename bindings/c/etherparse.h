@@ -8,8 +8,8 @@
  * - A pointer may be null only where the length beside it is 0, and where the call says so; no two pointers of a call
  *   overlap. A pointer to `len` bytes is to that many bytes, which are at most PTRDIFF_MAX.
  * - But for pools no call keeps a pointer or has a state, and any may be called from many threads at once. None prints.
- *   The calls that build frames or write a text take memory and give it back before they return, and a pool keeps some
- *   until it is freed; no other call takes any. "Memory", below, says from where.
+ *   The call that writes a text takes memory and gives it back before it returns, and a pool keeps some until it is
+ *   freed; no other call takes any. "Memory", below, says from where.
  * - What a call fills in is numbers alone. Nothing in it points anywhere, and but for pools nothing has to be freed.
  *   What stood there before, also in a buffer, is never read.
  * - A call that takes memory, or has a pool, is not for a signal handler, nor for the forked child of a process with
@@ -368,8 +368,7 @@ ETHERPARSE_MUST_USE ETHERPARSE_READS(1, 2) static inline uint16_t etherparse_che
  * - ETHERPARSE_UNKNOWN_CHOICE: the version of the route is neither 4 nor 6, or another number is none of those that its
  *   field says;
  * - ETHERPARSE_TOO_SMALL: the buffer has too few bytes, and `written` says how many the frame has;
- * - ETHERPARSE_TOO_LONG: the payload is too long, or the options are;
- * - ETHERPARSE_OUT_OF_MEMORY.
+ * - ETHERPARSE_TOO_LONG: the payload is too long, or the options are.
  * But for ETHERPARSE_OK the buffer is as it was, and but for ETHERPARSE_TOO_SMALL `written` is then 0.
  *
  * What is not given is 0, but that IPv4 says not to fragment. A frame is not padded to Ethernet's least length. The

@@ -113,7 +113,7 @@ static void writes(const char *name, writing *call, size_t whole) {
         WANT(call(&route, 8, room) == ETHERPARSE_TOO_SMALL);
         WANT(written == whole && is_untouched(0) && blocks == 0);
     }
-    WANT(asked > 0);
+    WANT((asked > 0) == (call == text)); /* to build a frame none is asked for */
     for (unsigned long i = 1; i <= asked; i++) {
         requests = 0, refused = i, written = 7;
         WANT(call(&route, 8, ROOM) == ETHERPARSE_OUT_OF_MEMORY);

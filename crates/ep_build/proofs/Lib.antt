@@ -1,6 +1,7 @@
 pub mod LengthLemmas
 pub mod SizeLemmas
 pub mod WritingLemmas
+pub mod PlacingLemmas
 pub mod LinkReadBackLemmas
 pub mod HeaderListLemmas
 pub mod NetReadBackLemmas

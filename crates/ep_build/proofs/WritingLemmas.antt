@@ -1,7 +1,7 @@
 -- What the calls that write a frame answer, from what the calls answer that they make.
 use Rattle.std.proofs.Common.{◌≡◌, ℕ, ◌+◌, ◌-◌, ◌^◌, ◌<◌, ◌≤◌, Bool, true, false, List, [], ◌∷◌, ◌++◌, length}
 use Rattle.std.proofs.Common.{Some, None, Result, Ok, Err, refl, sym, ap, subst, ◌∙◌, inl, inr, arith}
-use Rattle.std.specs.Prelude.{OnOk, OnErr, is_err, ◌↔◌, nat_lt, slice_index}
+use Rattle.std.specs.Prelude.{OnOk, OnErr, is_err, ◌↔◌, if◌then◌else◌, nat_lt, slice_index}
 use Rattle.std.specs.Result.{IsOk}
 use Rattle.std.proofs.lemmas.Grind.{common_steps}
 use Rattle.std.proofs.lemmas.Bool.{cases_lt}
@@ -16,7 +16,7 @@ use Rattle.ep_base.specs.Tables.{Refuses, first_row, rows_as}
 use Rattle.ep_base.specs.declared.err.value_too_big.ValueTooBigError.{ValueTooBigError}
 use Rattle.ep_base.specs.declared.ether_type.EtherType.{EtherType}
 use Rattle.ep_base.specs.declared.ip_number.IpNumber.{IpNumber}
-use Rattle.ep_base.proofs.TableLemmas.{first_row-append_none, first_row-append_some, first_row-as_none, first_row-as_some}
+use Rattle.ep_base.proofs.TableLemmas.{first_row-append_none, first_row-as_none}
 use Rattle.ep_packet.specs.IpHeaders.{FitIpHeaders, LeadThrough, RefusesLeading, ip_headers_len, of_walk_error}
 use Rattle.ep_packet.specs.declared.err.headers_write_error.HeadersWriteError.{HeadersWriteError}
 use Rattle.ep_packet.specs.declared.err.headers_write_error.HeadersWriteError.TheVariants as write_error
@@ -27,22 +27,22 @@ use Rattle.ep_packet.specs.declared.ip_headers.IpHeaders.{IpHeaders}
 use Rattle.ep_packet.specs.declared.ip_headers.IpHeaders.TheVariants as version
 use Rattle.ep_transport.specs.TransportHeaders.{transport_bytes}
 use Rattle.ep_transport.specs.TransportHeaders.{transport_header_len}
-use Rattle.ep_transport.specs.declared.transport_checksum_error.TransportChecksumError.TheVariants as checksum_error
 use Rattle.ep_transport.specs.declared.transport_header.TransportHeader.{TransportHeader}
 use Rattle.ep_transport.specs.declared.transport_header.TransportHeader.TheVariants as transport
-use Rattle.ep_build.specs.BuildErrors.{IsBuildable, IsBuildError, is_icmpv6_in_ipv4}
+use Rattle.ep_build.specs.BuildErrors.{IsBuildable, is_icmpv6_in_ipv4}
 use Rattle.ep_build.specs.BuiltFragments.{IsFragmentReadBack}
-use Rattle.ep_build.specs.BuiltFrames.{Held, as_ether_type, built_frame, held_transport}
-use Rattle.ep_build.specs.BuiltFrames.{link_before, link_part_bytes, transport_between, transport_number}
+use Rattle.ep_build.specs.BuiltFrames.{Held, as_ether_type, built_frame, held_ip, held_transport}
+use Rattle.ep_build.specs.BuiltFrames.{link_before, link_part_bytes, link_part_len, transport_between, transport_number}
 use Rattle.ep_build.specs.BuiltFrames.{with_checksum_behind, with_length}
 use Rattle.ep_build.specs.declared.err.build_write_error.BuildWriteError.{BuildWriteError}
 use Rattle.ep_build.specs.declared.err.build_write_error.BuildWriteError.TheVariants as error
 use Rattle.ep_build.specs.declared.link_part.LinkPart.{LinkPart}
 use Rattle.ep_build.specs.Fits.{FitsLink, FitsTransport}
+use Rattle.ep_build.specs.Placing.{ArePrepared}
 use Rattle.ep_packet.specs.IpHeaders.{FitsIpHeader}
 use Rattle.ep_build.specs.ReadBack.{IsReadBack, message_of}
-use Rattle.ep_build.proofs.LengthLemmas.{between_len, linked_len, with_checksum_len, with_length_len}
-use Rattle.ep_build.proofs.SizeLemmas.{headers_len}
+use Rattle.ep_build.proofs.LengthLemmas.{between_len, headers_for_len, linked_len}
+use Rattle.ep_build.proofs.SizeLemmas.{headers_len, link_len}
 use Rattle.ep_build.proofs.ReadBackLemmas.{fragment_read_back, read_back}
 
 -- what a call ensures that succeeded
@@ -54,6 +54,11 @@ on_ok (Err e) P there ok = absurd (cc)
 pub on_err : {A E : Type 0} (answer : Result A E) (P : Type 0) → is_err answer ≡ true → OnErr answer P → P
 on_err (Ok a) P failed err = absurd (cc)
 on_err (Err e) P failed err = err
+
+-- what a choice is that was made so
+pub chosen : {A : Type 0} (choice : Bool) (value one other : A) → choice ≡ true
+    → value ≡ (if choice then one else other) → value ≡ one
+chosen choice value one other so is = is ∙ ap (λ (b : Bool). if b then one else other) so
 
 -- a call that fails for want of room alone succeeds where there is room
 pub succeeds : {A E : Type 0} (answer : Result A E) (room needed : ℕ) → OnErr answer (room < needed) → needed ≤ room
@@ -143,21 +148,6 @@ counted headers len fits = passes
     (most_is_small headers)
     fits
 
-within : {E : Type 0} (total most : ℕ) (first second : E) → most ≤ 65535
-    → first_row ((nat_lt (2 ^ 64 - 1) total, first) ∷ (nat_lt most total, second) ∷ []) ≡ None → total ≤ 65535
-within total most first second small none = grind (arith, common_steps)
-
--- and what it does not refuse has a length of 16 bits
-pub unrefused_len : (headers : IpHeaders) (len : ℕ) → first_row (payload_len_rows headers len) ≡ None
-    → len + ip_extensions_len headers ≤ 65535
-unrefused_len headers len none = within
-    (len + ip_extensions_len headers)
-    (most_behind_header headers)
-    _
-    _
-    (most_is_small headers)
-    none
-
 second_row : {E : Type 0} (total most : ℕ) (first second : E) → total < 2 ^ 64 → most < total
     → first_row ((nat_lt (2 ^ 64 - 1) total, first) ∷ (nat_lt most total, second) ∷ []) ≡ Some second
 second_row total most first second small long = grind (arith, common_steps)
@@ -190,14 +180,6 @@ transport_passes link headers behind len none carried =
     first_row-append_none (rows_as error.PayloadLen rows) (icmpv6_rows (is_icmpv6_in_ipv4 headers behind))
     (first_row-as_none error.PayloadLen rows none)
     ∙ icmpv6_row_none (is_icmpv6_in_ipv4 headers behind) carried
-
-pub transport_too_long : (link : LinkPart) (headers : IpHeaders) (behind : TransportHeader) (len : ℕ)
-    (refusal : ValueTooBigError ℕ) → Refuses (payload_len_rows headers (transport_header_len behind + len)) refusal
-    → IsBuildError (held_transport link headers behind) len (error.PayloadLen refusal)
-transport_too_long link headers behind len refusal refused =
-    let rows = payload_len_rows headers (transport_header_len behind + len) in
-    inl (first_row-append_some (rows_as error.PayloadLen rows) (icmpv6_rows (is_icmpv6_in_ipv4 headers behind)) _
-    (first_row-as_some error.PayloadLen rows refusal refused))
 
 -- ---- checksums
 
@@ -260,6 +242,17 @@ is_transport_frame link headers linked behind filled last len type payload is nu
     ++ (written_headers h (ip_headers_parts h) ++ content)) whole
     ∙ ap (λ (t : TransportHeader). built_content link headers behind (transport_bytes t ++ payload)) between
 
+-- the same without one
+pub is_ip_frame : (link : LinkPart) (headers linked : IpHeaders) (last : IpNumber) (type : EtherType) (payload : List ℕ)
+    → linked ≡ headers_for headers last (length payload) → type.0 ≡ ip_headers_type headers
+    → link_part_bytes (link_before link type) ++ (written_headers linked (ip_headers_parts linked) ++ payload)
+    ≡ built_frame (held_ip link headers last) payload
+is_ip_frame link headers linked last type payload is typed =
+    ap (λ (n : ℕ). link_part_bytes (link_before link (as_ether_type n))
+    ++ (written_headers linked (ip_headers_parts linked) ++ payload)) typed
+    ∙ ap (λ (h : IpHeaders). link_part_bytes (link_before link (as_ether_type (ip_headers_type headers)))
+    ++ (written_headers h (ip_headers_parts h) ++ payload)) is
+
 -- a header has as many bytes as it says
 pub transport_len : (header : TransportHeader) → FitsTransport header
     → length (transport_bytes header) ≡ transport_header_len header
@@ -267,14 +260,6 @@ transport_len (transport.Udp header) fits = refl
 transport_len (transport.Tcp header) fits = grind (arith, common_steps)
 transport_len (transport.Icmpv4 header) fits = fits
 transport_len (transport.Icmpv6 header) fits = fits
-
--- a transport header that was filled in has as many bytes as before
-pub filled_len : (headers : IpHeaders) (behind set filled : TransportHeader) (payload : List ℕ)
-    → set ≡ with_length (length payload) behind → filled ≡ with_checksum_behind headers payload set
-    → FitsTransport filled → length (transport_bytes filled) ≡ transport_header_len behind
-filled_len headers behind set filled payload sets sums fits =
-    transport_len filled fits ∙ ap transport_header_len sums ∙ with_checksum_len headers payload set
-    ∙ ap transport_header_len sets ∙ with_length_len (length payload) behind
 
 -- a transport header that was filled in behind linked headers is the one that is written between headers and payload
 between_is : (headers linked : IpHeaders) (behind set filled : TransportHeader) (last : IpNumber) (len : ℕ)
@@ -295,39 +280,75 @@ content_is headers behind filled len payload between counts fits =
     ap transport_header_len between ∙ between_len headers payload behind in
     omega (arith, counts, same, transport_len filled fits, length-append (transport_bytes filled) payload)
 
--- what is written of a transport header that was filled in behind linked headers
-pub transport_ok : (link : LinkPart) (headers linked : IpHeaders) (behind set filled : TransportHeader)
-    (last : IpNumber) (len : ℕ) (type : EtherType) (payload : List ℕ) → linked ≡ headers_for headers last len
-    → last.0 ≡ transport_number behind → set ≡ with_length (length payload) behind
-    → is_icmpv6_in_ipv4 linked set ≡ false → filled ≡ with_checksum_behind linked payload set
-    → len ≡ transport_header_len behind + length payload → FitsTransport filled → type.0 ≡ ip_headers_type headers
-    → first_row (payload_len_rows headers len) ≡ None
-    → IsBuildable (held_transport link headers behind) (length payload)
-    × (link_part_bytes (link_before link type)
-    ++ (written_headers linked (ip_headers_parts linked) ++ (transport_bytes filled ++ payload))
-    ≡ built_frame (held_transport link headers behind) payload)
-transport_ok link headers linked behind set filled last len type payload is number sets carried sums counts fits typed
-    none =
+-- a transport header that was filled in behind linked headers is prepared
+pub are_prepared : (link : LinkPart) (headers linked : IpHeaders) (behind set filled : TransportHeader)
+    (last : IpNumber) (len : ℕ) (type : EtherType) (payload : List ℕ) (link_size headers_size : ℕ)
+    → linked ≡ headers_for headers last len → last.0 ≡ transport_number behind
+    → set ≡ with_length (length payload) behind → is_icmpv6_in_ipv4 linked set ≡ false
+    → filled ≡ with_checksum_behind linked payload set → len ≡ transport_header_len behind + length payload
+    → FitsTransport filled → type.0 ≡ ip_headers_type headers → first_row (payload_len_rows headers len) ≡ None
+    → FitsLink link → FitsIpHeader linked → link_size ≡ link_part_len link → headers_size ≡ ip_headers_len linked
+    → ArePrepared link headers behind payload linked filled type (link_size + headers_size + len)
+are_prepared link headers linked behind set filled last len type payload link_size headers_size is number sets carried
+    sums counts fits typed none fits_link fits_header link_is headers_is =
     let with_len = with_length (length payload) behind in
     let between = between_is headers linked behind set filled last len payload is sets sums in
     let not_icmpv6 : is_icmpv6_in_ipv4 headers behind ≡ false =
     sym (carried_with_length headers (length payload) behind) ∙ sym (carried_linked headers last len with_len)
     ∙ ap (λ (h : IpHeaders). is_icmpv6_in_ipv4 h with_len) (sym is) ∙ ap (is_icmpv6_in_ipv4 linked) (sym sets)
-    ∙ carried in (
-      transport_passes link headers behind (length payload)
-          (subst (λ (n : ℕ). first_row (payload_len_rows headers n) ≡ None) counts none) not_icmpv6,
-      is_transport_frame link headers linked behind filled last len type payload is number between
-          (content_is headers behind filled len payload between counts fits) typed,
+    ∙ carried in
+    let filled_len = ap transport_header_len between ∙ between_len headers payload behind in
+    let linked_len = ap ip_headers_len is ∙ headers_for_len headers last len in
+    record {
+      buildable = transport_passes link headers behind (length payload)
+          (subst (λ (n : ℕ). first_row (payload_len_rows headers n) ≡ None) counts none) not_icmpv6;
+      is_linked = is ∙ ap (λ (n : ℕ). headers_for headers last n) counts
+          ∙ ap (λ (n : ℕ). headers_for headers (record { 0 = n }) (transport_header_len behind + length payload)) number;
+      is_filled = between;
+      typed = typed;
+      fits_link = fits_link;
+      fits_header = fits_header;
+      fits_transport = fits;
+      parts = omega (arith, link_is, headers_is, counts, filled_len);
+      whole = omega (arith, link_is, headers_is, counts, linked_len);
+    }
+
+-- prepared headers and the payload are the frame
+pub prepared_frame : (link : LinkPart) (headers : IpHeaders) (behind : TransportHeader) (payload : List ℕ)
+    (linked : IpHeaders) (filled : TransportHeader) (type : EtherType) (size : ℕ)
+    → ArePrepared link headers behind payload linked filled type size
+    → link_part_bytes (link_before link type)
+    ++ (written_headers linked (ip_headers_parts linked) ++ (transport_bytes filled ++ payload))
+    ≡ built_frame (held_transport link headers behind) payload
+prepared_frame link headers behind payload linked filled type size made =
+    let len = transport_header_len behind + length payload in
+    is_transport_frame link headers linked behind filled (record { 0 = transport_number behind }) len type payload
+    made.is_linked refl made.is_filled
+    (content_is headers behind filled len payload made.is_filled refl made.fits_transport) made.typed
+
+-- and have so many bytes
+pub prepared_len : (link : LinkPart) (headers : IpHeaders) (behind : TransportHeader) (payload : List ℕ)
+    (linked : IpHeaders) (filled : TransportHeader) (type : EtherType) (size : ℕ)
+    → ArePrepared link headers behind payload linked filled type size
+    → size ≡ length (built_frame (held_transport link headers behind) payload)
+prepared_len link headers behind payload linked filled type size made =
+    let front = link_part_bytes (link_before link type) in
+    let written = written_headers linked (ip_headers_parts linked) in
+    omega (
+      arith,
+      made.parts,
+      ap length (prepared_frame link headers behind payload linked filled type size made),
+      length-append front (written ++ (transport_bytes filled ++ payload)),
+      length-append written (transport_bytes filled ++ payload),
+      length-append (transport_bytes filled) payload,
+      link_len link type made.fits_link,
+      headers_len linked made.fits_header,
+      transport_len filled made.fits_transport,
     )
 
 -- what is appended where the frame of what is held is written
 abbrev pub Appends : Held → List ℕ → List ℕ → List ℕ → Type 0
 Appends held payload old new = IsBuildable held (length payload) × (new ≡ old ++ built_frame held payload)
-
--- what is appended where its headers alone are
-abbrev pub AppendsHeaders : Held → List ℕ → List ℕ → List ℕ → Type 0
-AppendsHeaders held payload old new = IsBuildable held (length payload)
-    × (new ++ payload ≡ old ++ built_frame held payload)
 
 -- ---- reading back
 
@@ -343,26 +364,22 @@ fragment_back link headers linked last payload is fits_link header_fits parts_fi
     fragment_read_back link headers last payload fits_link
     (subst FitIpHeaders is (fit_both linked header_fits parts_fit))
 
--- the frame that was appended to some bytes is read back
-pub transport_back : (link : LinkPart) (headers linked : IpHeaders) (behind set filled : TransportHeader)
-    (last : IpNumber) (len : ℕ) (payload before front : List ℕ) → linked ≡ headers_for headers last len
-    → last.0 ≡ transport_number behind → set ≡ with_length (length payload) behind
-    → filled ≡ with_checksum_behind linked payload set → len ≡ transport_header_len behind + length payload
-    → FitsTransport filled → FitsLink link → FitsIpHeader linked → FitParts (ip_headers_parts linked)
-    → AreBytes (before ++ (front ++ (written_headers linked (ip_headers_parts linked)
-    ++ (transport_bytes filled ++ payload)))) → IsReadBack link headers behind payload
-transport_back link headers linked behind set filled last len payload before front is number sets sums counts fits
-    fits_link header_fits parts_fit bytes =
-    let between = between_is headers linked behind set filled last len payload is sets sums in
+-- the frame of prepared headers is read back
+pub prepared_back : (link : LinkPart) (headers : IpHeaders) (behind : TransportHeader) (payload : List ℕ)
+    (linked : IpHeaders) (filled : TransportHeader) (type : EtherType) (size : ℕ)
+    → ArePrepared link headers behind payload linked filled type size → FitParts (ip_headers_parts linked)
+    → AreBytes (link_part_bytes (link_before link type) ++ (written_headers linked (ip_headers_parts linked)
+    ++ (transport_bytes filled ++ payload))) → IsReadBack link headers behind payload
+prepared_back link headers behind payload linked filled type size made parts_fit bytes =
+    let len = transport_header_len behind + length payload in
     let message_is : transport_bytes filled ++ payload ≡ message_of headers behind payload =
-    ap (λ (t : TransportHeader). transport_bytes t ++ payload) between in
+    ap (λ (t : TransportHeader). transport_bytes t ++ payload) made.is_filled in
     let linked_is : linked ≡ headers_for headers (record { 0 = transport_number behind })
     (length (message_of headers behind payload)) =
-    is ∙ ap (λ (n : ℕ). headers_for headers last n)
-    (content_is headers behind filled len payload between counts fits ∙ ap length message_is)
-    ∙ ap (λ (n : ℕ). headers_for headers (record { 0 = n }) (length (message_of headers behind payload))) number in
+    made.is_linked ∙ ap (λ (n : ℕ). headers_for headers (record { 0 = transport_number behind }) n)
+    (content_is headers behind filled len payload made.is_filled refl made.fits_transport ∙ ap length message_is) in
     let message_bytes = AreBytes-back (written_headers linked (ip_headers_parts linked))
-    (transport_bytes filled ++ payload) (AreBytes-back front _ (AreBytes-back before _ bytes)) in
-    read_back link headers behind payload fits_link
-    (subst FitIpHeaders linked_is (fit_both linked header_fits parts_fit)) (subst FitsTransport between fits)
-    (subst AreBytes message_is message_bytes)
+    (transport_bytes filled ++ payload) (AreBytes-back (link_part_bytes (link_before link type)) _ bytes) in
+    read_back link headers behind payload made.fits_link
+    (subst FitIpHeaders linked_is (fit_both linked made.fits_header parts_fit))
+    (subst FitsTransport made.is_filled made.fits_transport) (subst AreBytes message_is message_bytes)

@@ -5,6 +5,7 @@ pub mod Fits
 pub mod ReadBack
 pub mod BuiltFragments
 pub mod AppendedFrames
+pub mod Placing
 -- what the contracts name of the crates below
 pub use Rattle.ep_base.specs.Bytes
 pub use Rattle.ep_base.specs.Tables

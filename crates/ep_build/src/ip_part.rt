@@ -10,10 +10,12 @@ ghost use Rattle.ep_packet.specs.declared.ip_headers.IpHeaders.{IpHeaders};
 ghost use Rattle.ep_transport.specs.TransportHeaders.{transport_header_len};
 ghost use Rattle.ep_build.specs.BuildErrors.{is_icmpv6_in_ipv4};
 ghost use Rattle.ep_build.specs.BuiltFrames.{with_checksum_behind};
+ghost use Rattle.ep_build.specs.Placing.{AreAt};
 ghost use Rattle.ep_build.specs.Steps.{part_headers, plain_ipv4, plain_ipv6};
 
 use crate::err::{BuildWriteError, WriteResult};
 use crate::facts::{ip_header_fits, ipv4_fits, ipv6_fits};
+use crate::placing::{place_authentication, place_extensions, put};
 use ep_base::err::ValueTooBigError;
 use ep_base::{EtherType, IpNumber};
 use ep_ip::{Ipv4Header, Ipv6Header};
@@ -84,6 +86,13 @@ pub(crate) trait IsIpHeaders {
             ≡ buf.old.items ++ written_headers (headers self.now) (ip_headers_parts (headers self.now)) }
         ensures capacity { vec_capacity buf.old ≤ vec_capacity buf.new }
         ensures fits { FitParts (ip_headers_parts (headers self.now)) };
+
+    /// Writes the headers to a slice that has room for them, from this place on, and gives the place behind them.
+    fn place(&mut self, at: usize, slice: &mut [u8]) -> usize
+        requires { at + ip_headers_len (headers self.old) ≤ length slice.old }
+        ensures bytes { AreAt (written_headers (headers self.old) (ip_headers_parts (headers self.old)))
+            slice.old slice.new at result }
+        ensures fits { FitParts (ip_headers_parts (headers self.old)) };
 }
 
 impl IsIpHeaders for Ipv4Header {
@@ -120,6 +129,13 @@ impl IsIpHeaders for Ipv4Header {
     fn append(&self, buf: &mut Vec<u8>) {
         self.write(buf).unwrap();
     }
+
+    #[inline]
+    fn place(&mut self, at: usize, slice: &mut [u8]) -> usize {
+        ipv4_fits(self);
+        self.header_checksum = self.calc_header_checksum();
+        put(self.to_bytes().as_slice(), at, slice)
+    }
 }
 
 impl IsIpHeaders for Ipv6Header {
@@ -152,6 +168,11 @@ impl IsIpHeaders for Ipv6Header {
     fn append(&self, buf: &mut Vec<u8>) {
         self.write(buf).unwrap();
     }
+
+    #[inline]
+    fn place(&mut self, at: usize, slice: &mut [u8]) -> usize {
+        put(&self.to_bytes(), at, slice)
+    }
 }
 
 impl IsIpHeaders for IpHeaders {
@@ -182,5 +203,19 @@ impl IsIpHeaders for IpHeaders {
     fn append(&self, buf: &mut Vec<u8>) {
         ip_header_fits(self);
         self.write(buf).unwrap();
+    }
+
+    fn place(&mut self, at: usize, slice: &mut [u8]) -> usize {
+        ip_header_fits(self);
+        match self {
+            IpHeaders::Ipv4(header, extensions) => {
+                let behind = header.place(at, slice);
+                place_authentication(&extensions.auth, behind, slice)
+            }
+            IpHeaders::Ipv6(header, extensions) => {
+                let behind = header.place(at, slice);
+                place_extensions(extensions, behind, slice)
+            }
+        }
     }
 }

@@ -11,7 +11,7 @@ ghost use Rattle.ep_build.specs.BuiltFrames.{built_frame, held_ip};
 ghost use Rattle.ep_build.specs.Fits.{FitsLink};
 ghost use Rattle.ep_build.specs.declared.link_part.LinkPart.{LinkPart};
 
-use crate::err::BuildWriteError;
+use crate::err::{BuildSliceWriteError, BuildWriteError};
 
 /// A built fragment is read back as the fragment that it was built from: a frame of IP headers that say a fragment,
 /// with a number that is none of an extension header of their version, carries that fragment, whatever entry of its
@@ -29,14 +29,19 @@ pub fn built_fragments()
 /// Errors are equal where they are the same.
 pub fn comparisons()
     ensures write_errors { (a b : BuildWriteError) → IsTrue (⟦<BuildWriteError as PartialEq>⟧.eq a b) ↔ (a ≡ b) }
+    ensures slice_write_errors { (a b : BuildSliceWriteError)
+        → IsTrue (⟦<BuildSliceWriteError as PartialEq>⟧.eq a b) ↔ (a ≡ b) }
 {}
 
 /// A clone equals its source.
 pub fn clones()
     ensures write_errors { (a b : BuildWriteError) → ⟦<BuildWriteError as Clone>⟧.is_clone a b → b ≡ a }
+    ensures slice_write_errors { (a b : BuildSliceWriteError)
+        → ⟦<BuildSliceWriteError as Clone>⟧.is_clone a b → b ≡ a }
 {}
 
 /// A clone takes no memory, and so is there.
 pub fn clones_succeed()
     ensures write_errors { (a : BuildWriteError) → ⟦<BuildWriteError as Clone>⟧.is_infallible a }
+    ensures slice_write_errors { (a : BuildSliceWriteError) → ⟦<BuildSliceWriteError as Clone>⟧.is_infallible a }
 {}

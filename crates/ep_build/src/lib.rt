@@ -7,6 +7,7 @@ mod ip_part;
 pub mod laws;
 mod link_part;
 mod packet_builder;
+mod placing;
 mod writing;
 
 pub use ep_base::err::{ValueTooBigError, ValueType, ipv4_exts, ipv6_exts};

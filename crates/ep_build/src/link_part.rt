@@ -1,8 +1,10 @@
 //! What stands in front of a net layer.
 
 ghost use Rattle.std.specs.Prelude.{◌≡◌, ◌+◌, ◌≤◌, ◌++◌, length, vec_len, vec_capacity};
+ghost use Rattle.ep_build.specs.Placing.{AreAt};
 ghost use Rattle.ep_build.specs.BuiltFrames.{link_before, link_part_bytes, link_part_len, tags_before, tags_len, tags_type};
 
+use crate::placing::put;
 use ep_base::EtherType;
 use ep_link::{
     ArpHardwareId, DoubleVlanHeader, Ethernet2Header, LinuxSllHeader, LinuxSllPacketType,
@@ -53,6 +55,24 @@ impl LinkPart {
             LinkPart::LinuxSll(header) => linux_sll_before(header, ether_type).write(buf).unwrap(),
         }
     }
+
+    /// Writes these headers to the front of a slice that has room for them, and gives the place behind them.
+    #[inline]
+    pub(crate) fn place_before(&self, ether_type: EtherType, slice: &mut [u8]) -> usize
+        requires { length (link_part_bytes (link_before self.now ether_type)) ≤ length slice.old }
+        ensures { AreAt (link_part_bytes (link_before self.now ether_type)) slice.old slice.new 0 result }
+    {
+        match self {
+            LinkPart::Absent => 0,
+            LinkPart::Ethernet2(header) => {
+                put(&ethernet2_before(header, ether_type).to_bytes(), 0, slice)
+            }
+            LinkPart::Tagged(header, tags) => place_tagged(header, tags, ether_type, slice),
+            LinkPart::LinuxSll(header) => {
+                put(&linux_sll_before(header, ether_type).to_bytes(), 0, slice)
+            }
+        }
+    }
 }
 
 /// Appends an Ethernet II header and the tags behind it, before what has this type, for which there is room.
@@ -72,6 +92,30 @@ fn write_tagged(
         .write(buf)
         .unwrap();
     tags_before(tags, ether_type).write(buf).unwrap();
+}
+
+/// Writes an Ethernet II header and the tags behind it to the front of a slice that has room for them.
+fn place_tagged(
+    header: &Ethernet2Header,
+    tags: &VlanHeader,
+    ether_type: EtherType,
+    slice: &mut [u8],
+) -> usize
+    requires { length (link_part_bytes (link_before (LinkPart.Tagged header.now tags.now) ether_type))
+        ≤ length slice.old }
+    ensures { AreAt (link_part_bytes (link_before (LinkPart.Tagged header.now tags.now) ether_type))
+        slice.old slice.new 0 result }
+{
+    let at = put(
+        &ethernet2_before(header, type_before(tags)).to_bytes(),
+        0,
+        slice,
+    );
+    put(
+        tags_before(tags, ether_type).to_bytes().as_slice(),
+        at,
+        slice,
+    )
 }
 
 /// An Ethernet II header before what has this type.

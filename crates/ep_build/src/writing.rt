@@ -1,6 +1,6 @@
 //! Writing the headers that a step holds, and a payload: all checks first, then one reservation, then the bytes.
 
-ghost use Rattle.std.specs.Prelude.{◌≡◌, ◌≤◌, ◌<◌, ◌+◌, ◌++◌, ℕ, [], length, Err, IfErr, OnOk, OnErr};
+ghost use Rattle.std.specs.Prelude.{◌≡◌, ◌≤◌, ◌<◌, ◌+◌, ◌++◌, ℕ, [], length, Err, IfErr, MatchResult, OnOk, OnErr};
 ghost use Rattle.std.specs.Prelude.{vec_capacity, vec_len};
 ghost use Rattle.ep_packet.specs.IpHeaders.{FitsIpHeader, LeadThrough, ip_headers_len, ip_headers_parts};
 ghost use Rattle.ep_packet.specs.IpHeaders.{written_headers};
@@ -9,10 +9,11 @@ ghost use Rattle.ep_transport.specs.TransportHeaders.{transport_header_len};
 ghost use Rattle.ep_ext.specs.Chains.{FitParts};
 ghost use Rattle.ep_build.specs.BuiltFragments.{IsFragmentReadBack};
 ghost use Rattle.ep_build.specs.ReadBack.{IsArpReadBack, IsReadBack};
-ghost use Rattle.ep_build.specs.BuildErrors.{IsBuildable, IsBuildError};
+ghost use Rattle.ep_build.specs.BuildErrors.{IsBuildable, IsBuildError, RefusesBuild};
 ghost use Rattle.ep_build.specs.BuiltFrames.{held_ip, held_transport, held_arp, built_frame, built_size};
 ghost use Rattle.ep_build.specs.BuiltFrames.{link_before, link_part_bytes, link_part_len, transport_number};
 ghost use Rattle.ep_build.specs.BuiltFrames.{with_length};
+ghost use Rattle.ep_build.specs.Placing.{ArePrepared};
 ghost use Rattle.ep_build.specs.Steps.{part_headers};
 
 use crate::err::{BuildWriteError, WriteResult};
@@ -43,68 +44,17 @@ pub(crate) fn write_ip<Headers: IsIpHeaders>(
         < vec_len buf.old + built_size (held_ip link.now (Headers.headers headers.old) last) (length payload.now) }
     ensures capacity { vec_capacity buf.old ≤ vec_capacity buf.new }
 {
-    append_ip(link, headers, last, payload, payload.len(), buf)?;
-    buf.extend_from_slice(payload).unwrap();
-    Ok(())
-}
-
-/// Appends the headers alone of that frame.
-#[inline(never)]
-pub(crate) fn write_ip_headers<Headers: IsIpHeaders>(
-    link: &LinkPart,
-    headers: &mut Headers,
-    last: IpNumber,
-    payload: &[u8],
-    buf: &mut Vec<u8>,
-) -> WriteResult
-    ensures ok { let held = held_ip link.now (Headers.headers headers.old) last in
-        OnOk result (IsBuildable held (length payload.now)
-        × (buf.new.items ++ payload.now ≡ buf.old.items ++ built_frame held payload.now)) }
-    ensures err { OnErr result (buf.new.items ≡ buf.old.items) }
-    ensures refused { IfErr result
-        (IsBuildError (held_ip link.now (Headers.headers headers.old) last) (length payload.now)) }
-    ensures fragment { OnOk result (IsFragmentReadBack link.now (Headers.headers headers.old) last payload.now) }
-    ensures full { result ≡ Err BuildWriteError.OutOfMemory → vec_capacity buf.old
-        < vec_len buf.old + built_size (held_ip link.now (Headers.headers headers.old) last) 0 }
-    ensures capacity { vec_capacity buf.old ≤ vec_capacity buf.new }
-{
-    append_ip(link, headers, last, payload, 0, buf)
-}
-
-/// Appends the headers of the frame of IP headers that lead to this number, and makes room for so many bytes behind
-/// them: all checks first, then one reservation, then the bytes.
-#[inline(always)]
-fn append_ip<Headers: IsIpHeaders>(
-    link: &LinkPart,
-    headers: &mut Headers,
-    last: IpNumber,
-    payload: &[u8],
-    spare: usize,
-    buf: &mut Vec<u8>,
-) -> WriteResult
-    requires { spare ≤ length payload.now }
-    ensures ok { let held = held_ip link.now (Headers.headers headers.old) last in
-        OnOk result (IsBuildable held (length payload.now)
-        × (buf.new.items ++ payload.now ≡ buf.old.items ++ built_frame held payload.now)) }
-    ensures err { OnErr result (buf.new.items ≡ buf.old.items) }
-    ensures refused { IfErr result
-        (IsBuildError (held_ip link.now (Headers.headers headers.old) last) (length payload.now)) }
-    ensures fragment { OnOk result (IsFragmentReadBack link.now (Headers.headers headers.old) last payload.now) }
-    ensures full { result ≡ Err BuildWriteError.OutOfMemory → vec_capacity buf.old
-        < vec_len buf.old + built_size (held_ip link.now (Headers.headers headers.old) last) spare }
-    ensures room { OnOk result (vec_len buf.new + spare ≤ vec_capacity buf.new) }
-    ensures capacity { vec_capacity buf.old ≤ vec_capacity buf.new }
-{
     link_fits(link);
     let ether_type = match headers.link(last, payload.len()) {
         Ok(ether_type) => ether_type,
         Err(error) => return Err(BuildWriteError::PayloadLen(error)),
     };
-    let size = link.header_len() + headers.headers_len() + spare;
+    let size = link.header_len() + headers.headers_len() + payload.len();
     if buf.reserve(size).is_err() {
         return Err(BuildWriteError::OutOfMemory);
     }
     append_headers(link, ether_type, headers, buf);
+    buf.extend_from_slice(payload).unwrap();
     Ok(())
 }
 
@@ -132,32 +82,6 @@ pub(crate) fn write_ip_part(
         IpPart::Plain4(mut header) => write_ip(&link, &mut header, last, payload, buf),
         IpPart::Plain6(mut header) => write_ip(&link, &mut header, last, payload, buf),
         IpPart::Any(mut headers) => write_ip(&link, &mut headers, last, payload, buf),
-    }
-}
-
-/// Appends the headers alone of that frame.
-#[inline(always)]
-pub(crate) fn write_ip_part_headers(
-    link: LinkPart,
-    ip: IpPart,
-    last: IpNumber,
-    payload: &[u8],
-    buf: &mut Vec<u8>,
-) -> WriteResult
-    ensures ok { let held = held_ip link (part_headers ip) last in
-        OnOk result (IsBuildable held (length payload.now)
-        × (buf.new.items ++ payload.now ≡ buf.old.items ++ built_frame held payload.now)) }
-    ensures err { OnErr result (buf.new.items ≡ buf.old.items) }
-    ensures refused { IfErr result (IsBuildError (held_ip link (part_headers ip) last) (length payload.now)) }
-    ensures fragment { OnOk result (IsFragmentReadBack link (part_headers ip) last payload.now) }
-    ensures full { result ≡ Err BuildWriteError.OutOfMemory → vec_capacity buf.old
-        < vec_len buf.old + built_size (held_ip link (part_headers ip) last) 0 }
-    ensures capacity { vec_capacity buf.old ≤ vec_capacity buf.new }
-{
-    match ip {
-        IpPart::Plain4(mut header) => write_ip_headers(&link, &mut header, last, payload, buf),
-        IpPart::Plain6(mut header) => write_ip_headers(&link, &mut header, last, payload, buf),
-        IpPart::Any(mut headers) => write_ip_headers(&link, &mut headers, last, payload, buf),
     }
 }
 
@@ -194,39 +118,6 @@ pub(crate) fn write_behind(
     }
 }
 
-/// Appends the headers alone of that frame.
-#[inline(always)]
-pub(crate) fn write_headers_behind(
-    link: LinkPart,
-    ip: IpPart,
-    mut transport: TransportHeader,
-    payload: &[u8],
-    buf: &mut Vec<u8>,
-) -> WriteResult
-    ensures ok { let held = held_transport link (part_headers ip) transport in
-        OnOk result (IsBuildable held (length payload.now)
-        × (buf.new.items ++ payload.now ≡ buf.old.items ++ built_frame held payload.now)) }
-    ensures err { OnErr result (buf.new.items ≡ buf.old.items) }
-    ensures refused { IfErr result (IsBuildError (held_transport link (part_headers ip) transport)
-        (length payload.now)) }
-    ensures read_back { OnOk result (IsReadBack link (part_headers ip) transport payload.now) }
-    ensures full { result ≡ Err BuildWriteError.OutOfMemory → vec_capacity buf.old
-        < vec_len buf.old + built_size (held_transport link (part_headers ip) transport) 0 }
-    ensures capacity { vec_capacity buf.old ≤ vec_capacity buf.new }
-{
-    match ip {
-        IpPart::Plain4(mut header) => {
-            write_transport_headers(&link, &mut header, &mut transport, payload, buf)
-        }
-        IpPart::Plain6(mut header) => {
-            write_transport_headers(&link, &mut header, &mut transport, payload, buf)
-        }
-        IpPart::Any(mut headers) => {
-            write_transport_headers(&link, &mut headers, &mut transport, payload, buf)
-        }
-    }
-}
-
 /// Appends the frame of IP headers and a transport header, which is that of what the headers lead to.
 #[inline(never)]
 pub(crate) fn write_transport<Headers: IsIpHeaders>(
@@ -247,75 +138,42 @@ pub(crate) fn write_transport<Headers: IsIpHeaders>(
         + built_size (held_transport link.now (Headers.headers headers.old) transport.old) (length payload.now) }
     ensures capacity { vec_capacity buf.old ≤ vec_capacity buf.new }
 {
-    append_transport(link, headers, transport, payload, payload.len(), buf)?;
+    let (ether_type, size) = prepared(link, headers, transport, payload)?;
+    if buf.reserve(size).is_err() {
+        return Err(BuildWriteError::OutOfMemory);
+    }
+    append_headers(link, ether_type, headers, buf);
+    transport.write(buf).unwrap();
     buf.extend_from_slice(payload).unwrap();
     Ok(())
 }
 
-/// Appends the headers alone of that frame.
-#[inline(never)]
-pub(crate) fn write_transport_headers<Headers: IsIpHeaders>(
-    link: &LinkPart,
-    headers: &mut Headers,
-    transport: &mut TransportHeader,
-    payload: &[u8],
-    buf: &mut Vec<u8>,
-) -> WriteResult
-    ensures ok { let held = held_transport link.now (Headers.headers headers.old) transport.old in
-        OnOk result (IsBuildable held (length payload.now)
-        × (buf.new.items ++ payload.now ≡ buf.old.items ++ built_frame held payload.now)) }
-    ensures err { OnErr result (buf.new.items ≡ buf.old.items) }
-    ensures refused { IfErr result
-        (IsBuildError (held_transport link.now (Headers.headers headers.old) transport.old) (length payload.now)) }
-    ensures read_back { OnOk result (IsReadBack link.now (Headers.headers headers.old) transport.old payload.now) }
-    ensures full { result ≡ Err BuildWriteError.OutOfMemory → vec_capacity buf.old < vec_len buf.old
-        + built_size (held_transport link.now (Headers.headers headers.old) transport.old) 0 }
-    ensures capacity { vec_capacity buf.old ≤ vec_capacity buf.new }
-{
-    append_transport(link, headers, transport, payload, 0, buf)
-}
-
-/// Appends the headers of the frame of IP headers and a transport header, and makes room for so many bytes behind them:
-/// all checks first, then one reservation, then the bytes.
+/// Links the headers of a frame, fills in the length and the checksum of its transport header, and gives the ether type
+/// before them and the number of bytes of the frame.
 #[inline(always)]
-fn append_transport<Headers: IsIpHeaders>(
+pub(crate) fn prepared<Headers: IsIpHeaders>(
     link: &LinkPart,
     headers: &mut Headers,
     transport: &mut TransportHeader,
     payload: &[u8],
-    spare: usize,
-    buf: &mut Vec<u8>,
-) -> WriteResult
-    requires { spare ≤ length payload.now }
-    ensures ok { let held = held_transport link.now (Headers.headers headers.old) transport.old in
-        OnOk result (IsBuildable held (length payload.now)
-        × (buf.new.items ++ payload.now ≡ buf.old.items ++ built_frame held payload.now)) }
-    ensures err { OnErr result (buf.new.items ≡ buf.old.items) }
-    ensures refused { IfErr result
-        (IsBuildError (held_transport link.now (Headers.headers headers.old) transport.old) (length payload.now)) }
-    ensures read_back { OnOk result (IsReadBack link.now (Headers.headers headers.old) transport.old payload.now) }
-    ensures full { result ≡ Err BuildWriteError.OutOfMemory → vec_capacity buf.old < vec_len buf.old
-        + built_size (held_transport link.now (Headers.headers headers.old) transport.old) spare }
-    ensures room { OnOk result (vec_len buf.new + spare ≤ vec_capacity buf.new) }
-    ensures capacity { vec_capacity buf.old ≤ vec_capacity buf.new }
+) -> Result<(EtherType, usize), BuildWriteError>
+    ensures { MatchResult result
+        (λ made. ArePrepared link.now (Headers.headers headers.old) transport.old payload.now
+        (Headers.headers headers.new) transport.new made.0 made.1)
+        (RefusesBuild (held_transport link.now (Headers.headers headers.old) transport.old) (length payload.now)) }
 {
     link_fits(link);
     let last = number_of(transport);
-    let transport_len = transport.header_len();
-    let ether_type = match headers.link(last, transport_len + payload.len()) {
+    let content_len = transport.header_len() + payload.len();
+    let ether_type = match headers.link(last, content_len) {
         Ok(ether_type) => ether_type,
         Err(error) => return Err(BuildWriteError::PayloadLen(error)),
     };
     set_length(transport, payload.len());
     headers.set_checksum(transport, payload)?;
     transport_fits(transport);
-    let size = link.header_len() + headers.headers_len() + transport_len + spare;
-    if buf.reserve(size).is_err() {
-        return Err(BuildWriteError::OutOfMemory);
-    }
-    append_headers(link, ether_type, headers, buf);
-    transport.write(buf).unwrap();
-    Ok(())
+    let size = link.header_len() + headers.headers_len() + content_len;
+    Ok((ether_type, size))
 }
 
 /// Appends the frame of an ARP packet.

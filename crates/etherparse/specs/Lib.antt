@@ -111,6 +111,7 @@ pub use Rattle.ep_build.specs.BuildErrors
 pub use Rattle.ep_build.specs.BuiltFragments
 pub use Rattle.ep_build.specs.BuiltFrames
 pub use Rattle.ep_build.specs.Fits
+pub use Rattle.ep_build.specs.Placing
 pub use Rattle.ep_build.specs.ReadBack
 pub use Rattle.ep_build.specs.Steps
 -- putting fragments together

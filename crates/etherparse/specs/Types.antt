@@ -136,6 +136,7 @@ pub use Rattle.ep_lax.specs.declared.lax_macsec_slice.LaxMacsecSlice
 pub use Rattle.ep_lax.specs.declared.lax_net_slice.LaxNetSlice
 pub use Rattle.ep_lax.specs.declared.lax_sliced_packet.LaxSlicedPacket
 -- building
+pub use Rattle.ep_build.specs.declared.err.build_slice_write_error.BuildSliceWriteError
 pub use Rattle.ep_build.specs.declared.err.build_write_error.BuildWriteError
 pub use Rattle.ep_build.specs.declared.link_part.LinkPart
 pub use Rattle.ep_build.specs.declared.packet_builder.PacketBuilderStep

@@ -218,7 +218,7 @@ pub mod err {
 
     /// The errors of whole packets.
     pub mod packet {
-        pub use ep_build::err::BuildWriteError;
+        pub use ep_build::err::{BuildSliceWriteError, BuildWriteError};
         pub use ep_packet::err::SliceError;
         pub use ep_transport::TransportChecksumError;
     }

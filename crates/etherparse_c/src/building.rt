@@ -1,23 +1,20 @@
 //! Building a frame into the caller's buffer.
 
-ghost use Rattle.std.specs.Prelude.{◌≡◌, ◌<◌, ◌≤◌, ◌++◌, ◌⊎◌, MatchResult, length};
-ghost use Rattle.etherparse.specs.BuildErrors.{IsBuildable, IsBuildError};
-ghost use Rattle.etherparse.specs.BuiltFrames.{built_frame};
+ghost use Rattle.std.specs.Prelude.{◌≡◌, MatchResult};
+ghost use Rattle.etherparse.specs.Placing.{FillsFront};
 ghost use Rattle.etherparse.specs.Steps.{held_behind};
 ghost use Rattle.etherparse.specs.Types.TransportHeader.{TransportHeader};
 ghost use Rattle.etherparse.specs.Types.TransportHeader.TheVariants as transport;
 ghost use Rattle.etherparse_c.specs.Building.{IsBuildAnswer, IsBuilt, echo_header, echo_of, icmpv4_echo, icmpv6_echo};
 ghost use Rattle.etherparse_c.specs.Building.{tcp_of, udp_between};
-ghost use Rattle.etherparse_c.specs.Placing.{IsPlaced};
+ghost use Rattle.etherparse_c.specs.Placing.{IsTold};
 
 use crate::numbers;
-use crate::placing::both_placed;
 use crate::route::{Route, TcpFields};
-use etherparse::err::packet::BuildWriteError;
+use etherparse::err::packet::BuildSliceWriteError;
 use etherparse::{
     IcmpEchoHeader, Icmpv4Type, Icmpv6Type, IpHeaders, PacketBuilder, PacketBuilderStep, TcpHeader,
 };
-use std::alloc::Global;
 
 /// Writes the frame of a UDP datagram with this payload to the front of `buffer`, with lengths and checksums, and the
 /// number of its bytes to `written`. The status is 0 where it did; 2 where the version of `route` is none, 3 where the
@@ -25,7 +22,6 @@ use std::alloc::Global;
 /// length fields, 5 where there was no memory: then the buffer is as it was.
 #[unsafe(no_mangle)]
 pub extern "C" fn etherparse_1_build_udp(
-    alloc: Global,
     route: &Route,
     source_port: u16,
     destination_port: u16,
@@ -40,13 +36,12 @@ pub extern "C" fn etherparse_1_build_udp(
         source_port,
         destination_port,
     };
-    build(alloc, route, ports, payload, buffer, written)
+    build(route, ports, payload, buffer, written)
 }
 
 /// The same of a TCP segment.
 #[unsafe(no_mangle)]
 pub extern "C" fn etherparse_1_build_tcp(
-    alloc: Global,
     route: &Route,
     fields: &TcpFields,
     payload: &[u8],
@@ -56,13 +51,12 @@ pub extern "C" fn etherparse_1_build_tcp(
     ensures { IsBuildAnswer route.now (tcp_of fields.now) payload.now
         buffer.old buffer.new written.new result }
 {
-    build(alloc, route, tcp_header(fields), payload, buffer, written)
+    build(route, tcp_header(fields), payload, buffer, written)
 }
 
 /// The same of an echo request (`is_reply` is 0) or an echo reply of the route's version of ICMP.
 #[unsafe(no_mangle)]
 pub extern "C" fn etherparse_1_build_icmp_echo(
-    alloc: Global,
     route: &Route,
     is_reply: u8,
     id: u16,
@@ -80,27 +74,23 @@ pub extern "C" fn etherparse_1_build_icmp_echo(
         id,
         seq,
     };
-    build(alloc, route, echo, payload, buffer, written)
+    build(route, echo, payload, buffer, written)
 }
 
 /// A step of the builder that holds IP headers.
 pub(crate) type IpStep = PacketBuilderStep<IpHeaders>;
 
-/// Whether the headers of a frame were appended.
-pub(crate) type Written = Result<(), BuildWriteError>;
+/// What a call answers that writes a frame to the front of a slice.
+pub(crate) type Filled = Result<usize, BuildSliceWriteError>;
 
 /// What a frame has behind its IP headers, besides the payload.
 pub(crate) trait IsBehind: Drop {
     /// The transport header that it is.
     ghost header: { Self → TransportHeader };
 
-    /// Appends the headers of the frame of these IP headers, the transport header and the payload.
-    fn write_headers(self, step: IpStep, headers: &mut Vec<u8>, payload: &[u8]) -> Written
-        ensures { let held = held_behind step (header self) in
-            MatchResult result
-            (λ _. IsBuildable held (length payload.now)
-            × (headers.new.items ++ payload.now ≡ headers.old.items ++ built_frame held payload.now))
-            (IsBuildError held (length payload.now)) };
+    /// Writes the frame of these IP headers, the transport header and the payload to the front of the buffer.
+    fn fill(self, step: IpStep, payload: &[u8], buffer: &mut [u8]) -> Filled
+        ensures { FillsFront (held_behind step (header self)) payload.now buffer.old buffer.new result };
 }
 
 /// The ports of a UDP datagram.
@@ -123,9 +113,9 @@ impl IsBehind for UdpPorts {
     ghost header = { λ ports. udp_between ports.source_port ports.destination_port };
 
     #[inline(always)]
-    fn write_headers(self, step: IpStep, headers: &mut Vec<u8>, payload: &[u8]) -> Written {
+    fn fill(self, step: IpStep, payload: &[u8], buffer: &mut [u8]) -> Filled {
         step.udp(self.source_port, self.destination_port)
-            .write_headers(headers, payload)
+            .write_to_slice(buffer, payload)
     }
 }
 
@@ -133,8 +123,8 @@ impl IsBehind for TcpHeader {
     ghost header = { transport.Tcp };
 
     #[inline(always)]
-    fn write_headers(self, step: IpStep, headers: &mut Vec<u8>, payload: &[u8]) -> Written {
-        step.tcp_header(self).write_headers(headers, payload)
+    fn fill(self, step: IpStep, payload: &[u8], buffer: &mut [u8]) -> Filled {
+        step.tcp_header(self).write_to_slice(buffer, payload)
     }
 }
 
@@ -142,13 +132,13 @@ impl IsBehind for Echo {
     ghost header = { λ echo. echo_header echo.is_ipv4 echo.is_reply echo.id echo.seq };
 
     #[inline(always)]
-    fn write_headers(self, step: IpStep, headers: &mut Vec<u8>, payload: &[u8]) -> Written {
+    fn fill(self, step: IpStep, payload: &[u8], buffer: &mut [u8]) -> Filled {
         if self.is_ipv4 {
             step.icmpv4(icmpv4_echo(self.is_reply, self.id, self.seq))
-                .write_headers(headers, payload)
+                .write_to_slice(buffer, payload)
         } else {
             step.icmpv6(icmpv6_echo(self.is_reply, self.id, self.seq))
-                .write_headers(headers, payload)
+                .write_to_slice(buffer, payload)
         }
     }
 }
@@ -157,7 +147,6 @@ impl IsBehind for Echo {
 /// of the builder, which is inlined: so no step is moved.
 #[inline(always)]
 pub(crate) fn build<Behind: IsBehind>(
-    alloc: Global,
     route: &Route,
     behind: Behind,
     payload: &[u8],
@@ -173,29 +162,27 @@ pub(crate) fn build<Behind: IsBehind>(
         let (from, to) = (route.ipv4_source, route.ipv4_destination);
         if route.with_ethernet == 0 {
             let step = PacketBuilder::ipv4(from, to, route.hop_limit);
-            return write_behind(alloc, step, behind, payload, buffer, written);
+            return write_behind(step, behind, payload, buffer, written);
         }
         let step = PacketBuilder::ethernet2(source, destination).ipv4(from, to, route.hop_limit);
-        return write_behind(alloc, step, behind, payload, buffer, written);
+        return write_behind(step, behind, payload, buffer, written);
     }
     if route.version == 6 {
         let (from, to) = (route.ipv6_source, route.ipv6_destination);
         if route.with_ethernet == 0 {
             let step = PacketBuilder::ipv6(from, to, route.hop_limit);
-            return write_behind(alloc, step, behind, payload, buffer, written);
+            return write_behind(step, behind, payload, buffer, written);
         }
         let step = PacketBuilder::ethernet2(source, destination).ipv6(from, to, route.hop_limit);
-        return write_behind(alloc, step, behind, payload, buffer, written);
+        return write_behind(step, behind, payload, buffer, written);
     }
     *written = 0;
     numbers::UNKNOWN_CHOICE
 }
 
-/// Builds the frame of these IP headers and what stands behind them at the front of the buffer. Memory is taken for the
-/// headers alone, and the payload is copied once.
+/// Builds the frame of these IP headers and what stands behind them at the front of the buffer.
 #[inline(always)]
 pub(crate) fn write_behind<Behind: IsBehind>(
-    alloc: Global,
     step: IpStep,
     behind: Behind,
     payload: &[u8],
@@ -205,9 +192,7 @@ pub(crate) fn write_behind<Behind: IsBehind>(
     ensures { IsBuilt (held_behind step (Behind.header behind)) payload.now
         buffer.old buffer.new written.new result }
 {
-    let mut headers = Vec::new(alloc);
-    let built = behind.write_headers(step, &mut headers, payload);
-    copied(built, headers.as_slice(), payload, buffer, written)
+    told(behind.fill(step, payload, buffer), written)
 }
 
 /// The TCP header of these fields.
@@ -260,28 +245,18 @@ fn icmpv6_echo(is_reply: u8, id: u16, seq: u16) -> Icmpv6Type
     }
 }
 
-/// Copies the headers that were built, and the payload behind them, to the front of the buffer, where it has room, and
-/// answers the status.
-pub(crate) fn copied(
-    built: Written,
-    headers: &[u8],
-    payload: &[u8],
-    buffer: &mut [u8],
-    written: &mut usize,
-) -> u32
-    ensures { MatchResult built
-        (λ _. IsPlaced (headers.now ++ payload.now) buffer.old buffer.new written.new result)
-        (λ error. (written.new ≡ 0) × (buffer.new ≡ buffer.old)
-        × (((error ≡ BuildWriteError.OutOfMemory) × (result ≡ 5))
-        ⊎ ((error ≡ BuildWriteError.OutOfMemory → ⊥) × (result ≡ 4)))) }
+/// Tells the number of bytes of the frame that was built, or for which the buffer is too small, and answers the status.
+#[inline]
+pub(crate) fn told(filled: Filled, written: &mut usize) -> u32
+    ensures { MatchResult filled
+        (λ len. (result ≡ 0) × (written.new ≡ len))
+        (λ error. IsTold error written.new result) }
 {
-    if let Err(error) = built {
-        *written = 0;
-        return if error.is_out_of_memory() {
-            numbers::OUT_OF_MEMORY
-        } else {
-            numbers::TOO_LONG
-        };
-    }
-    both_placed(headers, payload, buffer, written)
+    let (len, status) = match filled {
+        Ok(len) => (len, numbers::OK),
+        Err(BuildSliceWriteError::Space(len)) => (len, numbers::TOO_SMALL),
+        Err(BuildSliceWriteError::Build(_)) => (0, numbers::TOO_LONG),
+    };
+    *written = len;
+    status
 }

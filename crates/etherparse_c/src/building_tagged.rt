@@ -6,7 +6,7 @@ ghost use Rattle.etherparse_c.specs.Building.{IsBuilt, echo_of, tcp_of, udp_betw
 ghost use Rattle.etherparse_c.specs.TaggedBuilding.{IsFragmentAnswer, IsOptionsAnswer, IsTaggedAnswer};
 ghost use Rattle.etherparse_c.specs.TaggedBuilding.{fragment_headers, route_tags};
 
-use crate::building::{Echo, IpStep, IsBehind, UdpPorts, build, copied, tcp_header, write_behind};
+use crate::building::{Echo, IpStep, IsBehind, UdpPorts, build, tcp_header, told, write_behind};
 use crate::numbers;
 use crate::route::{FragmentFields, Route, TaggedRoute, TcpFields};
 use etherparse::{
@@ -14,13 +14,11 @@ use etherparse::{
     Ipv6Extensions, Ipv6FragmentHeader, Ipv6Header, PacketBuilder, SingleVlanHeader, VlanHeader,
     VlanId, VlanPcp,
 };
-use std::alloc::Global;
 
 /// What `etherparse_1_build_udp` does, behind the VLAN tags of the route. The status is 2 too where there are more than
 /// two tags, tags without an Ethernet II header, or an identifier above 4095.
 #[unsafe(no_mangle)]
 pub extern "C" fn etherparse_1_build_tagged_udp(
-    alloc: Global,
     route: &TaggedRoute,
     source_port: u16,
     destination_port: u16,
@@ -35,14 +33,13 @@ pub extern "C" fn etherparse_1_build_tagged_udp(
         source_port,
         destination_port,
     };
-    build_tagged(alloc, route, ports, payload, buffer, written)
+    build_tagged(route, ports, payload, buffer, written)
 }
 
 /// The same of a TCP segment, whose header has options of these bytes, filled up by zero bytes to words of 4. The
 /// status is 4 too where they have more than 40.
 #[unsafe(no_mangle)]
 pub extern "C" fn etherparse_1_build_tagged_tcp(
-    alloc: Global,
     route: &TaggedRoute,
     fields: &TcpFields,
     options: &[u8],
@@ -55,7 +52,7 @@ pub extern "C" fn etherparse_1_build_tagged_tcp(
 {
     let mut header = tcp_header(fields);
     match header.set_options_raw(options) {
-        Ok(()) => build_tagged(alloc, route, header, payload, buffer, written),
+        Ok(()) => build_tagged(route, header, payload, buffer, written),
         Err(_) => {
             *written = 0;
             numbers::TOO_LONG
@@ -66,7 +63,6 @@ pub extern "C" fn etherparse_1_build_tagged_tcp(
 /// The same of an echo request (`is_reply` is 0) or an echo reply of the route's version of ICMP.
 #[unsafe(no_mangle)]
 pub extern "C" fn etherparse_1_build_tagged_icmp_echo(
-    alloc: Global,
     route: &TaggedRoute,
     is_reply: u8,
     id: u16,
@@ -84,14 +80,13 @@ pub extern "C" fn etherparse_1_build_tagged_icmp_echo(
         id,
         seq,
     };
-    build_tagged(alloc, route, echo, payload, buffer, written)
+    build_tagged(route, echo, payload, buffer, written)
 }
 
 /// The same of a fragment of a longer payload, of which `payload` has the bytes from the fragment's offset on. The
 /// status is 2 too where the offset is no multiple of 8, or of IPv4 the identification has more than 16 bits.
 #[unsafe(no_mangle)]
 pub extern "C" fn etherparse_1_build_fragment(
-    alloc: Global,
     route: &TaggedRoute,
     fields: &FragmentFields,
     payload: &[u8],
@@ -110,15 +105,15 @@ pub extern "C" fn etherparse_1_build_fragment(
         if route.tag_count == 0 {
             if route.route.with_ethernet == 0 {
                 let step = PacketBuilder::ip(headers);
-                return write_ip(alloc, step, number, payload, buffer, written);
+                return write_ip(step, number, payload, buffer, written);
             }
             let step = start.ip(headers);
-            return write_ip(alloc, step, number, payload, buffer, written);
+            return write_ip(step, number, payload, buffer, written);
         }
         if route.route.with_ethernet != 0 {
             if let Some(tags) = route_tags(route) {
                 let step = start.vlan(tags).ip(headers);
-                return write_ip(alloc, step, number, payload, buffer, written);
+                return write_ip(step, number, payload, buffer, written);
             }
         }
     }
@@ -129,7 +124,6 @@ pub extern "C" fn etherparse_1_build_fragment(
 /// Builds the frame of a route with tags and what stands behind its IP headers, as `build` does of one without.
 #[inline(always)]
 fn build_tagged<Behind: IsBehind>(
-    alloc: Global,
     tagged: &TaggedRoute,
     behind: Behind,
     payload: &[u8],
@@ -140,7 +134,7 @@ fn build_tagged<Behind: IsBehind>(
         buffer.old buffer.new written.new result }
 {
     if tagged.tag_count == 0 {
-        return build(alloc, &tagged.route, behind, payload, buffer, written);
+        return build(&tagged.route, behind, payload, buffer, written);
     }
     let route = tagged.route;
     if route.with_ethernet != 0 {
@@ -149,12 +143,12 @@ fn build_tagged<Behind: IsBehind>(
             if route.version == 4 {
                 let (from, to) = (route.ipv4_source, route.ipv4_destination);
                 let step = start.vlan(tags).ipv4(from, to, route.hop_limit);
-                return write_behind(alloc, step, behind, payload, buffer, written);
+                return write_behind(step, behind, payload, buffer, written);
             }
             if route.version == 6 {
                 let (from, to) = (route.ipv6_source, route.ipv6_destination);
                 let step = start.vlan(tags).ipv6(from, to, route.hop_limit);
-                return write_behind(alloc, step, behind, payload, buffer, written);
+                return write_behind(step, behind, payload, buffer, written);
             }
         }
     }
@@ -163,19 +157,13 @@ fn build_tagged<Behind: IsBehind>(
 }
 
 /// Builds the frame of these IP headers and a payload of this protocol number at the front of the buffer.
-fn write_ip(
-    alloc: Global,
-    step: IpStep,
-    number: u8,
-    payload: &[u8],
-    buffer: &mut [u8],
-    written: &mut usize,
-) -> u32
+fn write_ip(step: IpStep, number: u8, payload: &[u8], buffer: &mut [u8], written: &mut usize) -> u32
     ensures { IsBuilt (ip_held step (record { 0 = number })) payload.now buffer.old buffer.new written.new result }
 {
-    let mut headers = Vec::new(alloc);
-    let built = step.write_headers(&mut headers, IpNumber(number), payload);
-    copied(built, headers.as_slice(), payload, buffer, written)
+    told(
+        step.write_to_slice(buffer, IpNumber(number), payload),
+        written,
+    )
 }
 
 /// The VLAN tags of a route, where there are one or two, and each identifier has its 12 bits.

@@ -1,6 +1,5 @@
 //! Bytes for the caller's buffer.
 
-ghost use Rattle.std.specs.Prelude.{◌++◌};
 ghost use Rattle.etherparse_c.specs.Placing.{IsPlaced};
 
 use crate::numbers;
@@ -15,24 +14,5 @@ pub(crate) fn placed(bytes: &[u8], buffer: &mut [u8], written: &mut usize) -> u3
         return numbers::TOO_SMALL;
     }
     buffer[..bytes.len()].copy_from_slice(bytes);
-    numbers::OK
-}
-
-/// The same of bytes that lie apart: the second stand behind the first.
-pub(crate) fn both_placed(
-    first: &[u8],
-    second: &[u8],
-    buffer: &mut [u8],
-    written: &mut usize,
-) -> u32
-    ensures { IsPlaced (first.now ++ second.now) buffer.old buffer.new written.new result }
-{
-    let len = first.len() + second.len();
-    *written = len;
-    if buffer.len() < len {
-        return numbers::TOO_SMALL;
-    }
-    buffer[..first.len()].copy_from_slice(first);
-    buffer[first.len()..len].copy_from_slice(second);
     numbers::OK
 }

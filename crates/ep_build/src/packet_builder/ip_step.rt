@@ -8,15 +8,17 @@ ghost use Rattle.ep_transport.specs.declared.transport_header.TransportHeader.Th
 ghost use Rattle.ep_base.specs.declared.ip_number.IpNumber.{IpNumber};
 ghost use Rattle.ep_build.specs.BuildErrors.{IsBuildable, IsBuildError};
 ghost use Rattle.ep_build.specs.BuiltFrames.{built_frame, built_size};
+ghost use Rattle.ep_build.specs.Placing.{FillsFront};
 ghost use Rattle.ep_build.specs.Steps.{IpStepReadsBack, held_behind, ip_held, ip_step_size, transport_held};
 
 use super::PacketBuilderStep;
 use super::holds_headers::HoldsHeaders;
-use crate::err::BuildWriteError;
+use crate::err::{BuildSliceWriteError, BuildWriteError};
 use crate::facts::link_fits;
 use crate::ip_part::IpPart;
 use crate::link_part::LinkPart;
-use crate::writing::{write_ip_part, write_ip_part_headers};
+use crate::placing::place_ip_part;
+use crate::writing::write_ip_part;
 use ep_base::IpNumber;
 use ep_packet::IpHeaders;
 use ep_transport::{
@@ -203,33 +205,26 @@ impl PacketBuilderStep<IpHeaders> {
         )
     }
 
-    /// Appends the headers of the frame that `write` appends, with lengths over this payload, and not the payload: for a
-    /// caller that writes the payload elsewhere, as into a buffer of its own. What is appended, and the payload behind
-    /// it, are that frame. The refusals are those of `write`, but memory is wanted for the headers alone.
+    /// Writes the frame of the headers and this payload to the front of the slice, and gives the number of its bytes.
+    /// What stands behind the frame stays as it was. A refusal leaves the slice as it was: it has too few bytes, or the
+    /// payload and the extension headers are longer than the length field can count. Memory is not taken.
     #[inline(always)]
-    pub fn write_headers(
+    pub fn write_to_slice(
         self,
-        buf: &mut Vec<u8>,
+        slice: &mut [u8],
         last_next_header_ip_number: IpNumber,
         payload: &[u8],
-    ) -> Result<(), BuildWriteError>
-        ensures ok { let held = ip_held self last_next_header_ip_number in
-            OnOk result (IsBuildable held (length payload.now)
-            × (buf.new.items ++ payload.now ≡ buf.old.items ++ built_frame held payload.now)) }
-        ensures err { OnErr result (buf.new.items ≡ buf.old.items) }
-        ensures refused { IfErr result
-            (IsBuildError (ip_held self last_next_header_ip_number) (length payload.now)) }
+    ) -> Result<usize, BuildSliceWriteError>
+        ensures filled { FillsFront (ip_held self last_next_header_ip_number) payload.now
+            slice.old slice.new result }
         ensures fragment { OnOk result (IpStepReadsBack self last_next_header_ip_number payload.now) }
-        ensures full { result ≡ Err BuildWriteError.OutOfMemory → vec_capacity buf.old
-            < vec_len buf.old + built_size (ip_held self last_next_header_ip_number) 0 }
-        ensures capacity { vec_capacity buf.old ≤ vec_capacity buf.new }
     {
-        write_ip_part_headers(
+        place_ip_part(
             self.before,
             self.last,
             last_next_header_ip_number,
             payload,
-            buf,
+            slice,
         )
     }
 

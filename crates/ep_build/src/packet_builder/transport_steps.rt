@@ -3,15 +3,17 @@
 ghost use Rattle.std.specs.Prelude.{◌≡◌, ◌+◌, ◌<◌, ◌≤◌, ◌^◌, ◌++◌, ℕ, List, length, Err, IfErr, OnOk, OnErr, vec_len, vec_capacity};
 ghost use Rattle.ep_build.specs.BuildErrors.{IsBuildable, IsBuildError};
 ghost use Rattle.ep_build.specs.BuiltFrames.{built_frame, built_size};
+ghost use Rattle.ep_build.specs.Placing.{FillsFront};
 ghost use Rattle.ep_build.specs.Steps.{StepReadsBack, transport_held};
 
 use super::PacketBuilderStep;
 use super::holds_headers::{HoldsHeaders, IsTransport};
-use crate::err::BuildWriteError;
+use crate::err::{BuildSliceWriteError, BuildWriteError};
 use crate::facts::link_fits;
 use crate::ip_part::IpPart;
 use crate::link_part::LinkPart;
-use crate::writing::{write_behind, write_headers_behind};
+use crate::placing::place_behind;
+use crate::writing::write_behind;
 
 impl<
     Transport: HoldsHeaders<Before = (LinkPart, IpPart), Held = Transport> + IsTransport,
@@ -39,25 +41,21 @@ impl<
         write_behind(link, ip, transport, payload, buf)
     }
 
-    /// Appends the headers of the frame that `write` appends, with lengths and checksums over this payload, and not the
-    /// payload: for a caller that writes the payload elsewhere, as into a buffer of its own. What is appended, and the
-    /// payload behind it, are that frame. The refusals are those of `write`, but memory is wanted for the headers alone.
+    /// Writes the frame of the headers and this payload to the front of the slice, and gives the number of its bytes.
+    /// What stands behind the frame stays as it was. A refusal leaves the slice as it was: it has too few bytes, or a
+    /// refusal of `write` but for want of memory, which is not taken.
     #[inline(always)]
-    pub fn write_headers(self, buf: &mut Vec<u8>, payload: &[u8]) -> Result<(), BuildWriteError>
-        ensures ok { let held = transport_held Transport.kind self in
-            OnOk result (IsBuildable held (length payload.now)
-            × (buf.new.items ++ payload.now ≡ buf.old.items ++ built_frame held payload.now)) }
-        ensures err { OnErr result (buf.new.items ≡ buf.old.items) }
-        ensures refused { IfErr result
-            (IsBuildError (transport_held Transport.kind self) (length payload.now)) }
+    pub fn write_to_slice(
+        self,
+        slice: &mut [u8],
+        payload: &[u8],
+    ) -> Result<usize, BuildSliceWriteError>
+        ensures filled { FillsFront (transport_held Transport.kind self) payload.now slice.old slice.new result }
         ensures read_back { OnOk result (StepReadsBack Transport.kind self payload.now) }
-        ensures full { result ≡ Err BuildWriteError.OutOfMemory → vec_capacity buf.old
-            < vec_len buf.old + built_size (transport_held Transport.kind self) 0 }
-        ensures capacity { vec_capacity buf.old ≤ vec_capacity buf.new }
     {
         let transport = self.last.into_transport();
         let (link, ip) = self.before;
-        write_headers_behind(link, ip, transport, payload, buf)
+        place_behind(link, ip, transport, payload, slice)
     }
 
     /// The number of bytes of the frame with a payload of this many bytes. Their sum must be a `usize`.

@@ -1,6 +1,6 @@
 //! Built frames: rows from outside; refusals; and that the greatest are written where there is memory.
 
-use crate::err::packet::BuildWriteError;
+use crate::err::packet::{BuildSliceWriteError, BuildWriteError};
 use crate::tests::checks::{same, shows};
 use crate::tests::samples::*;
 use crate::*;

@@ -4,7 +4,7 @@
 use crate::defrag::*;
 use crate::err::ip::HeadersWriteError;
 use crate::err::net::NetSetNextHeaderError;
-use crate::err::packet::{BuildWriteError, SliceError};
+use crate::err::packet::{BuildSliceWriteError, BuildWriteError, SliceError};
 use crate::*;
 use std::error::Error;
 use std::fmt::Debug;
@@ -44,6 +44,7 @@ fn errors() {
     is_error::<NetSetNextHeaderError>();
     is_error::<HeadersWriteError>();
     is_error::<BuildWriteError>();
+    is_error::<BuildSliceWriteError>();
 }
 
 #[test]

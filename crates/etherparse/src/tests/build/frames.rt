@@ -272,19 +272,6 @@ fn udp(rt: HostRuntime) {
     are_built(&rt, rt.alloc(), &frames, &parts);
 }
 
-/// The headers of a frame with its payload behind them; and those of a packet alone.
-#[test]
-fn headers_apart(rt: HostRuntime) {
-    let mut frames = Vec::new(rt.alloc());
-    let udp = ethernet_ipv4().udp(21, 1234);
-    let written = udp.write_headers(&mut frames, PAYLOAD);
-    same(&rt, &written, &Ok(()));
-    frames.extend_from_slice(PAYLOAD).expect(&rt, "no memory");
-    let written = ipv6().write_headers(&mut frames, IpNumber::UDP, UDP_6);
-    same(&rt, &written, &Ok(()));
-    are_built(&rt, rt.alloc(), &frames, &[ETHERNET, IP, UDP, IP_6]);
-}
-
 /// A segment of the payload is appended.
 fn push_tcp(rt: &impl Abort, frames: &mut Vec<u8>, tcp: PacketBuilderStep<TcpHeader>) {
     let written = tcp.write(frames, PAYLOAD);

@@ -92,6 +92,14 @@ fn texts_of_lengths(rt: HostRuntime) {
         "Ipv4PayloadLength: 65516 is above 65515",
     );
     shows(&rt, alloc, &BuildWriteError::OutOfMemory, "out of memory");
+    let text = "slice is too small: the frame has 50 bytes";
+    shows(&rt, alloc, &BuildSliceWriteError::Space(50), text);
+    shows(
+        &rt,
+        alloc,
+        &BuildSliceWriteError::Build(BuildWriteError::OutOfMemory),
+        "out of memory",
+    );
     let text = "address size defined in the ARP header does not match the actual size";
     shows(&rt, alloc, &BuildWriteError::ArpHeaderNotMatch, text);
 }

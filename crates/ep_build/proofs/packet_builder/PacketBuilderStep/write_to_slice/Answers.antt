@@ -2,11 +2,11 @@ use Rattle.std.proofs.Common.{subst}
 use Rattle.std.specs.Prelude.{OnOk}
 use Rattle.ep_build.specs.ReadBack.{IsReadBack}
 use Rattle.ep_build.specs.Steps.{part_headers}
-use Rattle.ep_build.proofs.packet_builder.PacketBuilderStep.write_headers.Goals as goal
+use Rattle.ep_build.proofs.packet_builder.PacketBuilderStep.write_to_slice.Goals as goal
 
 pub returns-clause-read_back : goal.returns-clause-read_back
 returns-clause-read_back g c =
     let step = c.args.self in
-    subst (λ t. OnOk c.write_headers_behind.result
+    subst (λ t. OnOk c.place_behind.result
     (IsReadBack step.before.0 (part_headers step.before.1) t c.args.payload.now))
-    c.into_transport-transport.ensures c.write_headers_behind.ensures.read_back
+    c.into_transport-transport.ensures c.place_behind.ensures.read_back

@@ -3,8 +3,8 @@ use Rattle.ep_packet.specs.IpHeaders.{LeadThrough, ip_headers_len, ip_headers_pa
 use Rattle.ep_packet.specs.declared.ip_headers.IpHeaders.{IpHeaders}
 use Rattle.ep_packet.proofs.IpHeadersLemmas.{leads}
 use Rattle.ep_build.proofs.LengthLemmas.{headers_for_len}
-use Rattle.ep_build.proofs.WritingLemmas.{fragment_back, on_err}
-use Rattle.ep_build.proofs.writing.append_ip.Goals as goal
+use Rattle.ep_build.proofs.WritingLemmas.{fragment_back, on_err, on_ok}
+use Rattle.ep_build.proofs.writing.write_ip.Goals as goal
 
 pub append_headers-requires-clause-leads : goal.append_headers-requires-clause-leads
 append_headers-requires-clause-leads g c = subst
@@ -29,3 +29,13 @@ returns-then-is_err-clause-full g c wanting =
       ap ip_headers_len c.in-Ok.ensures.1,
       headers_for_len headers c.args.last (length c.args.payload.now),
     )
+
+pub unwrap-requires : goal.unwrap-requires
+unwrap-requires g c = c.extend_from_slice.ensures.succeeds (omega (
+  arith,
+  on_ok c.reserve.result _ c.if-is_err.ensures.negation c.reserve.ensures.ok,
+  c.header_len.ensures.value,
+  c.headers_len.ensures.value,
+  c.append_headers.ensures.len,
+  c.append_headers.ensures.capacity,
+))

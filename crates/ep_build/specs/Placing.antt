@@ -1,0 +1,65 @@
+-- Bytes in a slice, and what building a frame into one answers.
+use Rattle.std.specs.Prelude.{◌≡◌, ℕ, ◌+◌, ◌<◌, ◌≤◌, List, ◌++◌, length, take, drop, Result, MatchResult}
+use Rattle.ep_base.specs.declared.ether_type.EtherType.{EtherType}
+use Rattle.ep_ext.specs.Chains.{FitParts, parts_bytes}
+use Rattle.ep_ext.specs.ExtensionParts.{ExtensionPart}
+use Rattle.ep_packet.specs.IpHeaders.{FitsIpHeader, headers_for, ip_headers_len, ip_headers_type}
+use Rattle.ep_packet.specs.declared.ip_headers.IpHeaders.{IpHeaders}
+use Rattle.ep_transport.specs.TransportHeaders.{transport_header_len}
+use Rattle.ep_transport.specs.declared.transport_header.TransportHeader.{TransportHeader}
+use Rattle.ep_build.specs.BuildErrors.{IsBuildable, RefusesBuild}
+use Rattle.ep_build.specs.BuiltFrames.{Held, built_frame, built_size, held_transport, link_part_len}
+use Rattle.ep_build.specs.BuiltFrames.{transport_between, transport_number}
+use Rattle.ep_build.specs.Fits.{FitsLink, FitsTransport}
+use Rattle.ep_build.specs.declared.err.build_slice_write_error.BuildSliceWriteError.{BuildSliceWriteError}
+use Rattle.ep_build.specs.declared.err.build_slice_write_error.BuildSliceWriteError.TheVariants as error
+use Rattle.ep_build.specs.declared.link_part.LinkPart.{LinkPart}
+
+-- ---- bytes
+
+-- the bytes stand in the slice from one place up to the other, and around them it is as it was
+pub record AreAt (bytes old new : List ℕ) (at end : ℕ) : Type 0 where
+  pub fits : at + length bytes ≤ length old
+  pub ends : end ≡ at + length bytes
+  pub is : new ≡ take at old ++ (bytes ++ drop (at + length bytes) old)
+
+-- the same of extension headers, whose fields fit their places
+pub record PartsAreAt (parts : List ExtensionPart) (old new : List ℕ) (at end : ℕ) : Type 0 where
+  pub bytes : AreAt (parts_bytes parts) old new at end
+  pub fit : FitParts parts
+
+-- ---- headers that are about to be written
+
+-- The headers are linked, and the transport header has its length and checksum: with the ether type before them, and
+-- the number of bytes of the frame.
+pub record ArePrepared (part : LinkPart) (headers : IpHeaders) (behind : TransportHeader) (payload : List ℕ)
+    (linked : IpHeaders) (filled : TransportHeader) (type : EtherType) (size : ℕ) : Type 0 where
+  pub buildable : IsBuildable (held_transport part headers behind) (length payload)
+  pub is_linked : linked ≡ headers_for headers (record { 0 = transport_number behind })
+      (transport_header_len behind + length payload)
+  pub is_filled : filled ≡ transport_between headers payload behind
+  pub typed : type.0 ≡ ip_headers_type headers
+  pub fits_link : FitsLink part
+  pub fits_header : FitsIpHeader linked
+  pub fits_transport : FitsTransport filled
+  pub parts : size ≡ link_part_len part + (ip_headers_len linked + (transport_header_len filled + length payload))
+  pub whole : size ≡ built_size (held_transport part headers behind) (length payload)
+
+-- ---- frames
+
+-- why a frame was not built into a slice of this length: it has too few bytes, and how many are needed; or a row of the
+-- builder's table
+abbrev pub RefusesFilling : Held → List ℕ → ℕ → BuildSliceWriteError → Type 0
+RefusesFilling held payload len (error.Space needed) =
+    IsBuildable held (length payload) × (needed ≡ length (built_frame held payload)) × (len < needed)
+RefusesFilling held payload len (error.Build refusal) = RefusesBuild held (length payload) refusal
+
+-- The frame stands at the front of the slice, which behind it is as it was, and its number of bytes is answered. A
+-- refusal leaves the slice as it was.
+abbrev pub FillsFront : Held → List ℕ → List ℕ → List ℕ → Result ℕ BuildSliceWriteError → Type 0
+FillsFront held payload old new result =
+    let frame = built_frame held payload in
+    MatchResult result
+    (λ len. IsBuildable held (length payload) × (len ≡ length frame) × (len ≤ length old)
+    × (new ≡ frame ++ drop len old))
+    (λ refusal. RefusesFilling held payload (length old) refusal × (new ≡ old))
