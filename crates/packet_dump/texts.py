@@ -92,7 +92,7 @@ row(ETHERNET, eth(0x05DC, b"abc"), f"{ETH} length 1500 len 3")
 row(ETHERNET, eth(0x8100, b"\0\5\0\3abc"), f"{ETH} vlan:5 length 3 len 3")
 row(COOKED, sll(1, protocol=4, data=b"abc"), "sll broadcast from 02:00:00:00:00:01 len 3")
 row(ETHERNET, eth(0x05DD, b"abc"), f"{ETH} type 0x05dd len 3")
-row(OTHER, b"abc", "link 105")
+row(OTHER, b"abc", "link 105 len 3")
 
 # TCP: each flag, and all of them.
 for flags, letters in [(0, ""), (2, "S"), (1, "F"), (4, "R"), (8, "P"), (32, "U"), (64, "E"), (128, "C"), (256, "N")]:
@@ -199,7 +199,7 @@ short(ETHERNET, eth(0x0800, v4(17, b"", first=0x46)), "Ipv4Header", 24, 20, "Sli
 cut = "stopped UdpHeader: 8 bytes needed"
 short(ETHERNET, eth(0x0800, v4(17, udp(b""))), "Ipv4Packet", 28, 27, "Slice", 14, lax=f"{ETH} {V4} udp 21 > 1234 {cut}, 7 there (limit Slice, offset 34) incomplete", kept=41)
 short(ETHERNET, eth(0x0800, v4(17, udp(b""), total=19)), "Ipv4Packet", 20, 19, "Ipv4HeaderTotalLen", 14, lax=f"{ETH} {V4} udp 21 > 1234 len 0")
-short(RAW, v4(6, tcp(2, b"abcd")), "Ipv4Packet", 44, 42, "Slice", 0, lax=f"{V4} tcp 80 > 4000 [S] seq 1 len 2 incomplete", kept=42)
+short(RAW, v4(6, tcp(2, b"abcd")), "Ipv4Packet", 44, 42, "Slice", 0, lax=f"{V4} tcp 80 > 4000 [S] seq 1 len 2 of 4 incomplete", kept=42)
 short(ETHERNET, eth(0x0800, v4(51, auth[:11])), "IpAuthHeader", 12, 11, "Ipv4HeaderTotalLen", 34, f"{ETH} {V4}")
 wrong(RAW, v4(51, auth[:1] + b"\0" + auth[2:]), "Ipv4Exts ZeroPayloadLen", V4)
 short(ETHERNET, eth(0x86DD, v6(17, b"")[:39]), "Ipv6Header", 40, 39, "Slice", 14, ETH)
@@ -211,7 +211,7 @@ wrong(RAW, v6(60, bytes(16)), "Ipv6Exts HopByHopNotAtStart", f"{V6} destination-
 wrong(RAW, v6(51, auth[:1] + b"\0" + auth[2:]), "Ipv6Exts ZeroPayloadLen", V6)
 short(ETHERNET, eth(0x0800, v4(17, udp(b"")[:7])), "UdpHeader", 8, 7, "Ipv4HeaderTotalLen", 34, f"{ETH} {V4} udp 21 > 1234")
 short(ETHERNET, eth(0x0800, v4(17, udp(b"", length=7))), "UdpHeader", 8, 7, "UdpHeaderLen", 34, lax=f"{ETH} {V4} udp 21 > 1234 len 0")
-short(ETHERNET, eth(0x86DD, v6(17, udp(b"", length=9))), "UdpPayload", 9, 8, "Ipv6HeaderPayloadLen", 54, lax=f"{ETH} {V6} udp 21 > 1234 len 0 incomplete")
+short(ETHERNET, eth(0x86DD, v6(17, udp(b"", length=9))), "UdpPayload", 9, 8, "Ipv6HeaderPayloadLen", 54, lax=f"{ETH} {V6} udp 21 > 1234 len 0 of 1 incomplete")
 short(ETHERNET, eth(0x0800, v4(6, tcp(0)[:19])), "TcpHeader", 20, 19, "Ipv4HeaderTotalLen", 34, f"{ETH} {V4} tcp 80 > 4000 [] seq 1")
 short(RAW, v4(6, tcp(0x1FF)[:14]), "TcpHeader", 20, 14, "Ipv4HeaderTotalLen", 20, f"{V4} tcp 80 > 4000 [SFRPAUECN] seq 1 ack 2")
 short(RAW, v4(6, tcp(2)[:13]), "TcpHeader", 20, 13, "Ipv4HeaderTotalLen", 20, f"{V4} tcp 80 > 4000")
@@ -258,6 +258,50 @@ refused(110, 24, False, 8, "Received a IP fragment (offset + len: 32) which conf
 row(RAW, v4(6, tcp(2)[:16], 111, 0x2000), f"{V4} fragment id 111 offset 0 more tcp 80 > 4000 [S] seq 1 protocol 6 TCP len 16")
 
 
+# Payloads of which bytes are missing: how many the headers say there are, each of them in turn.
+def missing(packet, kept, text, front=V4, v6=False):
+    """A packet of IP of which so many bytes are kept."""
+    lens = ("Ipv6Packet", 40) if v6 else ("Ipv4Packet", 20)
+    short(RAW, packet, lens[0], len(packet), kept, "Slice", 0, lax=f"{front} {text}", kept=kept)
+
+
+ten = b"0123456789"
+missing(v4(17, udp(ten)), 31, "udp 21 > 1234 len 3 of 10 incomplete")
+missing(v6(17, udp(ten)), 48, "udp 21 > 1234 len 0 of 10 incomplete", V6, True)
+missing(v4(17, udp(ten, length=108)), 31, "udp 21 > 1234 len 3 of 100 incomplete")
+missing(v4(17, udp(ten, length=12)), 31, "udp 21 > 1234 len 3 of 4 incomplete")
+missing(v4(17, udp(ten, length=11)), 31, "udp 21 > 1234 len 3")
+missing(v4(17, udp(ten, length=10)), 31, "udp 21 > 1234 len 2")
+missing(v4(17, udp(ten, length=8)), 31, "udp 21 > 1234 len 0")
+missing(v4(17, udp(ten, length=7)), 31, "udp 21 > 1234 len 3 of 10 incomplete")
+missing(v4(17, udp(ten, length=0)), 31, "udp 21 > 1234 length 0 len 3 of 10 incomplete")
+missing(v4(17, udp(ten, length=0)), 28, "udp 21 > 1234 len 0 of 10 incomplete")
+missing(v4(51, auth + udp(ten)), 49, "authentication udp 21 > 1234 len 9 of 10 incomplete")
+options = v4(6, bytes(8) + tcp(2, ten), first=0x47)
+missing(options, 49, "tcp 80 > 4000 [S] seq 1 len 1 of 10 incomplete")
+missing(v6(0, bytes.fromhex("0600010400000000") + tcp(2, ten)), 69, f"hop-by-hop tcp 80 > 4000 [S] seq 1 len 1 of 10 incomplete", V6, True)
+missing(v4(1, icmp(8, 0, numbers) + ten), 30, "icmpv4 echo-request id 1 seq 2 len 2 of 10 incomplete")
+missing(v6(58, icmp(128, 0, numbers) + ten), 48, "icmpv6 echo-request id 1 seq 2 len 0 of 10 incomplete", V6, True)
+missing(v4(99, ten), 20, "protocol 99 len 0 of 10 incomplete")
+missing(v4(17, udp(bytes(8)), 112, 0x2000), 28, "fragment id 112 offset 0 more udp 21 > 1234 protocol 17 UDP len 8 of 16 incomplete")
+missing(v6(44, bytes.fromhex("1100000800000070") + ten), 49, "fragment id 112 offset 8 protocol 17 UDP len 1 of 10 incomplete", V6, True)
+
+# The same behind a TCP header that is cut, of which 14 bytes are there, and whose own length can be right.
+segment = tcp(2, b"\2\4\5\xb4" + ten, offset=6)
+cut = "stopped TcpHeader: 24 bytes needed"
+missing(v4(6, segment), 43, f"tcp 80 > 4000 [S] seq 1 len 0 of 10 {cut}, 23 there (limit Slice, offset 20) incomplete")
+missing(v6(6, segment), 60, f"tcp 80 > 4000 [S] seq 1 len 0 of 10 {cut}, 20 there (limit Slice, offset 40) incomplete", V6, True)
+missing(v4(6, segment[:24]), 40, f"tcp 80 > 4000 [S] seq 1 len 0 {cut}, 20 there (limit Slice, offset 20) incomplete")
+missing(v4(6, segment[:23]), 40, f"tcp 80 > 4000 [S] seq 1 {cut}, 20 there (limit Slice, offset 20) incomplete")
+cut = "stopped TcpHeader: 20 bytes needed"
+missing(v4(6, segment), 34, f"tcp 80 > 4000 [S] seq 1 len 0 of 10 {cut}, 14 there (limit Slice, offset 20) incomplete")
+missing(v4(6, segment), 33, f"tcp 80 > 4000 {cut}, 13 there (limit Slice, offset 20) incomplete")
+missing(v4(6, tcp(2, ten, offset=4)), 40, "tcp 80 > 4000 [S] seq 1 stopped Tcp DataOffsetTooSmall 4 incomplete")
+missing(v4(6, tcp(2, ten, offset=4)), 34, f"tcp 80 > 4000 [S] seq 1 {cut}, 14 there (limit Slice, offset 20) incomplete")
+missing(v4(6, segment, 113, 0x2000), 40, "fragment id 113 offset 0 more tcp 80 > 4000 [S] seq 1 protocol 6 TCP len 20 of 34 incomplete")
+row(OTHER, b"abcde", "link 105 len 2", kept=2)
+
+
 def counted(name, line):
     """How often a layer stands in a line; ports that are told of a header that is not read are no layer."""
     if name in ("udp ", "tcp ") and (" protocol " in line or " stopped " in line):
@@ -271,6 +315,7 @@ def refusals(word, lines):
     for line in lines:
         if f" {word} " in line:
             why = line.split(f" {word} ")[1]
+            why = why.split(" incomplete")[0]
             name = why.split(":")[0] if ":" in why else why.rstrip(" 0123456789")
             names[name] = names.get(name, 0) + 1
     yield f"{word}: {sum(names.values())}"

@@ -15,14 +15,14 @@ use Rattle.etherparse.specs.Types.Entry.TheVariants.{Ip}
 use Rattle.etherparse.specs.Types.LaxSlicedPacket.{LaxSlicedPacket}
 use Rattle.etherparse.specs.Types.Layer.{Layer}
 use Rattle.etherparse.specs.Types.SliceError.{SliceError}
-use Rattle.packet_dump.specs.LayerTexts.{incomplete_text, inner_text, outer_text, transport_front_text, unread_in}
+use Rattle.packet_dump.specs.LayerTexts.{incomplete_text, inner_in, outer_text, refused_front_text}
 use Rattle.packet_dump.specs.PacketContents.{Content, packet}
 
 -- what stands in the outer layers of a quoted packet, which is mostly cut: where a layer is refused, what is told of its
 -- front
 abbrev pub quoted_rest : Layers → Option (SliceError × Layer) → List ℕ
-quoted_rest layers None = inner_text layers.transport (unread_in layers)
-quoted_rest layers (Some stop) = transport_front_text layers.net
+quoted_rest layers None = inner_in layers
+quoted_rest layers (Some stop) = refused_front_text layers.net
 
 -- a quoted packet: its layers, as of any other
 abbrev pub quoted_text : LaxLayers → List ℕ

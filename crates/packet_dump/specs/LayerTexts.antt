@@ -16,6 +16,7 @@ use Rattle.etherparse.specs.StrictFrames.{layers_in}
 use Rattle.etherparse.specs.TransportParts.{TransportLayer}
 use Rattle.packet_dump.specs.Addresses.{hex_text}
 use Rattle.packet_dump.specs.Links.{extensions_text, link_text}
+use Rattle.packet_dump.specs.Missing.{cut_payload_text, whole_text}
 use Rattle.packet_dump.specs.Nets.{begins_payload, net_text}
 use Rattle.packet_dump.specs.SliceErrorTexts.{stop_text}
 use Rattle.packet_dump.specs.Transports.{header_front_text, len_text, transport_text}
@@ -85,14 +86,22 @@ abbrev pub inner_text : Option TransportLayer → List ℕ → List ℕ
 inner_text (Some layer) unread = transport_text layer
 inner_text None unread = unread
 
+-- the same of some layers, and how many bytes the last payload has, where some are missing
+abbrev pub inner_in : Layers → List ℕ
+inner_in layers = inner_text layers.transport (unread_in layers) ++ whole_text layers
+
+-- what is told of a transport header that is refused, and of the length of what lies behind it
+abbrev pub refused_front_text : Option NetLayer → List ℕ
+refused_front_text net = transport_front_text net ++ cut_payload_text net
+
 -- the layers outside the payload of the net layer, from the outside in
 abbrev pub outer_text : Layers → List ℕ
 outer_text layers = link_text layers.link ++ extensions_text layers.link_exts ++ net_text layers.net
 
 -- what stands in them, or why the layer that does is refused
 abbrev pub rest_text : Layers → Option (SliceError × Layer) → List ℕ
-rest_text layers None = inner_text layers.transport (unread_in layers)
-rest_text layers (Some stop) = transport_front_text layers.net ++ stop_text stop.0
+rest_text layers None = inner_in layers
+rest_text layers (Some stop) = refused_front_text layers.net ++ stop_text stop.0
 
 -- that bytes of the last payload are missing which a length field says are there
 abbrev pub incomplete_text : Bool → List ℕ

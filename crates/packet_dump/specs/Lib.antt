@@ -5,6 +5,7 @@ pub mod Dumps
 pub mod IcmpTexts
 pub mod LayerTexts
 pub mod Links
+pub mod Missing
 pub mod Nets
 pub mod Openings
 pub mod PacketLines

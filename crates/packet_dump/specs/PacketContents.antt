@@ -23,6 +23,7 @@ use Rattle.packet_dump.specs.LayerTexts.{packet_text}
 use Rattle.packet_dump.specs.Openings.{is_cooked, opening_of}
 use Rattle.packet_dump.specs.Rows.{rows_text}
 use Rattle.packet_dump.specs.SliceErrorTexts.{refusal_text}
+use Rattle.packet_dump.specs.Transports.{len_text}
 use Rattle.packet_dump.specs.declared.openings.Opening.{Opening}
 use Rattle.packet_dump.specs.declared.dump_options.DumpOptions.{DumpOptions}
 use Rattle.packet_dump.specs.declared.dump_options.Kind.{Kind}
@@ -97,11 +98,11 @@ Holds strict link bytes content =
     × HoldsBehind strict opening (drop opening.skipped bytes) content)
     ⊎ ((opening_of link bytes ≡ None) × (content ≡ other_link link))
 
--- its text
-abbrev pub content_text : Content → List ℕ
-content_text (packet read) = packet_text read
-content_text (refusal error) = refusal_text error
-content_text (other_link number) = codes " link " ++ decimal number
+-- the text of what bytes hold: of those that are not read the link type, and their number
+abbrev pub content_text : List ℕ → Content → List ℕ
+content_text bytes (packet read) = packet_text read
+content_text bytes (refusal error) = refusal_text error
+content_text bytes (other_link number) = codes " link " ++ decimal number ++ len_text bytes
 
 -- ---- kinds
 

@@ -55,7 +55,7 @@ end_text verbose shown rows =
 -- kept, and the bytes where they are wanted.
 abbrev pub line_text : DumpOptions → ℕ → Option ℕ → PlainShown → Content → List ℕ → List ℕ
 line_text options number first shown content details =
-    start_text options.time number first shown ++ content_text content ++ details
+    start_text options.time number first shown ++ content_text shown.bytes content ++ details
     ++ end_text options.verbose shown (bytes_text options.hex (shown_bytes options.whole content shown.bytes))
 
 -- whether a packet that holds this is shown: its kind is, and the words of the filter hold

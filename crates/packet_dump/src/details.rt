@@ -7,7 +7,7 @@ ghost use Rattle.etherparse.specs.StrictFrames.{layers_in};
 ghost use Rattle.packet_dump.specs.Details.{AreDetails, AreTold, IsQuote, IsQuoteOf, interface_text, quoted_by};
 ghost use Rattle.packet_dump.specs.Details.{quoted_rest, quoted_text};
 
-use crate::layers::{push_incomplete, push_inner, push_outer, push_transport_front};
+use crate::layers::{push_incomplete, push_inner, push_outer, push_refused_front};
 use detail_texts::quoted_packet;
 use etherparse::{Entry, LaxSlicedPacket};
 use line_io::decimals;
@@ -105,7 +105,7 @@ fn push_quoted_rest(output: &mut Vec<u8>, read: &LaxSlicedPacket<'_>) -> Result<
         quoted_rest (layers_in layers) layers.net.inside.stop)) }
 {
     match &read.stop_err {
-        Some(_) => push_transport_front(output, &read.net),
+        Some(_) => push_refused_front(output, &read.net),
         None => push_inner(output, read),
     }
 }

@@ -8,14 +8,15 @@ ghost use Rattle.etherparse.specs.LaxViews.{lax_extensions_of, lax_net_layer_of}
 ghost use Rattle.etherparse.specs.LinkSlices.{link_layer_of};
 ghost use Rattle.etherparse.specs.Payloads.{ether_payload_in, payload_ether_type_in};
 ghost use Rattle.etherparse.specs.StrictFrames.{extension_in, layers_in};
-ghost use Rattle.packet_dump.specs.LayerTexts.{ether_type_text, has_lengths, incomplete_text, is_length, named_type_text, inner_text, ip_payload_text, name_text, outer_text};
-ghost use Rattle.packet_dump.specs.LayerTexts.{packet_text, payload_front_text, protocol_text, rest_text};
+ghost use Rattle.packet_dump.specs.LayerTexts.{ether_type_text, has_lengths, incomplete_text, inner_in, is_length, named_type_text, inner_text, ip_payload_text, name_text, outer_text};
+ghost use Rattle.packet_dump.specs.LayerTexts.{packet_text, payload_front_text, protocol_text, refused_front_text, rest_text};
 ghost use Rattle.packet_dump.specs.LayerTexts.{transport_front_text, type_text, unread_in};
 ghost use Rattle.packet_dump.specs.Links.{extensions_text};
 ghost use Rattle.packet_dump.specs.SliceErrorTexts.{stop_text};
 
 use crate::addresses::push_hex;
 use crate::links::{push_extensions, push_link};
+use crate::missing::{push_cut_payload, push_whole};
 use crate::nets::{begins_payload, push_net};
 use crate::refusals::push_stop;
 use crate::transports::{push_header_front, push_len, push_transport};
@@ -71,14 +72,35 @@ fn push_stopped(
     error: &SliceError,
 ) -> Result<(), AllocError>
     ensures { OnOk result (output.new.items ≡ output.old.items
-        ++ (transport_front_text (option_map lax_net_layer_of net.now) ++ stop_text error.now)) }
+        ++ (refused_front_text (option_map lax_net_layer_of net.now) ++ stop_text error.now)) }
 {
-    push_transport_front(output, net)?;
+    push_refused_front(output, net)?;
     push_stop(output, error)
 }
 
-/// Appends the text of the transport layer, or else of what no layer was read in.
+/// Appends what is told of a transport header that is refused, and of the length of what lies behind it.
+pub fn push_refused_front(
+    output: &mut Vec<u8>,
+    net: &Option<LaxNetSlice<'_>>,
+) -> Result<(), AllocError>
+    ensures { OnOk result (output.new.items
+        ≡ output.old.items ++ refused_front_text (option_map lax_net_layer_of net.now)) }
+{
+    push_transport_front(output, net)?;
+    push_cut_payload(output, net)
+}
+
+/// Appends the text of the transport layer, or else of what no layer was read in, and how many bytes the last payload
+/// has, where some are missing.
 pub fn push_inner(output: &mut Vec<u8>, read: &LaxSlicedPacket<'_>) -> Result<(), AllocError>
+    ensures { OnOk result (output.new.items ≡ output.old.items ++ inner_in (layers_in (lax_layers_of read.now))) }
+{
+    push_there(output, read)?;
+    push_whole(output, read)
+}
+
+/// Appends the text of the transport layer, or else of what no layer was read in.
+fn push_there(output: &mut Vec<u8>, read: &LaxSlicedPacket<'_>) -> Result<(), AllocError>
     ensures { OnOk result (output.new.items ≡ output.old.items ++ (let layers = layers_in (lax_layers_of read.now) in
         inner_text layers.transport (unread_in layers))) }
 {
@@ -99,7 +121,7 @@ pub fn push_incomplete(output: &mut Vec<u8>, incomplete: bool) -> Result<(), All
 }
 
 /// Appends what is told of a transport header that is not read, since it is cut, or stands in a first fragment.
-pub fn push_transport_front(
+fn push_transport_front(
     output: &mut Vec<u8>,
     net: &Option<LaxNetSlice<'_>>,
 ) -> Result<(), AllocError>

@@ -30,6 +30,7 @@ use crate::pooling::Pooling;
 use crate::refusals::push_refusal;
 use crate::rows::push_rows;
 use crate::summary::Summary;
+use crate::transports::push_len;
 use capture_reader::{Shown, Time};
 use etherparse::err::packet::SliceError;
 use etherparse::laws::lax::strict_frames;
@@ -359,6 +360,7 @@ fn push_other(
     }
     push_start(output, options.time, parts)?;
     decimals::push_behind(output, b" link ", u64::from(parts.shown.link_type))?;
+    push_len(output, parts.shown.bytes)?;
     push_end(output, &parts.shown, options, parts.shown.bytes)
 }
 

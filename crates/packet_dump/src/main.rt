@@ -30,6 +30,7 @@ pub mod laws;
 mod layers;
 mod lines;
 mod links;
+mod missing;
 mod nets;
 mod openings;
 mod options;
@@ -73,7 +74,8 @@ much of it was kept. Without FILE, or where it is -, standard input is read.
 
 What is there of a packet is read. Where a layer is cut or wrong, the line says
 'stopped' and why behind those in front of it, and only 'refused' where it is
-the first. 'incomplete': bytes are missing that a length field says are there.
+the first. 'len 22 of 1448 incomplete': of 1448 bytes, by a length field, 22 are
+there.
 
   -c, --count N      stop behind the Nth packet that is read, shown or not; as
                      all values, also --count=N
@@ -118,7 +120,7 @@ the first. 'incomplete': bytes are missing that a length field says are there.
 
 Read are Ethernet (link type 1), IP alone (12, 14, 101, 228, 229), the loopback
 of BSD (0, 108) and Linux cooked captures (113, 276). A packet of another link
-type has a line with its number, as: 7 1.500000 link 105
+type has a line with its number, as: 7 1.500000 link 105 len 40
 
 A summary follows a live run where only tcpdump is interrupted:
 tcpdump -U -w - | (trap '' INT; packet_dump --summary)

@@ -1,0 +1,157 @@
+//! How many bytes of a payload are missing, by the lengths that the headers in front of it say.
+
+ghost use Rattle.std.specs.Prelude.{◌≡◌, ◌≤◌, ◌<◌, ◌+◌, ◌^◌, ◌++◌, OnOk, length};
+ghost use Rattle.std.specs.Option.{option_copied, option_map};
+ghost use Rattle.etherparse.specs.LaxPackets.{lax_layers_of};
+ghost use Rattle.etherparse.specs.LaxSlices.{lax_ip_payload_of};
+ghost use Rattle.etherparse.specs.LaxViews.{lax_net_layer_of};
+ghost use Rattle.etherparse.specs.StrictFrames.{layers_in};
+ghost use Rattle.etherparse.specs.TransportParts.{transport_layer_of};
+ghost use Rattle.packet_dump.specs.Missing.{behind_tcp_text, behind_text, cut_payload_text, missing_behind, missing_in};
+ghost use Rattle.packet_dump.specs.Missing.{missing_within, net_missing, of_text, tells_header, whole_text};
+
+use crate::bytes::byte_at;
+use crate::nets::begins_payload;
+use etherparse::{LaxIpPayloadSlice, LaxNetSlice, LaxSlicedPacket, TransportSlice};
+use line_io::decimals;
+use std::alloc::AllocError;
+
+/// How many bytes of a payload are missing behind headers of so many bytes, of a layer that has so many by its header.
+fn missing_behind(says: usize, headers: usize, payload: &[u8]) -> usize
+    ensures value { result ≡ missing_behind says headers payload.now }
+    ensures bound { result ≤ says }
+{
+    says.saturating_sub(headers).saturating_sub(payload.len())
+}
+
+/// The same of a packet of IP.
+fn net_missing(net: &LaxNetSlice<'_>) -> usize
+    ensures value { result ≡ net_missing (lax_net_layer_of net.now) }
+    ensures bound { result < 2 ^ 17 }
+{
+    match net {
+        LaxNetSlice::Ipv4(packet) => {
+            let says = usize::from(packet.header().total_len());
+            missing_behind(says, net.header_len(), packet.payload().payload)
+        }
+        LaxNetSlice::Ipv6(packet) => {
+            let says = 40 + usize::from(packet.header().payload_length());
+            missing_behind(says, net.header_len(), packet.payload().payload)
+        }
+        LaxNetSlice::Arp(_) => 0,
+    }
+}
+
+/// The same of a net layer, where there is one.
+fn missing_in(net: &Option<LaxNetSlice<'_>>) -> usize
+    ensures value { result ≡ missing_in (option_map lax_net_layer_of net.now) }
+    ensures bound { result < 2 ^ 17 }
+{
+    match net {
+        Some(net) => net_missing(net),
+        None => 0,
+    }
+}
+
+/// The same of a transport layer, where there is one, in a payload of which so many bytes are missing.
+fn missing_within(outer: usize, transport: &Option<TransportSlice<'_>>) -> usize
+    requires { outer < 2 ^ 17 }
+    ensures value { result ≡ missing_within outer (option_map transport_layer_of transport.now) }
+    ensures bound { result < 2 ^ 17 }
+{
+    match transport {
+        Some(TransportSlice::Udp(datagram)) => {
+            let says = datagram.length();
+            if says < 8 {
+                outer
+            } else {
+                missing_behind(usize::from(says), 8, datagram.payload())
+            }
+        }
+        Some(TransportSlice::Tcp(_) | TransportSlice::Icmpv4(_) | TransportSlice::Icmpv6(_))
+        | None => outer,
+    }
+}
+
+/// Appends how many bytes a payload has of which so many are there and so many are missing, where any are.
+fn push_of(output: &mut Vec<u8>, there: usize, missing: usize) -> Result<(), AllocError>
+    requires { there + missing < 2 ^ 64 }
+    ensures { OnOk result (output.new.items ≡ output.old.items ++ of_text there missing) }
+{
+    if missing > 0 {
+        decimals::push_behind(output, b" of ", (there + missing) as u64)?;
+    }
+    Ok(())
+}
+
+/// Appends how many bytes the last payload has, where some are missing.
+pub fn push_whole(output: &mut Vec<u8>, read: &LaxSlicedPacket<'_>) -> Result<(), AllocError>
+    ensures { OnOk result (output.new.items ≡ output.old.items ++ whole_text (layers_in (lax_layers_of read.now))) }
+{
+    let missing = missing_within(missing_in(&read.net), &read.transport);
+    push_of(output, read.payload().len(), missing)
+}
+
+/// Appends that no byte of a payload is there, and how many there are, behind a header of TCP that is refused, of which
+/// the length is told.
+pub fn push_cut_payload(
+    output: &mut Vec<u8>,
+    net: &Option<LaxNetSlice<'_>>,
+) -> Result<(), AllocError>
+    ensures { OnOk result (output.new.items
+        ≡ output.old.items ++ cut_payload_text (option_map lax_net_layer_of net.now)) }
+{
+    let Some(net) = net else {
+        return Ok(());
+    };
+    if begins_payload(net) {
+        push_behind(output, net_missing(net), net.ip_payload_ref())
+    } else {
+        Ok(())
+    }
+}
+
+/// The same of a payload of IP, of which so many bytes are missing.
+fn push_behind(
+    output: &mut Vec<u8>,
+    missing: usize,
+    payload: Option<&LaxIpPayloadSlice<'_>>,
+) -> Result<(), AllocError>
+    requires { missing < 2 ^ 17 }
+    ensures { OnOk result (output.new.items ≡ output.old.items
+        ++ behind_text missing (option_map lax_ip_payload_of (option_copied payload.entry))) }
+{
+    let Some(payload) = payload else {
+        return Ok(());
+    };
+    if payload.ip_number.0 == 6 {
+        push_behind_tcp(output, payload.payload.len() + missing, payload.payload)
+    } else {
+        Ok(())
+    }
+}
+
+/// The same of so many bytes of TCP, of which these are there.
+fn push_behind_tcp(output: &mut Vec<u8>, whole: usize, bytes: &[u8]) -> Result<(), AllocError>
+    ensures { OnOk result (output.new.items ≡ output.old.items ++ behind_tcp_text whole bytes.now) }
+{
+    if tells_header(whole, bytes) {
+        output.extend_from_slice(b" len 0")?;
+        push_of(output, 0, whole.saturating_sub(header_len(bytes)))?;
+    }
+    Ok(())
+}
+
+/// Whether so many bytes of TCP say how long the header is, and have as many.
+fn tells_header(whole: usize, bytes: &[u8]) -> bool
+    ensures { result ≡ tells_header whole bytes.now }
+{
+    bytes.len() >= 14 && header_len(bytes) >= 20 && header_len(bytes) <= whole
+}
+
+/// How long it is by the data offset, the upper 4 bits of byte 12.
+fn header_len(bytes: &[u8]) -> usize
+    ensures { result ≡ 4 * data_offset_of bytes.now }
+{
+    4 * usize::from(byte_at(bytes, 12) / 16)
+}
