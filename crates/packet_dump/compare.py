@@ -52,6 +52,8 @@ TSHARK_OPTIONS = ["-E", "occurrence=a", "-E", "aggregator=,"]
 for setting in ("ip.defragment:FALSE", "ipv6.defragment:FALSE", "tcp.relative_sequence_numbers:FALSE",
                 "ip.check_checksum:TRUE", "tcp.check_checksum:TRUE", "udp.check_checksum:TRUE"):
     TSHARK_OPTIONS += ["-o", setting]
+# How many bytes of a payload are there, and of how many.
+LEN = r" len (\d+)(?: of (\d+))?"
 LENGTHS = ("udp.length", "tcp.len", "icmp.length", "ip.payload", "ipv6.payload")
 # What is counted where others tell it and this does not.
 WANTED = [name for name in FIELDS
@@ -96,6 +98,11 @@ def number(text):
     return int(text, 0)
 
 
+def len_of(found, at):
+    """How many bytes a payload has, of which some may be missing."""
+    return int(found[at + 1] or found[at])
+
+
 def ours(line):
     """The fields of a line of packet_dump, under tshark's names."""
     found = {}
@@ -103,8 +110,8 @@ def ours(line):
     found["frame.number"], found["time"], rest = int(head[1]), head[2], head[3]
     if cut := re.search(r" cut (\d+) of (\d+)$", rest):
         found["cut"] = (int(cut[1]), int(cut[2]))
-    if rest.startswith(" link "):
-        found["link"] = rest
+    if link := re.match(r" (link \d+) len (\d+)", rest):
+        found["link"], found["len"] = link[1], int(link[2])
         return found
     if stopped := re.search(r" (?:stopped|refused) .*", rest):
         found["stopped"] = re.match(r" \w+ (\w+(?: [A-Z]\w+)?)", stopped[0])[1]
@@ -114,6 +121,8 @@ def ours(line):
     if " ttl " in head[3] or " hop-limit " in head[3] or " pcp " in head[3]:
         details_of(found, head[3])
     found["incomplete"] = re.search(r" incomplete(?: |$)", line) is not None
+    # Of all bytes it is told how many they are, also where they are missing.
+    found["whole"] = not found["incomplete"] or "stopped" in found or re.search(r" len \d+ of \d+", rest) is not None
     outer_of(found, rest)
     net_of(found, rest)
     if " icmpv" in rest:
@@ -154,27 +163,27 @@ def net_of(found, rest):
                 if field == "ipv6":
                     prefix = ("ipv6.fraghdr.ident", "ipv6.fraghdr.offset", "ipv6.fraghdr.more")
                 found.update(zip(prefix, (int(part[1]), int(part[2]), int(part[3] is not None))))
-            if inside := re.search(rf" {name} .* protocol (\d+)(?: .*)? len (\d+)", rest):
+            if inside := re.search(rf" {name} .* protocol (\d+)(?: .*)?{LEN}", rest):
                 if field == "ip" and " authentication" not in rest:
-                    found["ip.proto"], found["ip.payload"] = int(inside[1]), int(inside[2])
+                    found["ip.proto"], found["ip.payload"] = int(inside[1]), len_of(inside, 2)
                 elif f"{ip[0]} protocol" in rest:
-                    found["ipv6.payload"] = int(inside[2])
+                    found["ipv6.payload"] = len_of(inside, 2)
 
 
 def transport_of(found, rest):
-    """Adds what a line says of UDP and TCP: of a header that is cut, or in a first fragment, there is no length."""
-    if udp := re.search(r" udp (\d+) > (\d+)(?: length (0))?(?: len (\d+))?", rest):
+    """Adds what a line says of UDP and TCP: in a first fragment, and of most headers that are cut, there is no length."""
+    if udp := re.search(rf" udp (\d+) > (\d+)(?: length (0))?(?:{LEN})?", rest):
         found["udp.srcport"], found["udp.dstport"] = int(udp[1]), int(udp[2])
         if udp[4] is not None:
-            found["udp.length"] = 0 if udp[3] else 8 + int(udp[4])
-    if tcp := re.search(r" tcp (\d+) > (\d+)(?: \[(\w*)\] seq (\d+)(?: ack (\d+))?)?(?: len (\d+))?", rest):
+            found["udp.length"] = 0 if udp[3] else 8 + len_of(udp, 4)
+    if tcp := re.search(rf" tcp (\d+) > (\d+)(?: \[(\w*)\] seq (\d+)(?: ack (\d+))?)?(?:{LEN})?", rest):
         found["tcp.srcport"], found["tcp.dstport"] = int(tcp[1]), int(tcp[2])
         if tcp[4] is not None:
             found["tcp.flags"], found["tcp.seq_raw"] = sum(FLAGS[letter] for letter in tcp[3]), int(tcp[4])
         if tcp[5] is not None:
             found["tcp.ack_raw"] = int(tcp[5])
         if tcp[6] is not None:
-            found["tcp.len"] = int(tcp[6])
+            found["tcp.len"] = len_of(tcp, 6)
 
 
 def icmp_of(found, rest):
@@ -186,8 +195,8 @@ def icmp_of(found, rest):
             # A code without a name is told by its number, and 0 not at all.
             code = names.index(icmp[4]) if icmp[4] in names else int(icmp[3] or 0)
             found[field + ".type"], found[field + ".code"] = kind, code
-            if length := re.search(r" len (\d+)", rest):
-                found["icmp.length"] = int(length[1]) + (20 if (field, code) == ("icmp", 0) and kind in (13, 14) else 8)
+            if length := re.search(LEN, rest):
+                found["icmp.length"] = len_of(length, 1) + (20 if (field, code) == ("icmp", 0) and kind in (13, 14) else 8)
             if to := re.search(r" redirect \S+ to (\S+)", rest):
                 found["icmp.redir_gw"] = to[1]
 
@@ -367,12 +376,12 @@ def compare_times(tally, path, reader, mine, times, damaged):
 
 
 def same(a, name, other):
-    """Whether a field is the same, where `len` counts the bytes that are there: of an incomplete payload no more."""
+    """Whether a field is the same: where only those bytes of a payload are told that are there, no more of them are."""
     value, other = a[name], number(other) if isinstance(a[name], int) else other
     if name == "udp.length" and other < 8:
-        # It says nothing of the bytes that are there.
-        return other > 0 or value in (0, 8)
-    return value <= other if name in LENGTHS and a["incomplete"] else value == other
+        # It says nothing of the bytes that are there; how many they are IP says.
+        return other > 0 or value in (0, 8) or a["incomplete"]
+    return value <= other if name in LENGTHS and not a["whole"] else value == other
 
 
 def missing_of(a, name, other):
@@ -389,10 +398,11 @@ def compare_tshark(tally, path, a, b, text):
     at = a["frame.number"]
     kept, original = int(b["frame.cap_len"]), int(b["frame.len"])
     equal = a["cut"] == (kept, original) if "cut" in a else kept >= original
-    if "link" in a and "cut" in a:
+    if "link" in a:
         # It leaves out what some link types have in front of the packet.
-        equal = a["cut"][0] - kept == a["cut"][1] - original >= 0
-    tally.compared(path, at, "lengths", a.get("cut"), (kept, original), equal)
+        there, whole = a.get("cut", (a["len"], a["len"] - kept + original))
+        equal = a["len"] == there and there - kept == whole - original >= 0 and ("cut" in a or kept >= original)
+    tally.compared(path, at, "lengths", a.get("cut", a.get("len")), (kept, original), equal)
     if "link" in a:
         return
     for name in ("vlans", "priorities"):
@@ -415,7 +425,7 @@ def compare_tshark(tally, path, a, b, text):
             # No field says how long the packet is: tshark presumes that all bytes are its.
             tally.reasons["lengths not compared: of a segment whose IPv4 length is left to the card, and cut"] += 1
         elif name in b and name not in ("frame.number", "vlans", "priorities", "quoted"):
-            if name in LENGTHS and a["incomplete"]:
+            if name in LENGTHS and not a["whole"]:
                 tally.reasons[f"incomplete: {missing_of(a, name, b[name])}"] += 1
             tally.compared(path, at, name, value, b[name], same(a, name, b[name]))
         elif "." in name and name not in b and name not in ("frame.number", "icmp.length"):
@@ -509,7 +519,7 @@ def untold(a, b):
 
 def cause_of(a, b, names):
     """Why this does not tell what tshark does, or none where it tells all."""
-    lengths = [name for name in LENGTHS if name in a and name in b and a["incomplete"] and a[name] < number(b[name])]
+    lengths = [name for name in LENGTHS if name in a and name in b and not a["whole"] and a[name] < number(b[name])]
     alone = f" ({', '.join(names)})" if all(name in LENGTHS for name in names) else ""
     if names and "stopped" in a:
         return f"the header {a['stopped']} is {'cut' if 'cut' in a else 'malformed'}{alone}"
@@ -534,7 +544,7 @@ def compare_two(tally, path, mine, other, texts, outer):
         if at < len(outer):
             compare_outer(tally, path, a, outer[at])
         if "link" in a:
-            tally.links[a["link"].split(" cut")[0].strip()] += 1
+            tally.links[a["link"]] += 1
         if b is None:
             continue
         compare_tshark(tally, path, a, b, texts[at] if at < len(texts) else "")
@@ -638,7 +648,7 @@ def reassembled(tally, program, path):
         told = "".join(mine[at][1])
         tally.counted["bytes"] += len(told) // 2
         tally.compared(path, at, "bytes", told[:40], bytes_there[:40], bytes_there.endswith(told))
-        length = re.search(r" len (\d+)", mine[at][0])
+        length = re.search(LEN, mine[at][0])
         tally.compared(path, at, "number of bytes", len(told) // 2, length and length[1],
                        length is None or len(told) // 2 == int(length[1]))
         for name in PAYLOAD_FIELDS[1:9]:

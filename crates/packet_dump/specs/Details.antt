@@ -20,14 +20,15 @@ use Rattle.packet_dump.specs.PacketContents.{Content, packet}
 
 -- what stands in the outer layers of a quoted packet, which is mostly cut: where a layer is refused, what is told of its
 -- front
-abbrev pub quoted_rest : Layers → Option (SliceError × Layer) → List ℕ
-quoted_rest layers None = inner_in layers
-quoted_rest layers (Some stop) = refused_front_text layers.net
+abbrev pub quoted_rest : Bool → Layers → Option (SliceError × Layer) → List ℕ
+quoted_rest incomplete layers None = inner_in incomplete layers
+quoted_rest incomplete layers (Some stop) = refused_front_text layers.net
 
 -- a quoted packet: its layers, as of any other
 abbrev pub quoted_text : LaxLayers → List ℕ
 quoted_text read =
-    codes " quotes" ++ outer_text (layers_in read) ++ quoted_rest (layers_in read) read.net.inside.stop
+    codes " quotes" ++ outer_text (layers_in read)
+    ++ quoted_rest read.net.inside.incomplete (layers_in read) read.net.inside.stop
     ++ incomplete_text read.net.inside.incomplete
 
 -- the text of the packet at the front of bytes that are quoted: none where they are no packet of IP

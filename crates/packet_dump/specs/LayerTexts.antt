@@ -87,8 +87,8 @@ inner_text (Some layer) unread = transport_text layer
 inner_text None unread = unread
 
 -- the same of some layers, and how many bytes the last payload has, where some are missing
-abbrev pub inner_in : Layers → List ℕ
-inner_in layers = inner_text layers.transport (unread_in layers) ++ whole_text layers
+abbrev pub inner_in : Bool → Layers → List ℕ
+inner_in incomplete layers = inner_text layers.transport (unread_in layers) ++ whole_text incomplete layers
 
 -- what is told of a transport header that is refused, and of the length of what lies behind it
 abbrev pub refused_front_text : Option NetLayer → List ℕ
@@ -99,9 +99,9 @@ abbrev pub outer_text : Layers → List ℕ
 outer_text layers = link_text layers.link ++ extensions_text layers.link_exts ++ net_text layers.net
 
 -- what stands in them, or why the layer that does is refused
-abbrev pub rest_text : Layers → Option (SliceError × Layer) → List ℕ
-rest_text layers None = inner_in layers
-rest_text layers (Some stop) = refused_front_text layers.net ++ stop_text stop.0
+abbrev pub rest_text : Bool → Layers → Option (SliceError × Layer) → List ℕ
+rest_text incomplete layers None = inner_in incomplete layers
+rest_text incomplete layers (Some stop) = refused_front_text layers.net ++ stop_text stop.0
 
 -- that bytes of the last payload are missing which a length field says are there
 abbrev pub incomplete_text : Bool → List ℕ
@@ -110,5 +110,5 @@ incomplete_text incomplete = if incomplete then codes " incomplete" else []
 -- all layers that stand, from the outside in, and what is wrong behind them
 abbrev pub packet_text : LaxLayers → List ℕ
 packet_text read =
-    outer_text (layers_in read) ++ rest_text (layers_in read) read.net.inside.stop
+    outer_text (layers_in read) ++ rest_text read.net.inside.incomplete (layers_in read) read.net.inside.stop
     ++ incomplete_text read.net.inside.incomplete

@@ -16,14 +16,21 @@ use Rattle.packet_dump.specs.Nets.{begins_payload}
 abbrev pub missing_behind : ℕ → ℕ → List ℕ → ℕ
 missing_behind says headers payload = says - headers - length payload
 
--- The same of a packet of IP, by the total length of IPv4 (RFC 791, 3.1), or the payload length of IPv6, which counts
--- from behind the header of 40 bytes (RFC 8200, 3). None are where that is 0, or less than the headers.
+-- How many bytes a packet of IP has by its header: the total length of IPv4 (RFC 791, 3.1), or the payload length of IPv6
+-- behind the header's 40 bytes (RFC 8200, 3). The header of an ARP packet says nothing of it.
+abbrev pub said_len : NetLayer → ℕ
+said_len (ipv4 header extensions payload) = header.total_len
+said_len (ipv6 header extensions payload) = 40 + header.payload_length
+said_len (arp packet) = 0
+
+-- how many bytes of a payload of IP are missing behind such headers, where there is one
+abbrev pub payload_missing : ℕ → ℕ → Option IpPayload → ℕ
+payload_missing says headers (Some payload) = missing_behind says headers payload.bytes
+payload_missing says headers None = 0
+
+-- the same of a packet: none where its header says fewer than its headers have, as by a length of 0
 abbrev pub net_missing : NetLayer → ℕ
-net_missing (ipv4 header extensions payload) =
-    missing_behind header.total_len (net_layer_len (ipv4 header extensions payload)) payload.bytes
-net_missing (ipv6 header extensions payload) =
-    missing_behind (40 + header.payload_length) (net_layer_len (ipv6 header extensions payload)) payload.bytes
-net_missing (arp packet) = 0
+net_missing net = payload_missing (said_len net) (net_layer_len net) (net_payload net)
 
 -- the same of a net layer, where there is one
 abbrev pub missing_in : Option NetLayer → ℕ
@@ -48,24 +55,29 @@ missing_within outer None = outer
 abbrev pub of_text : ℕ → ℕ → List ℕ
 of_text there missing = if nat_lt 0 missing then codes " of " ++ decimal (there + missing) else []
 
--- the same of the last payload of some layers
-abbrev pub whole_text : Layers → List ℕ
-whole_text layers = of_text (length (last_payload layers)) (missing_within (missing_in layers.net) layers.transport)
+-- the same of the last payload of some layers, where it is incomplete
+abbrev pub whole_text : Bool → Layers → List ℕ
+whole_text incomplete layers =
+    if incomplete
+    then of_text (length (last_payload layers)) (missing_within (missing_in layers.net) layers.transport) else []
 
 -- ---- behind a header of TCP that is cut
 
--- Whether so many bytes of TCP say at their front, of which 14 are there, how long the header is (RFC 9293, 3.1: in words
--- of 4 bytes, at least 5), and have as many.
+-- how many bytes the header of TCP has at the front of bytes, by its data offset, in words of 4 bytes (RFC 9293, 3.1)
+abbrev pub header_len_at : List ℕ → ℕ
+header_len_at bytes = 4 * data_offset_of bytes
+
+-- whether 14 bytes of it are there, it has the least that it may have, and so many bytes of TCP have as many
 abbrev pub tells_header : ℕ → List ℕ → Bool
 tells_header whole bytes =
-    nat_le 14 (length bytes) && (nat_le 5 (data_offset_of bytes) && nat_le (4 * data_offset_of bytes) whole)
+    nat_le 14 (length bytes) && (nat_le 20 (header_len_at bytes) && nat_le (header_len_at bytes) whole)
 
--- no byte of a payload, and how many there are, behind such a header at the front of these bytes
+-- that no byte of its payload is there, and how many there are, in so many bytes of TCP of which these are there
 abbrev pub behind_tcp_text : ℕ → List ℕ → List ℕ
 behind_tcp_text whole bytes =
-    if tells_header whole bytes then codes " len 0" ++ of_text 0 (whole - 4 * data_offset_of bytes) else []
+    if tells_header whole bytes then codes " len 0" ++ of_text 0 (whole - header_len_at bytes) else []
 
--- the same of a payload of IP, of which so many bytes are missing
+-- the same in a payload of IP, of which so many bytes are missing
 abbrev pub behind_text : ℕ → Option IpPayload → List ℕ
 behind_text missing (Some payload) =
     if payload.number == tcp_number then behind_tcp_text (length payload.bytes + missing) payload.bytes else []

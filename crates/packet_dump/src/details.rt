@@ -102,7 +102,7 @@ fn push_quoted(output: &mut Vec<u8>, read: &LaxSlicedPacket<'_>) -> Result<(), A
 /// Appends what stands in the outer layers of a quoted packet.
 fn push_quoted_rest(output: &mut Vec<u8>, read: &LaxSlicedPacket<'_>) -> Result<(), AllocError>
     ensures { OnOk result (output.new.items ≡ output.old.items ++ (let layers = lax_layers_of read.now in
-        quoted_rest (layers_in layers) layers.net.inside.stop)) }
+        quoted_rest layers.net.inside.incomplete (layers_in layers) layers.net.inside.stop)) }
 {
     match &read.stop_err {
         Some(_) => push_refused_front(output, &read.net),

@@ -57,7 +57,7 @@ fn push_tags(output: &mut Vec<u8>, extensions: &[LaxLinkExtSlice<'_>]) -> Result
 /// Appends what stands in them, or why the layer that does is refused.
 fn push_rest(output: &mut Vec<u8>, read: &LaxSlicedPacket<'_>) -> Result<(), AllocError>
     ensures { OnOk result (output.new.items ≡ output.old.items ++ (let layers = lax_layers_of read.now in
-        rest_text (layers_in layers) layers.net.inside.stop)) }
+        rest_text layers.net.inside.incomplete (layers_in layers) layers.net.inside.stop)) }
 {
     match &read.stop_err {
         Some(stop) => push_stopped(output, &read.net, &stop.0),
@@ -93,7 +93,8 @@ pub fn push_refused_front(
 /// Appends the text of the transport layer, or else of what no layer was read in, and how many bytes the last payload
 /// has, where some are missing.
 pub fn push_inner(output: &mut Vec<u8>, read: &LaxSlicedPacket<'_>) -> Result<(), AllocError>
-    ensures { OnOk result (output.new.items ≡ output.old.items ++ inner_in (layers_in (lax_layers_of read.now))) }
+    ensures { OnOk result (output.new.items ≡ output.old.items ++ (let layers = lax_layers_of read.now in
+        inner_in layers.net.inside.incomplete (layers_in layers))) }
 {
     push_there(output, read)?;
     push_whole(output, read)

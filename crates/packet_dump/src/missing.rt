@@ -7,8 +7,8 @@ ghost use Rattle.etherparse.specs.LaxSlices.{lax_ip_payload_of};
 ghost use Rattle.etherparse.specs.LaxViews.{lax_net_layer_of};
 ghost use Rattle.etherparse.specs.StrictFrames.{layers_in};
 ghost use Rattle.etherparse.specs.TransportParts.{transport_layer_of};
-ghost use Rattle.packet_dump.specs.Missing.{behind_tcp_text, behind_text, cut_payload_text, missing_behind, missing_in};
-ghost use Rattle.packet_dump.specs.Missing.{missing_within, net_missing, of_text, tells_header, whole_text};
+ghost use Rattle.packet_dump.specs.Missing.{behind_tcp_text, behind_text, cut_payload_text, header_len_at, missing_behind};
+ghost use Rattle.packet_dump.specs.Missing.{missing_in, missing_within, net_missing, of_text, payload_missing, said_len, tells_header, whole_text};
 
 use crate::bytes::byte_at;
 use crate::nets::begins_payload;
@@ -24,22 +24,35 @@ fn missing_behind(says: usize, headers: usize, payload: &[u8]) -> usize
     says.saturating_sub(headers).saturating_sub(payload.len())
 }
 
-/// The same of a packet of IP.
+/// How many bytes a packet of IP has by its header.
+fn said_len(net: &LaxNetSlice<'_>) -> usize
+    ensures value { result ≡ said_len (lax_net_layer_of net.now) }
+    ensures bound { result < 2 ^ 17 }
+{
+    match net {
+        LaxNetSlice::Ipv4(packet) => usize::from(packet.header().total_len()),
+        LaxNetSlice::Ipv6(packet) => 40 + usize::from(packet.header().payload_length()),
+        LaxNetSlice::Arp(_) => 0,
+    }
+}
+
+/// How many bytes of a payload of IP are missing behind such headers, where there is one.
+fn payload_missing(says: usize, headers: usize, payload: Option<&LaxIpPayloadSlice<'_>>) -> usize
+    ensures value { result ≡ payload_missing says headers (option_map lax_ip_payload_of (option_copied payload.entry)) }
+    ensures bound { result ≤ says }
+{
+    match payload {
+        Some(payload) => missing_behind(says, headers, payload.payload),
+        None => 0,
+    }
+}
+
+/// The same of a packet.
 fn net_missing(net: &LaxNetSlice<'_>) -> usize
     ensures value { result ≡ net_missing (lax_net_layer_of net.now) }
     ensures bound { result < 2 ^ 17 }
 {
-    match net {
-        LaxNetSlice::Ipv4(packet) => {
-            let says = usize::from(packet.header().total_len());
-            missing_behind(says, net.header_len(), packet.payload().payload)
-        }
-        LaxNetSlice::Ipv6(packet) => {
-            let says = 40 + usize::from(packet.header().payload_length());
-            missing_behind(says, net.header_len(), packet.payload().payload)
-        }
-        LaxNetSlice::Arp(_) => 0,
-    }
+    payload_missing(said_len(net), net.header_len(), net.ip_payload_ref())
 }
 
 /// The same of a net layer, where there is one.
@@ -84,10 +97,14 @@ fn push_of(output: &mut Vec<u8>, there: usize, missing: usize) -> Result<(), All
     Ok(())
 }
 
-/// Appends how many bytes the last payload has, where some are missing.
+/// Appends how many bytes the last payload has, where some are missing, as they are only where it is incomplete.
 pub fn push_whole(output: &mut Vec<u8>, read: &LaxSlicedPacket<'_>) -> Result<(), AllocError>
-    ensures { OnOk result (output.new.items ≡ output.old.items ++ whole_text (layers_in (lax_layers_of read.now))) }
+    ensures { OnOk result (output.new.items ≡ output.old.items ++ (let layers = lax_layers_of read.now in
+        whole_text layers.net.inside.incomplete (layers_in layers))) }
 {
+    if !read.is_incomplete() {
+        return Ok(());
+    }
     let missing = missing_within(missing_in(&read.net), &read.transport);
     push_of(output, read.payload().len(), missing)
 }
@@ -137,21 +154,21 @@ fn push_behind_tcp(output: &mut Vec<u8>, whole: usize, bytes: &[u8]) -> Result<(
 {
     if tells_header(whole, bytes) {
         output.extend_from_slice(b" len 0")?;
-        push_of(output, 0, whole.saturating_sub(header_len(bytes)))?;
+        push_of(output, 0, whole.saturating_sub(header_len_at(bytes)))?;
     }
     Ok(())
 }
 
-/// Whether so many bytes of TCP say how long the header is, and have as many.
+/// Whether 14 bytes of it are there, it has the least that it may have, and so many bytes of TCP have as many.
 fn tells_header(whole: usize, bytes: &[u8]) -> bool
     ensures { result ≡ tells_header whole bytes.now }
 {
-    bytes.len() >= 14 && header_len(bytes) >= 20 && header_len(bytes) <= whole
+    bytes.len() >= 14 && header_len_at(bytes) >= 20 && header_len_at(bytes) <= whole
 }
 
-/// How long it is by the data offset, the upper 4 bits of byte 12.
-fn header_len(bytes: &[u8]) -> usize
-    ensures { result ≡ 4 * data_offset_of bytes.now }
+/// How many bytes the header of TCP has at the front of bytes, by the upper 4 bits of byte 12.
+fn header_len_at(bytes: &[u8]) -> usize
+    ensures { result ≡ header_len_at bytes.now }
 {
     4 * usize::from(byte_at(bytes, 12) / 16)
 }
