@@ -394,7 +394,8 @@ def missing_of(a, name, other):
 
 
 def compare_tshark(tally, path, a, b, text):
-    """Compares what tshark tells; `text` is what tcpdump writes, which alone tells an IPv4 length of 0."""
+    """Compares what tshark tells; `text` is what tcpdump writes, which alone tells an IPv4 length of 0, and how many bytes
+    a packet was short of those that IP counts."""
     at = a["frame.number"]
     kept, original = int(b["frame.cap_len"]), int(b["frame.len"])
     equal = a["cut"] == (kept, original) if "cut" in a else kept >= original
@@ -424,6 +425,11 @@ def compare_tshark(tally, path, a, b, text):
         elif name in LENGTHS and "cut" in a and "IP bad-len 0" in text:
             # No field says how long the packet is: tshark presumes that all bytes are its.
             tally.reasons["lengths not compared: of a segment whose IPv4 length is left to the card, and cut"] += 1
+        elif name == "tcp.len" and name in b and (short := re.search(r"truncated-ip6? - (\d+) bytes missing", text)):
+            # The packet ended in front of what IP counts, and tshark counts to there.
+            tally.reasons["of TCP in a packet that was short of what IP counts tshark tells what there was"] += 1
+            there = max(0, value - int(short[1]))
+            tally.compared(path, at, name, value, f"{b[name]} and {short[1]} more", there == number(b[name]))
         elif name in b and name not in ("frame.number", "vlans", "priorities", "quoted"):
             if name in LENGTHS and not a["whole"]:
                 tally.reasons[f"incomplete: {missing_of(a, name, b[name])}"] += 1
