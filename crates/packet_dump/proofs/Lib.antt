@@ -1,3 +1,4 @@
+pub mod AddressLemmas
 pub mod SessionLemmas
 pub mod SummaryLemmas
 pub mod DumpLemmas

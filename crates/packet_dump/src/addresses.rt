@@ -1,10 +1,10 @@
 //! Bytes and addresses as text.
 
-ghost use Rattle.std.specs.Prelude.{◌≡◌, ◌<◌, ◌++◌, OnOk};
+ghost use Rattle.std.specs.Prelude.{◌≡◌, ◌<◌, ◌≤◌, ◌+◌, ◌++◌, OnOk, codes, take};
+ghost use Rattle.std.specs.Fmt.{decimal};
 ghost use Rattle.packet_dump.specs.Addresses.{further_octets_text, hex_digit, hex_pair, hex_text, ipv4_text, ipv6_text};
 ghost use Rattle.packet_dump.specs.Addresses.{mac_text, octets_text};
 
-use line_io::decimals;
 use std::alloc::AllocError;
 use std::net::Ipv6Addr;
 
@@ -85,16 +85,46 @@ fn hex_digit(number: u8) -> u8
     }
 }
 
-/// Appends an address of IPv4: its four numbers, a dot between two.
+/// How many bytes the four numbers of an address of IPv4 take at most, with a dot before each.
+const DOTTED_LEN: usize = 16;
+
+/// Appends an address of IPv4: its four numbers, a dot between two. All are appended at once, which takes less time.
 #[tactic(auto, unfolding(crate::specs::Addresses::ipv4_text))]
 pub fn push_ipv4(output: &mut Vec<u8>, address: [u8; 4]) -> Result<(), AllocError>
     ensures { OnOk result (output.new.items ≡ output.old.items ++ ipv4_text address) }
 {
     let [a, b, c, d] = address;
-    decimals::push(output, u64::from(a))?;
-    decimals::push_behind(output, b".", u64::from(b))?;
-    decimals::push_behind(output, b".", u64::from(c))?;
-    decimals::push_behind(output, b".", u64::from(d))
+    let mut text = [0; DOTTED_LEN];
+    let first = put_octet(&mut text, 0, a);
+    let second = put_octet(&mut text, first, b);
+    let third = put_octet(&mut text, second, c);
+    let end = put_octet(&mut text, third, d);
+    output.extend_from_slice(&text[1..end])
+}
+
+/// Puts a dot and a number below 256 at this place, and answers where they end.
+#[inline]
+fn put_octet(text: &mut [u8; DOTTED_LEN], at: usize, octet: u8) -> usize
+    requires { at ≤ 12 }
+    ensures text { take result text.new ≡ take at text.old ++ (codes "." ++ decimal octet) }
+    ensures grows { at < result }
+    ensures bound { result ≤ at + 4 }
+{
+    let tens = octet / 10;
+    text[at] = b'.';
+    if octet < 10 {
+        text[at + 1] = b'0' + octet;
+        at + 2
+    } else if octet < 100 {
+        text[at + 1] = b'0' + tens;
+        text[at + 2] = b'0' + octet % 10;
+        at + 3
+    } else {
+        text[at + 1] = b'0' + tens / 10;
+        text[at + 2] = b'0' + tens % 10;
+        text[at + 3] = b'0' + octet % 10;
+        at + 4
+    }
 }
 
 /// Appends an address of IPv6 in its shortest form (RFC 5952).
