@@ -14,7 +14,7 @@ use etherparse::{LaxNetSlice, LaxSlicedPacket, TransportSlice};
 use packet_filter::{Word, passes};
 
 /// A kind of packet.
-#[derive(Clone, Copy, Debug)]
+#[derive(Clone, Copy)]
 pub enum Kind {
     /// A datagram of UDP.
     Udp,
@@ -84,7 +84,7 @@ impl Kind {
 }
 
 /// How times are told.
-#[derive(Clone, Copy, Debug)]
+#[derive(Clone, Copy)]
 pub enum TimeForm {
     /// Since the first packet, in seconds.
     Relative,
@@ -95,7 +95,7 @@ pub enum TimeForm {
 }
 
 /// What is shown of a capture.
-#[derive(Clone, Copy, Debug)]
+#[derive(Clone, Copy)]
 pub struct DumpOptions {
     /// The kind of packets that are shown; all are where there is none.
     pub only: Option<Kind>,

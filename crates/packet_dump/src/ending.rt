@@ -7,7 +7,7 @@ use capture_reader::CaptureError;
 use line_io::RunError;
 
 /// How a run ends that wrote all it had to write.
-#[derive(Clone, Copy, Debug)]
+#[derive(Clone, Copy)]
 pub enum Ending {
     /// The capture was read to its end.
     Whole,

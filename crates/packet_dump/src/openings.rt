@@ -13,7 +13,7 @@ use line_io::decimals;
 use std::alloc::AllocError;
 
 /// What the bytes of a packet begin with.
-#[derive(Clone, Copy, Debug)]
+#[derive(Clone, Copy)]
 pub struct Opening {
     /// What stands at the front of the bytes that the library reads.
     pub entry: Entry,

@@ -27,7 +27,7 @@ use std::alloc::{AllocError, Global};
 use std::collections::BTreeMap;
 
 /// When a fragment came.
-#[derive(Clone, Copy, Debug)]
+#[derive(Clone, Copy)]
 pub struct Arrival {
     /// With the packet of this number.
     pub number: u64,

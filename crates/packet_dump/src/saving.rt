@@ -16,7 +16,7 @@ use std::io::Write;
 const ETHERNET: u16 = 1;
 
 /// Why packets that are shown were not saved.
-#[derive(Clone, Copy, Debug)]
+#[derive(Clone, Copy)]
 pub enum SaveFault {
     /// One cannot be written, and those behind it were left out.
     Refused {
@@ -30,7 +30,7 @@ pub enum SaveFault {
 }
 
 /// How saving stands.
-#[derive(Clone, Copy, Debug)]
+#[derive(Clone, Copy)]
 pub enum SaveState {
     /// No file is wanted.
     Unasked,

@@ -24,7 +24,7 @@ use capture_writer::laws::read_back;
 use std::alloc::{AllocError, Global};
 
 /// How a capture stands behind the bytes that were taken.
-#[derive(Clone, Copy, Debug)]
+#[derive(Clone, Copy)]
 pub enum Standing {
     /// It may end there.
     MayEnd,
