@@ -11,7 +11,7 @@ use Rattle.capture_reader.specs.declared.refusal.CaptureError.{CaptureError}
 use Rattle.packet_dump.specs.Dumps.{AreAllTexts, AreShown, BeginsDump, IsDump, IsRefused}
 use Rattle.packet_dump.specs.PacketCalls.{PoolHistory, new_pool}
 use Rattle.packet_dump.specs.Saves.{EndsAt}
-use Rattle.packet_dump.specs.Sessions.{Drains, Gathered, Stands, ending_of, ends_run}
+use Rattle.packet_dump.specs.Sessions.{Drains, Gathered, HoldsPooling, Stands, ending_of, ends_run}
 use Rattle.packet_dump.specs.Summaries.{CountsFragments, IsCounted, IsCountedDump, PlainSummary, new_summary}
 use Rattle.packet_dump.specs.SummaryTexts.{IsSummedDump, summary_text}
 use Rattle.packet_dump.specs.declared.ending.Ending.{Ending}
@@ -53,12 +53,13 @@ ends_at options ended (Refused error) session read items text start behind ends 
 is_dump : (options : DumpOptions) (ended : Bool) (ending : Ending) (start summary : PlainSummary)
     (read written : List ℕ) → IsCountedDump options ended ending start summary read written
     → IsDump options ended ending read written
-is_dump options ended end.Whole start summary read written (items, ends, shown, behind, counted, fragments) =
-    (ends.0, items, ends.1, ends.2, shown)
-is_dump options ended end.Enough start summary read written (items, ends, shown, behind, counted, fragments) =
-    (items, ends.0, ends.1, shown)
-is_dump options ended (end.Broken packets error) start summary read written (items, ends, shown, behind, counted, fragments) =
-    (items, ends.0, ends.1, ends.2, shown)
+is_dump options ended end.Whole start summary read written (items, ends, within, pool, texts, behind, counts, fates) =
+    (ends.0, items, ends.1, ends.2, (within, pool, texts))
+is_dump options ended end.Enough start summary read written (items, ends, within, pool, texts, behind, counts, fates) =
+    (items, ends.0, ends.1, (within, pool, texts))
+is_dump options ended (end.Broken packets error) start summary read written
+    (items, ends, within, pool, texts, behind, counts, fates) =
+    (items, ends.0, ends.1, ends.2, (within, pool, texts))
 
 -- what was put together begins the dump, whatever comes behind
 begins : (options : DumpOptions) (session : Session) (read piece : List ℕ) (items : List Item) (front rest text : List ℕ)
@@ -170,7 +171,8 @@ pub Moves-ended : (options : DumpOptions) (ended : Bool) (first : PlainSummary) 
     (standing : Standing) (start behind : Gathered) (last : PlainSummary)
     (had has held holds then_holds : Option (List ℕ)) → Moves (Told options first old start.summary) had has held holds
     → Draining old new standing start behind → ends_run standing ended ≡ true
-    → CountsFragments new.options.reassemble behind.summary last
+    → ((history : PoolHistory) → HoldsPooling history new.pooling
+    → CountsFragments new.options.reassemble history behind.summary last)
     → Appends holds then_holds new.output.items
     → Moves (IsCountedDump options ended (ending_of standing new.number) first last) had has held then_holds
 Moves-ended options ended first old new standing start behind last had has held holds then_holds
@@ -185,10 +187,13 @@ Moves-ended options ended first old new standing start behind last had has held 
       (
         all,
         ends_at options ended standing new read items written start behind ends drains,
-        are_shown options new read all (written ++ new.output.items) drained.after drained.stands drained.texts,
+        (are_shown options new read all (written ++ new.output.items) drained.after drained.stands drained.texts).0,
+        drained.after,
+        drained.texts,
         behind.summary,
         drained.counts first counted,
-        subst (λ (o : DumpOptions). CountsFragments o.reassemble behind.summary last) drained.stands.options_is fragments,
+        subst (λ (o : DumpOptions). CountsFragments o.reassemble drained.after behind.summary last)
+            drained.stands.options_is (fragments drained.after drained.stands.pooled),
       ),
     )
 

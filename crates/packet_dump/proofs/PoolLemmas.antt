@@ -1,10 +1,11 @@
 -- The program's pool after the calls that packets make.
 use Rattle.std.proofs.Common.{◌≡◌, ℕ, ◌+◌, ◌<◌, ◌≤◌, arith, Bool, true, false, if◌then◌else◌, cond, ◌&&◌, nat_eq}
-use Rattle.std.proofs.Common.{nat_le, nat_lt, ◌/◌, List, [], ◌∷◌, ◌++◌, length, drop, Option, Some, None, is_some, inl}
-use Rattle.std.proofs.Common.{inr, refl, sym, ap, ◌∙◌, subst}
+use Rattle.std.proofs.Common.{nat_le, nat_lt, ◌/◌, ◌-◌, List, [], ◌∷◌, ◌++◌, length, drop, Option, Some, None, is_some}
+use Rattle.std.proofs.Common.{inl, inr, refl, sym, ap, ◌∙◌, subst, append_assoc}
 use Rattle.std.specs.Prelude.{IsFalse, Ok, Result}
 use Rattle.std.specs.BTreeMap.{BTreeMap, IsLowerBound, IsOrdered, btree_map_len, get, keys}
 use Rattle.std.specs.Cmp.{unsigned_tied}
+use Rattle.std.specs.List.Sorted.{IsStrictlySortedBy}
 use Rattle.std.specs.Map.{keys_of}
 use Rattle.std.specs.Option.{option_map}
 use Rattle.std.specs.Ordering.{eq_by_cmp, nat_cmp}
@@ -12,7 +13,8 @@ use Rattle.std.proofs.lemmas.Bool.{and_from, and_left, cases_Bool, cases_eq, con
 use Rattle.std.proofs.lemmas.Bool.{le-ltb, lt-leb, lt-ltb}
 use Rattle.std.proofs.lemmas.Cmp.{nat_cmp_total}
 use Rattle.std.proofs.lemmas.Map.Entries.{length-keys_of}
-use Rattle.std.proofs.lemmas.Map.Keys.{le_from_not_gt}
+use Rattle.std.proofs.lemmas.List.{append-nil}
+use Rattle.std.proofs.lemmas.Map.Keys.{le_from_not_gt, sorted_tail}
 use Rattle.std.proofs.lemmas.Map.Lookups.{exact_unsigned}
 use Rattle.std.proofs.lemmas.Map.Views.{btree_map_contains_key_iff}
 use Rattle.capture_reader.specs.Captures.{PlainShown}
@@ -20,7 +22,8 @@ use Rattle.etherparse.specs.Types.IpDefragError.{IpDefragError}
 use Rattle.etherparse.specs.Types.IpDefragPayloadVec.{IpDefragPayloadVec}
 use Rattle.etherparse.specs.Types.IpDefragPool.{IpDefragPool}
 use Rattle.etherparse.specs.Types.IpFragId.{IpFragId}
-use Rattle.etherparse.specs.Calls.{gives_frame, drops_streams, table_after, answer_to, table_with, Kept, kept_by}
+use Rattle.etherparse.specs.Calls.{Answer, gives_frame, drops_streams, table_after, answer_to, table_with, Kept}
+use Rattle.etherparse.specs.Calls.{kept_by}
 use Rattle.etherparse.specs.Pools.{limit_of, ChangesStream, HoldsEntry, HoldsTable, TakesFragment, TakesFrame}
 use Rattle.etherparse.specs.Pools.{plain_frame_answer, stream_named, wants_memory}
 use Rattle.etherparse.specs.Streams.{PacketFragment, name_of, same_stream}
@@ -33,7 +36,9 @@ use Rattle.packet_dump.specs.PacketCalls.{AreOpen, HoldsHistory, IsBounded, Numb
 use Rattle.packet_dump.specs.PacketCalls.{given_up, is_since, number_of, since_instant, since_packet, table_behind}
 use Rattle.packet_dump.specs.PacketCalls.{with_call, with_frame, with_sweep}
 use Rattle.packet_dump.specs.PoolLines.{GivesFound, GivesFrame, GivesWhere, IsCallText, IsPooled, oldest_from, swept_at}
-use Rattle.packet_dump.specs.Sessions.{HoldsPooling}
+use Rattle.packet_dump.specs.Sessions.{HoldsPooling, HoldsStreams, fates_of}
+use Rattle.packet_dump.specs.Summaries.{BecameOf, CountsCall, CountsCalls, Fates, HasOpen, no_fates, with_answer}
+use Rattle.packet_dump.specs.Summaries.{with_given_up}
 use Rattle.packet_dump.specs.declared.openings.Opening.{Opening}
 use Rattle.packet_dump.specs.declared.pooling.Arrival.{Arrival}
 use Rattle.packet_dump.specs.declared.pooling.Pooling.{Pooling}
@@ -90,6 +95,75 @@ frame_answered old new None timestamp channel result takes enough history held =
 frame_answered old new (Some carried) timestamp channel result takes enough history held =
     rw held.limit at (takes.answer enough (table_behind history) held.table)
 
+-- ---- what became of fragments
+
+-- one call more adds what it adds
+counts_more : (limit : ℕ) (calls earlier : List NumberCall) (call : NumberCall) (old between new : Fates)
+    → CountsCalls limit earlier calls old between → CountsCall limit (earlier ++ calls) call between new
+    → CountsCalls limit earlier (calls ++ call ∷ []) old new
+counts_more limit [] earlier call old between new same is = (
+  new,
+  subst (λ (f : Fates). CountsCall limit earlier call f new) same
+      (subst (λ (c : List NumberCall). CountsCall limit c call between new) (append-nil earlier) is),
+  refl,
+)
+counts_more limit (first ∷ calls) earlier call old between new (next, of_first, others) is = (
+  next,
+  of_first,
+  counts_more limit calls (earlier ++ first ∷ []) call next between new others
+      (subst (λ (c : List NumberCall). CountsCall limit c call between new)
+      (sym (append_assoc earlier (first ∷ []) calls)) is),
+)
+
+-- a frame adds its answer
+pub frame_became : (before : PoolHistory) (carried : Option PacketFragment) (at : Arrival)
+    (result : Result (Option IpDefragPayloadVec) IpDefragError) (old new : Fates) → BecameOf before old
+    → plain_frame_answer result
+    ≡ answer_to {V = Arrival} before.limit (table_behind before) (gives_frame carried at 0)
+    → new ≡ with_answer (plain_frame_answer result) old
+    → BecameOf (record before { number = at.number; calls = before.calls ++ gives_frame carried at 0 ∷ [] }) new
+frame_became before carried at result old new became answered is =
+    counts_more before.limit before.calls [] (gives_frame carried at 0) no_fates old new became
+    (is ∙ ap (λ (a : Answer). with_answer a old) answered)
+
+-- a drop adds the streams that are open before and not behind it
+drop_became : (before : PoolHistory) (oldest : Arrival) (had has : ℕ) (old new : Fates) → BecameOf before old
+    → HasOpen (table_behind before) had → HasOpen (table_behind (with_call before (drops_streams oldest))) has
+    → new ≡ with_given_up (had - has) old → BecameOf (with_call before (drops_streams oldest)) new
+drop_became before oldest had has old new became were are is =
+    counts_more before.limit before.calls [] (drops_streams oldest) no_fates old new became (had, has, were, are, is)
+
+-- ---- how many streams are open
+
+some_value : {X : Type 0} (o : Option X) → is_some o ≡ true → (x : X) × (o ≡ Some x)
+some_value None there = absurd (false≢true there)
+some_value (Some x) there = (x, refl)
+
+-- the numbers of the list are those of the open streams
+pub are_open : (pooling : Pooling) (before : PoolHistory) → HoldsStreams before pooling
+    → IsOrdered nat_cmp pooling.names → AreOpen (table_behind before) (keys pooling.names)
+are_open pooling before held ordered = record {
+  ascending = ordered;
+  each = λ number.
+      let has = btree_map_contains_key_iff nat_cmp_total exact_unsigned pooling.names number in (
+        λ contained.
+            let found = some_value (get nat_cmp pooling.names number) (has.1 contained) in (
+              found.0,
+              sym (number_held pooling.pool (table_behind before) held.held.table found.0)
+                  ∙ (held.listed number found.0).0 found.1,
+            ),
+        λ named.
+            has.0 (ap is_some ((held.listed number named.0).1
+            (number_held pooling.pool (table_behind before) held.held.table named.0 ∙ named.1))),
+      );
+}
+
+-- so many are listed
+pub has_open : (pooling : Pooling) (before : PoolHistory) → HoldsStreams before pooling
+    → IsOrdered nat_cmp pooling.names → HasOpen (table_behind before) (btree_map_len pooling.names)
+has_open pooling before held ordered =
+    (keys pooling.names, are_open pooling before held ordered, sym (length-keys_of pooling.names.entries))
+
 -- ---- drops
 
 -- a drop of what is older than an instant
@@ -105,26 +179,45 @@ swept_if later before second oldest =
 pub sweeps_nothing : (pooling : Pooling) (before : PoolHistory) (second oldest : ℕ) → HoldsPooling before pooling
     → nat_lt pooling.swept second ≡ false → HoldsPooling (with_sweep before second oldest) pooling
 sweeps_nothing pooling before second oldest held not =
-    let is : nat_lt before.swept second ≡ false = ap (λ (n : ℕ). nat_lt n second) (sym held.swept) ∙ not in
+    let is : nat_lt before.swept second ≡ false = ap (λ (n : ℕ). nat_lt n second) (sym held.streams.swept) ∙ not in
     subst (λ (h : PoolHistory). HoldsPooling h pooling) (sym (ap (λ b. swept_if b before second oldest) is)) held
 
 -- a later one drops what is too old
-pub sweeps : OneMoreCall → (old new : Pooling) (before : PoolHistory) (second oldest : ℕ) → HoldsPooling before old
-    → nat_lt old.swept second ≡ true → new.swept ≡ second → limit_of new.pool ≡ limit_of old.pool
+sweeps_streams : OneMoreCall → (old new : Pooling) (before : PoolHistory) (second oldest : ℕ) → HoldsStreams before old
+    → new.swept ≡ second → limit_of new.pool ≡ limit_of old.pool
     → HoldsTable nat_eq new.pool
     (table_with before.limit nat_eq is_since (table_behind before) (drops_streams (since_instant oldest)))
     → ((number : ℕ) → get nat_cmp new.names number ≡ open_at new.pool (get nat_cmp old.names number))
-    → HoldsPooling (with_sweep before second oldest) new
-sweeps law old new before second oldest held later swept limit table names =
-    let is : nat_lt before.swept second ≡ true = ap (λ (n : ℕ). nat_lt n second) (sym held.swept) ∙ later in
+    → HoldsStreams (swept_if true before second oldest) new
+sweeps_streams law old new before second oldest held swept limit table names =
     let among =
     dropped_among old.pool new.pool (table_behind before) (is_since (since_instant oldest)) held.held.table table in
-    subst (λ (h : PoolHistory). HoldsPooling h new) (sym (ap (λ b. swept_if b before second oldest) is)) (record {
+    record {
       swept = swept;
       held = HoldsHistory-push law new.pool (record before { swept = second }) (drops_streams (since_instant oldest))
           (limit ∙ held.held.limit) table;
       listed = swept_listed old.names new.names old.pool new.pool among held.listed names;
       numbered = λ name number at. held.numbered name number (among_numbered old.pool new.pool among name number at);
+    }
+
+-- and those that it dropped are counted
+pub sweeps : OneMoreCall → (old new : Pooling) (before : PoolHistory) (second oldest : ℕ) → HoldsPooling before old
+    → nat_lt old.swept second ≡ true → new.swept ≡ second → limit_of new.pool ≡ limit_of old.pool
+    → HoldsTable nat_eq new.pool
+    (table_with before.limit nat_eq is_since (table_behind before) (drops_streams (since_instant oldest)))
+    → ((number : ℕ) → get nat_cmp new.names number ≡ open_at new.pool (get nat_cmp old.names number))
+    → IsOrdered nat_cmp old.names → IsOrdered nat_cmp new.names
+    → fates_of new ≡ with_given_up (btree_map_len old.names - btree_map_len new.names) (fates_of old)
+    → HoldsPooling (with_sweep before second oldest) new
+sweeps law old new before second oldest held later swept limit table names was_ordered ordered counted =
+    let is : nat_lt before.swept second ≡ true = ap (λ (n : ℕ). nat_lt n second) (sym held.streams.swept) ∙ later in
+    let streams = sweeps_streams law old new before second oldest held.streams swept limit table names in
+    subst (λ (h : PoolHistory). HoldsPooling h new) (sym (ap (λ b. swept_if b before second oldest) is)) (record {
+      streams = streams;
+      became = drop_became (record before { swept = second }) (since_instant oldest) (btree_map_len old.names)
+          (btree_map_len new.names) (fates_of old) (fates_of new) held.became
+          (has_open old before held.streams was_ordered)
+          (has_open new (swept_if true before second oldest) streams ordered) counted;
     })
 
 -- ---- a fragment
@@ -134,11 +227,11 @@ pub frame_pooled : OneMoreCall → (old new : Pooling) (between : BTreeMap ℕ (
     (carried : Option PacketFragment) (at : Arrival) (result : Result (Option IpDefragPayloadVec) IpDefragError)
     (name : IpFragId ℕ) (stood stands : Option ℕ) → TakesFrame nat_eq old.pool new.pool carried at 0 result
     → IsFalse (wants_memory result) → option_map (λ c. name_of c 0) carried ≡ Some name → (before : PoolHistory)
-    → HoldsPooling before old → before.number < at.number → new.swept ≡ old.swept
+    → HoldsStreams before old → before.number < at.number → new.swept ≡ old.swept
     → stood ≡ number_at name old.pool → stands ≡ number_behind result stood at.number
     → ((number : ℕ) → get nat_cmp between number ≡ without (get nat_cmp old.names) stood number)
     → ((number : ℕ) → get nat_cmp new.names number ≡ with_one (get nat_cmp between) name stands number)
-    → HoldsPooling (record before { number = at.number; calls = before.calls ++ gives_frame carried at 0 ∷ [] }) new
+    → HoldsStreams (record before { number = at.number; calls = before.calls ++ gives_frame carried at 0 ∷ [] }) new
 frame_pooled law old new between None at result name stood stands takes enough named before held later swept stood_is
     stands_is taken put = let never : ⊥ = cc in absurd never
 frame_pooled law old new between (Some carried) at result name stood stands takes enough named before held later swept
@@ -175,13 +268,17 @@ pub frame_passed : OneMoreCall → (pooling : Pooling) (carried : Option PacketF
     → HoldsPooling before pooling → before.number < at.number
     → HoldsPooling (record before { number = at.number; calls = before.calls ++ gives_frame carried at 0 ∷ [] }) pooling
 frame_passed law pooling carried at takes before held later =
-    let after =
-    HoldsHistory-frame law pooling.pool pooling.pool carried at 0 (Ok None) takes refl before held.held in
+    let pool = held.streams.held in
+    let after = HoldsHistory-frame law pooling.pool pooling.pool carried at 0 (Ok None) takes refl before pool in
     record {
-      swept = held.swept;
-      held = record { limit = after.limit; table = after.table };
-      listed = held.listed;
-      numbered = λ name number is. let most = held.numbered name number is in omega arith;
+      streams = record {
+        swept = held.streams.swept;
+        held = record { limit = after.limit; table = after.table };
+        listed = held.streams.listed;
+        numbered = λ name number is. let most = held.streams.numbered name number is in omega arith;
+      };
+      became = frame_became before carried at (Ok None) (fates_of pooling) (fates_of pooling) held.became
+          (frame_answered pooling.pool pooling.pool carried at 0 (Ok None) takes refl before pool) refl;
     }
 
 -- ---- the oldest stream
@@ -200,29 +297,6 @@ first_given_up : (most : ℕ) (before : PoolHistory) (oldest : ℕ) (later : Lis
 first_given_up most before oldest later many =
     cond-false (nat_lt (length later) most) before (with_call before (drops_streams (since_packet (oldest + 1))))
     (le-ltb (length later) most (omega arith))
-
-some_value : {X : Type 0} (o : Option X) → is_some o ≡ true → (x : X) × (o ≡ Some x)
-some_value None there = absurd (false≢true there)
-some_value (Some x) there = (x, refl)
-
--- the numbers of the list are those of the open streams
-pub are_open : (pooling : Pooling) (before : PoolHistory) → HoldsPooling before pooling
-    → IsOrdered nat_cmp pooling.names → AreOpen (table_behind before) (keys pooling.names)
-are_open pooling before held ordered = record {
-  ascending = ordered;
-  each = λ number.
-      let has = btree_map_contains_key_iff nat_cmp_total exact_unsigned pooling.names number in (
-        λ contained.
-            let found = some_value (get nat_cmp pooling.names number) (has.1 contained) in (
-              found.0,
-              sym (number_held pooling.pool (table_behind before) held.held.table found.0)
-                  ∙ (held.listed number found.0).0 found.1,
-            ),
-        λ named.
-            has.0 (ap is_some ((held.listed number named.0).1
-            (number_held pooling.pool (table_behind before) held.held.table named.0 ∙ named.1))),
-      );
-}
 
 -- a drop of what came with no later packet than this one
 dropped : (oldest : ℕ) (kept : Option (Kept Arrival)) → number_of kept ≡ Some oldest
@@ -244,7 +318,7 @@ stays oldest (Some kept) later =
     (and_from (nat_le (oldest + 1) kept.timestamp.number) (nat_le 0 kept.timestamp.instant)
     (le-leb (oldest + 1) kept.timestamp.number (omega arith)) (le-leb 0 kept.timestamp.instant (omega arith)))
 
-module _ (old : Pooling) (before : PoolHistory) (held : HoldsPooling before old) (oldest : ℕ) (name : IpFragId ℕ)
+module _ (old : Pooling) (before : PoolHistory) (held : HoldsStreams before old) (oldest : ℕ) (name : IpFragId ℕ)
     (here : get nat_cmp old.names oldest ≡ Some name) (least : IsLowerBound nat_cmp old.names oldest) where
   -- all but the first of the list came later
   later_than : (other : IpFragId ℕ) → same_stream nat_eq name other ≡ false → (number : ℕ)
@@ -280,19 +354,55 @@ module _ (old : Pooling) (before : PoolHistory) (held : HoldsPooling before old)
       ]
 
   -- it is given up
-  pub gives_up : OneMoreCall → (new : Pooling) (most : ℕ) → IsOrdered nat_cmp old.names
+  gives_up_streams : OneMoreCall → (new : Pooling) → ((number : ℕ) → get nat_cmp new.names number
+      ≡ cond (eq_by_cmp nat_cmp oldest number) None (get nat_cmp old.names number)) → new.swept ≡ old.swept
+      → HoldsTable nat_eq new.pool
+      (λ other. if same_stream nat_eq name other then None else table_behind before other)
+      → ChangesStream nat_eq old.pool new.pool name None
+      → HoldsStreams (with_call before (drops_streams (since_packet (oldest + 1)))) new
+  gives_up_streams law new taken swept table ends =
+      let others = others_same old.pool new.pool name ends.others in
+      let gone : number_at name new.pool ≡ None = ap entry_number ends.here in
+      record {
+        swept = swept ∙ held.swept;
+        held = HoldsHistory-push law new.pool before (drops_streams (since_packet (oldest + 1)))
+            (ends.limit ∙ held.held.limit) (record {
+              apart = table.apart;
+              each = λ other.
+                  subst (λ kept. HoldsEntry (limit_of new.pool) (stream_named nat_eq other new.pool) kept) (left other)
+                  (table.each other);
+            });
+        listed = relisted old.names new.names new.names old.pool new.pool name (Some oldest) None held.listed
+            ((held.listed oldest name).0 here) gone
+            (λ number. taken number
+            ∙ ap (λ b. cond b None (get nat_cmp old.names number)) (unsigned_tied oldest number)) (λ number. refl)
+            others (λ number is. let never : ⊥ = cc in absurd never);
+        numbered = λ other number is. elim (others other) [
+          | inl alike ↦
+              let clash : None ≡ Some number = sym gone ∙ ap (λ n. number_at n new.pool) (sym alike) ∙ is in
+              let never : ⊥ = cc in
+              absurd never
+          | inr apart ↦ held.numbered other number (sym apart.1 ∙ is)
+        ];
+      }
+
+  -- and counted
+  pub gives_up : OneMoreCall → (new : Pooling) (most : ℕ) → BecameOf before (fates_of old) → IsOrdered nat_cmp old.names
       → most < btree_map_len old.names → old.names.entries ≡ (oldest, name) ∷ new.names.entries
       → ((number : ℕ) → get nat_cmp new.names number
       ≡ cond (eq_by_cmp nat_cmp oldest number) None (get nat_cmp old.names number)) → new.swept ≡ old.swept
       → HoldsTable nat_eq new.pool
       (λ other. if same_stream nat_eq name other then None else table_behind before other)
       → ChangesStream nat_eq old.pool new.pool name None
+      → fates_of new ≡ with_given_up 1 (fates_of old)
       → (after : PoolHistory) × IsBounded most before after × HoldsPooling after new
-  gives_up law new most ordered many first taken swept table ends =
-      let call = drops_streams (since_packet (oldest + 1)) in
-      let others = others_same old.pool new.pool name ends.others in
-      let gone : number_at name new.pool ≡ None = ap entry_number ends.here in (
-        with_call before call,
+  gives_up law new most became ordered many first taken swept table ends counted =
+      let streams = gives_up_streams law new taken swept table ends in
+      let next : IsOrdered nat_cmp new.names =
+      sorted_tail nat_cmp oldest (keys new.names)
+      (subst (λ es. IsStrictlySortedBy nat_cmp (keys_of es)) first ordered) in
+      let one : btree_map_len old.names - btree_map_len new.names ≡ 1 = omega (arith, ap length first) in (
+        with_call before (drops_streams (since_packet (oldest + 1))),
         (
           keys old.names,
           are_open old before held ordered,
@@ -301,25 +411,11 @@ module _ (old : Pooling) (before : PoolHistory) (held : HoldsPooling before old)
               (omega (arith, many, ap length first, length-keys_of new.names.entries))),
         ),
         record {
-          swept = swept ∙ held.swept;
-          held = HoldsHistory-push law new.pool before call (ends.limit ∙ held.held.limit) (record {
-            apart = table.apart;
-            each = λ other.
-                subst (λ kept. HoldsEntry (limit_of new.pool) (stream_named nat_eq other new.pool) kept) (left other)
-                (table.each other);
-          });
-          listed = relisted old.names new.names new.names old.pool new.pool name (Some oldest) None held.listed
-              ((held.listed oldest name).0 here) gone
-              (λ number. taken number
-              ∙ ap (λ b. cond b None (get nat_cmp old.names number)) (unsigned_tied oldest number)) (λ number. refl)
-              others (λ number is. let never : ⊥ = cc in absurd never);
-          numbered = λ other number is. elim (others other) [
-            | inl alike ↦
-                let clash : None ≡ Some number = sym gone ∙ ap (λ n. number_at n new.pool) (sym alike) ∙ is in
-                let never : ⊥ = cc in
-                absurd never
-            | inr apart ↦ held.numbered other number (sym apart.1 ∙ is)
-          ];
+          streams = streams;
+          became = drop_became before (since_packet (oldest + 1)) (btree_map_len old.names)
+              (btree_map_len new.names) (fates_of old) (fates_of new) became (has_open old before held ordered)
+              (has_open new (with_call before (drops_streams (since_packet (oldest + 1)))) streams next)
+              (counted ∙ ap (λ (n : ℕ). with_given_up n (fates_of old)) (sym one));
         },
       )
 

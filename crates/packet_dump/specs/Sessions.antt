@@ -8,7 +8,7 @@ use Rattle.packet_dump.specs.OpenStreams.{IsListed, number_at}
 use Rattle.packet_dump.specs.PacketCalls.{HoldsHistory, PoolHistory}
 use Rattle.packet_dump.specs.Saves.{GoesOn}
 use Rattle.packet_dump.specs.Shown.{first_after, instant_in, latest_after}
-use Rattle.packet_dump.specs.Summaries.{CountsOn, PlainSummary, plain_of}
+use Rattle.packet_dump.specs.Summaries.{BecameOf, CountsOn, Fates, PlainSummary, plain_of}
 use Rattle.packet_dump.specs.declared.ending.Ending.{Ending}
 use Rattle.packet_dump.specs.declared.ending.Ending.TheVariants as ending
 use Rattle.packet_dump.specs.declared.pooling.Pooling.{Pooling}
@@ -20,11 +20,24 @@ use Rattle.packet_dump.specs.declared.summary.Summary.{Summary}
 use Rattle.packet_dump.specs.declared.dump_options.DumpOptions.{DumpOptions}
 
 -- This became of the pool. Its open streams are listed, and no fragment of one came with a later packet than the last.
-pub record HoldsPooling (history : PoolHistory) (pooling : Pooling) : Type 0 where
+pub record HoldsStreams (history : PoolHistory) (pooling : Pooling) : Type 0 where
   pub swept : pooling.swept ≡ history.swept
   pub held : HoldsHistory history pooling.pool
   pub listed : IsListed pooling.names pooling.pool
   pub numbered : (name : IpFragId ℕ) (number : ℕ) → number_at name pooling.pool ≡ Some number → number ≤ history.number
+
+-- what was counted of fragments
+abbrev pub fates_of : Pooling → Fates
+fates_of pooling = record {
+  reassembled = pooling.reassembled;
+  refused = pooling.refused;
+  given_up = pooling.given_up;
+}
+
+-- The same, and what became of fragments was counted.
+pub record HoldsPooling (history : PoolHistory) (pooling : Pooling) : Type 0 where
+  pub streams : HoldsStreams history pooling
+  pub became : BecameOf history (fates_of pooling)
 
 -- The same, and all packets that it was given came before that of this number.
 pub record AwaitsPacket (history : PoolHistory) (number : ℕ) (pooling : Pooling) : Type 0 where

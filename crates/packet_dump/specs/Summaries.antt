@@ -4,23 +4,29 @@ use Rattle.std.specs.Prelude.{Option, Some, None, length, map}
 use Rattle.std.specs.Borrow.{Bor}
 use Rattle.std.specs.Str.{bytes_eq}
 use Rattle.capture_reader.specs.Captures.{Item, PlainShown, Stage, at_start, shown_in, stage_after}
+use Rattle.etherparse.specs.Calls.{Answer, Kept, answer_to, buffer_returned, drops_streams, fragment_refused}
+use Rattle.etherparse.specs.Calls.{gives_frame, nothing_handed_out, payload_handed_out, returns_buffer, streams_dropped}
+use Rattle.etherparse.specs.Calls.{table_after}
 use Rattle.etherparse.specs.Layers.{Layers, NetLayer, arp, carries_fragment, ipv4, ipv6}
 use Rattle.etherparse.specs.LinkExtensions.{LinkExtension, macsec, vlan}
 use Rattle.etherparse.specs.LinkSlices.{LinkLayer, ether_payload, ethernet2, linux_sll, linux_sll_payload}
 use Rattle.etherparse.specs.StrictFrames.{layers_in}
 use Rattle.etherparse.specs.TransportParts.{TransportLayer}
+use Rattle.etherparse.specs.Types.IpFragId.{IpFragId}
 use Rattle.etherparse.specs.Types.Layer.{Layer}
 use Rattle.etherparse.specs.Types.SliceError.{SliceError}
 use Rattle.etherparse.specs.Types.TransportHeader.{TransportHeader}
 use Rattle.etherparse.specs.Types.TransportHeader.TheVariants as header
-use Rattle.packet_dump.specs.Dumps.{AreShown}
+use Rattle.packet_dump.specs.Dumps.{AreAllTexts, packets_in}
 use Rattle.packet_dump.specs.Openings.{is_cooked, opening_of}
+use Rattle.packet_dump.specs.PacketCalls.{AreOpen, NumberCall, PoolHistory, is_since, table_behind}
 use Rattle.packet_dump.specs.PacketContents.{Content, Holds, HoldsBehind, other_link, packet, refusal}
 use Rattle.packet_dump.specs.Saves.{EndsAt}
 use Rattle.packet_dump.specs.SliceErrorTexts.{error_name}
 use Rattle.packet_dump.specs.declared.dump_options.DumpOptions.{DumpOptions}
 use Rattle.packet_dump.specs.declared.ending.Ending.{Ending}
 use Rattle.packet_dump.specs.declared.openings.Opening.{Opening}
+use Rattle.packet_dump.specs.declared.pooling.Arrival.{Arrival}
 use Rattle.packet_dump.specs.declared.summary.Fragments.{Fragments}
 use Rattle.packet_dump.specs.declared.summary.LayerCounts.{LayerCounts}
 use Rattle.packet_dump.specs.declared.summary.Refusals.{Refusals}
@@ -280,22 +286,83 @@ abbrev pub CountsOn : DumpOptions → PlainSummary → PlainSummary → (items a
 CountsOn options old new items all =
     (start : PlainSummary) → IsCounted options items start old → IsCounted options all start new
 
+-- ---- fragments
+
+-- so many streams are open
+abbrev pub HasOpen : (IpFragId ℕ → Option (Kept Arrival)) → ℕ → Type 0
+HasOpen table count = (numbers : List ℕ) × AreOpen table numbers × (count ≡ length numbers)
+
+-- so many payloads were handed out, so many fragments refused, and so many streams given up
+pub record Fates : Type 0 where
+  pub reassembled : ℕ
+  pub refused : ℕ
+  pub given_up : ℕ
+
+abbrev pub no_fates : Fates
+no_fates = record { reassembled = 0; refused = 0; given_up = 0 }
+
+-- with what the pool answers a frame
+abbrev pub with_answer : Answer → Fates → Fates
+with_answer (payload_handed_out payload) before = record before { reassembled = more before.reassembled 1 }
+with_answer (fragment_refused error) before = record before { refused = more before.refused 1 }
+with_answer nothing_handed_out before = before
+with_answer streams_dropped before = before
+with_answer buffer_returned before = before
+
+-- with so many streams that are given up
+abbrev pub with_given_up : ℕ → Fates → Fates
+with_given_up count before = record before { given_up = more before.given_up count }
+
+-- What a call adds, behind earlier ones on a pool of this limit: a frame what it is answered, and a drop the streams
+-- that are open before and not after it.
+abbrev pub CountsCall : ℕ → List NumberCall → NumberCall → Fates → Fates → Type 0
+CountsCall limit earlier (gives_frame carried at channel) old new =
+    new ≡ with_answer (answer_to {V = Arrival} limit (table_after limit nat_eq is_since earlier)
+    (gives_frame carried at channel)) old
+CountsCall limit earlier (drops_streams oldest) old new =
+    (had has : ℕ) × HasOpen (table_after limit nat_eq is_since earlier) had
+    × HasOpen (table_after limit nat_eq is_since (earlier ++ drops_streams oldest ∷ [])) has
+    × (new ≡ with_given_up (had - has) old)
+CountsCall limit earlier returns_buffer old new = new ≡ old
+
+-- what these calls add, one behind the other
+abbrev pub CountsCalls : ℕ → List NumberCall → List NumberCall → Fates → Fates → Type 0
+CountsCalls limit earlier [] old new = new ≡ old
+CountsCalls limit earlier (call ∷ calls) old new =
+    (next : Fates) × CountsCall limit earlier call old next
+    × CountsCalls limit (earlier ++ call ∷ []) calls next new
+
+-- what became of fragments by all calls on a pool
+abbrev pub BecameOf : PoolHistory → Fates → Type 0
+BecameOf history fates = CountsCalls history.limit [] history.calls no_fates fates
+
+-- the same as a summary tells it, with how many streams are then open
+pub record AreFragments (history : PoolHistory) (fragments : Fragments) : Type 0 where
+  pub became : BecameOf history (record {
+    reassembled = fragments.reassembled;
+    refused = fragments.not_reassembled;
+    given_up = fragments.given_up;
+  })
+  pub stay : HasOpen (table_behind history) fragments.open
+
 -- ---- whole runs
 
 abbrev pub with_fragments : Fragments → PlainSummary → PlainSummary
 with_fragments fragments before = if before.wanted then record before { fragments = Some fragments } else before
 
--- it is told what became of fragments, where payloads are put together
-abbrev pub CountsFragments : Bool → PlainSummary → PlainSummary → Type 0
-CountsFragments true old new = (fragments : Fragments) × (new ≡ with_fragments fragments old)
-CountsFragments false old new = new ≡ old
+-- it is told what became of fragments in this pool, where payloads are put together
+abbrev pub CountsFragments : Bool → PoolHistory → PlainSummary → PlainSummary → Type 0
+CountsFragments true pool old new =
+    (fragments : Fragments) × AreFragments pool fragments × (new ≡ with_fragments fragments old)
+CountsFragments false pool old new = new ≡ old
 
 -- What was read ends with these items, so that a run ends there: what was written is their lines, and their packets were
--- counted.
+-- counted, and what became of the fragments that they carry.
 abbrev pub IsCountedDump : DumpOptions → Bool → Ending → PlainSummary → PlainSummary → List ℕ → List ℕ → Type 0
 IsCountedDump options ended ending old new read written =
-    (items : List Item) × EndsAt options ended ending read items × AreShown options items written
-    × (behind : PlainSummary) × IsCounted options items old behind × CountsFragments options.reassemble behind new
+    (items : List Item) × EndsAt options ended ending read items × (packets_in items ≤ options.most)
+    × (pool : PoolHistory) × AreAllTexts options items written pool
+    × (behind : PlainSummary) × IsCounted options items old behind × CountsFragments options.reassemble pool behind new
 
 -- ---- sums
 

@@ -10,7 +10,7 @@ ghost use Rattle.etherparse.specs.Layers.{layers_of};
 ghost use Rattle.etherparse.specs.LaxViews.{lax_extensions_of, lax_net_layer_of};
 ghost use Rattle.etherparse.specs.LinkSlices.{link_layer_of};
 ghost use Rattle.etherparse.specs.StrictFrames.{layers_in};
-ghost use Rattle.packet_dump.specs.PacketContents.{Content, HoldsLaxly, bytes_text, content_with};
+ghost use Rattle.packet_dump.specs.PacketContents.{Content, HoldsLaxly, bytes_text, content_text, content_with};
 ghost use Rattle.packet_dump.specs.Openings.{is_cooked};
 ghost use Rattle.packet_dump.specs.PacketContents.{has_extensions, has_header, has_layer, other_link, packet, refusal, shown_bytes};
 ghost use Rattle.packet_dump.specs.Details.{IsDetailed};
@@ -359,9 +359,17 @@ fn push_other(
         return Ok(());
     }
     push_start(output, options.time, parts)?;
-    decimals::push_behind(output, b" link ", u64::from(parts.shown.link_type))?;
-    push_len(output, parts.shown.bytes)?;
+    push_unread_link(output, &parts.shown)?;
     push_end(output, &parts.shown, options, parts.shown.bytes)
+}
+
+/// Appends the link type of a packet that is not read, and the number of its bytes.
+fn push_unread_link(output: &mut Vec<u8>, shown: &Shown<'_>) -> Result<(), AllocError>
+    ensures { OnOk result (output.new.items
+        ≡ output.old.items ++ content_text shown.now.bytes.now (other_link shown.now.link_type)) }
+{
+    decimals::push_behind(output, b" link ", u64::from(shown.link_type))?;
+    push_len(output, shown.bytes)
 }
 
 /// Appends what the line of a packet begins with: its number, its time in this form, and what is told of a header that

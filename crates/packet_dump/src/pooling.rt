@@ -6,7 +6,7 @@ ghost use Rattle.std.specs.Option.{option_map};
 ghost use Rattle.std.specs.Ordering.{nat_cmp};
 ghost use Rattle.etherparse.specs.LaxPackets.{lax_layers_of};
 ghost use Rattle.etherparse.specs.Layers.{layers_of};
-ghost use Rattle.etherparse.specs.Pools.{fragment_in};
+ghost use Rattle.etherparse.specs.Pools.{fragment_in, plain_frame_answer};
 ghost use Rattle.etherparse.specs.StrictFrames.{layers_in};
 ghost use Rattle.etherparse.specs.Streams.{name_of};
 ghost use Rattle.packet_dump.specs.PacketLines.{parts_start};
@@ -14,7 +14,8 @@ ghost use Rattle.packet_dump.specs.PacketCalls.{IsBounded, PoolHistory, is_since
 ghost use Rattle.packet_dump.specs.PacketCalls.{with_frame, with_sweep};
 ghost use Rattle.packet_dump.specs.PoolLines.{GivesFrame, IsCallText, arrival_of, oldest_from};
 ghost use Rattle.packet_dump.specs.OpenStreams.{arrival_at, number_at, number_behind, open_at, with_one, without};
-ghost use Rattle.packet_dump.specs.Sessions.{AwaitsPacket, HoldsPooling};
+ghost use Rattle.packet_dump.specs.Sessions.{AwaitsPacket, HoldsPooling, HoldsStreams, fates_of};
+ghost use Rattle.packet_dump.specs.Summaries.{AreFragments, with_answer};
 
 use crate::dump_options::DumpOptions;
 use crate::lines::LineParts;
@@ -159,7 +160,7 @@ impl Pooling {
             return;
         }
         one_more_call::<Arrival, u64, Arrival>();
-        let had = self.pool.stream_count();
+        let had = self.names.len();
         self.swept = second;
         self.pool.retain(
             |kept: &Arrival| -> bool
@@ -167,7 +168,8 @@ impl Pooling {
             { kept.instant >= oldest },
         );
         keep_open(&mut self.names, &self.pool);
-        let gone = had.saturating_sub(self.pool.stream_count());
+        let has = self.names.len();
+        let gone = had.saturating_sub(has);
         self.given_up = self.given_up.saturating_add(gone as u64);
     }
 
@@ -188,7 +190,8 @@ impl Pooling {
 
     /// Counts an answer, and gives its payload back to the pool, if it has one.
     fn give_back(&mut self, answer: Result<Option<IpDefragPayloadVec>, IpDefragError>)
-        ensures { (before : PoolHistory) → HoldsPooling before self.old → HoldsPooling before self.new }
+        ensures streams { (before : PoolHistory) → HoldsStreams before self.old → HoldsStreams before self.new }
+        ensures counted { fates_of self.new ≡ with_answer (plain_frame_answer answer) (fates_of self.old) }
     {
         match answer {
             Ok(None) => {}
@@ -201,12 +204,14 @@ impl Pooling {
     }
 
     /// What became of fragments.
-    pub fn fragments(&self) -> Fragments {
+    pub fn fragments(&self) -> Fragments
+        ensures { (history : PoolHistory) → HoldsPooling history self.now → AreFragments history result }
+    {
         Fragments {
             reassembled: self.reassembled,
             not_reassembled: self.refused,
             given_up: self.given_up,
-            open: self.pool.stream_count() as u64,
+            open: self.names.len() as u64,
         }
     }
 }

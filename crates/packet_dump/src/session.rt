@@ -6,8 +6,8 @@ ghost use Rattle.capture_reader.specs.Readers.{reader_shown};
 ghost use Rattle.packet_dump.specs.Dumps.{AreAllTexts, packets_in};
 ghost use Rattle.packet_dump.specs.PacketCalls.{PoolHistory, new_pool};
 ghost use Rattle.packet_dump.specs.Saves.{GoesOn, is_failed};
-ghost use Rattle.packet_dump.specs.Sessions.{AwaitsPacket, Counts, Drains, PushesLine, Stands, ending_of, ends_run};
-ghost use Rattle.packet_dump.specs.Sessions.{gathered, taken_by};
+ghost use Rattle.packet_dump.specs.Sessions.{AwaitsPacket, Counts, Drains, HoldsPooling, PushesLine, Stands, ending_of};
+ghost use Rattle.packet_dump.specs.Sessions.{ends_run, gathered, taken_by};
 ghost use Rattle.packet_dump.specs.Summaries.{CountsFragments, CountsPacket, plain_of};
 ghost use Rattle.packet_dump.specs.declared.dump_options.DumpOptions.{DumpOptions};
 
@@ -143,7 +143,8 @@ impl Session {
 
     /// Counts what became of fragments.
     pub fn count_pool(&mut self, summary: &mut Summary)
-        ensures { CountsFragments self.old.options.reassemble (plain_of summary.old) (plain_of summary.new) }
+        ensures { (history : PoolHistory) → HoldsPooling history self.old.pooling →
+            CountsFragments self.old.options.reassemble history (plain_of summary.old) (plain_of summary.new) }
     {
         if self.options.reassemble {
             summary.count_fragments(self.pooling.fragments());

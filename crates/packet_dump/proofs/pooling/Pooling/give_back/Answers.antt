@@ -3,8 +3,8 @@ use Rattle.packet_dump.specs.PacketCalls.{table_behind}
 use Rattle.packet_dump.proofs.OpenLemmas.{same_listed, same_number}
 use Rattle.packet_dump.proofs.pooling.Pooling.give_back.Goals as goal
 
-pub returns-in-Ok-Some : goal.returns-in-Ok-Some
-returns-in-Ok-Some c = λ before held.
+pub returns-in-Ok-Some-clause-streams : goal.returns-in-Ok-Some-clause-streams
+returns-in-Ok-Some-clause-streams c = λ before held.
     let old = c.args.self.now.pool in
     let new = c.return_buf.new.self in
     let same = same_number old new c.return_buf.ensures.streams in
@@ -18,8 +18,8 @@ returns-in-Ok-Some c = λ before held.
       numbered = λ name number is. held.numbered name number (sym (same name) ∙ is);
     }
 
-pub returns-in-Err : goal.returns-in-Err
-returns-in-Err c = λ before held. record {
+pub returns-in-Err-clause-streams : goal.returns-in-Err-clause-streams
+returns-in-Err-clause-streams c = λ before held. record {
   swept = held.swept;
   held = held.held;
   listed = held.listed;

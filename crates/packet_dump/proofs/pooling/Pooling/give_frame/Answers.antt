@@ -27,7 +27,7 @@ returns-in-None c =
     λ before awaits. (
       [],
       subst (λ a. IsAnswerText c.args.options.now start layers a [])
-          (frame_answered pool pool carried at 0 (Ok None) takes refl before awaits.holds.held) refl,
+          (frame_answered pool pool carried at 0 (Ok None) takes refl before awaits.holds.streams.held) refl,
       frame_passed c.one_more_call.ensures c.args.self.now carried at takes before awaits.holds awaits.later,
       sym (append-nil c.args.output.now.items),
     )
