@@ -139,29 +139,39 @@ fn behind_of<'a>(
     }
 }
 
-/// Builds the frame of each of these, one after the other in one buffer, and adds up what is summed of them.
-pub fn built(alloc: Global, all: &[FrameParts<'_>]) -> Result<u64, BenchError>
-    ensures err { IfErr result (λ error. error ≡ BenchError.OutOfMemory) }
-{
-    let mut buffer = Vec::new(alloc);
-    let mut total: u64 = 0;
-    for parts in all {
-        buffer.clear();
-        let built = build(parts, &mut buffer);
-        total = total.wrapping_add(number_of(built, buffer.as_slice())?);
-    }
-    Ok(total)
+/// A way to build a frame.
+pub trait Builds {
+    /// Appends the frame that is built of these, and nothing at an error.
+    fn build(parts: &FrameParts<'_>, buffer: &mut Vec<u8>) -> Result<(), BuildWriteError>;
 }
 
-/// The same of frames that are built from addresses and ports.
-pub fn built_from_addresses(alloc: Global, all: &[FrameParts<'_>]) -> Result<u64, BenchError>
+/// From headers by value.
+pub struct FromHeaders;
+
+/// From addresses and ports.
+pub struct FromAddresses;
+
+impl Builds for FromHeaders {
+    fn build(parts: &FrameParts<'_>, buffer: &mut Vec<u8>) -> Result<(), BuildWriteError> {
+        build(parts, buffer)
+    }
+}
+
+impl Builds for FromAddresses {
+    fn build(parts: &FrameParts<'_>, buffer: &mut Vec<u8>) -> Result<(), BuildWriteError> {
+        build_from_addresses(parts, buffer)
+    }
+}
+
+/// Builds the frame of each of these, one after the other in one buffer, and adds up what is summed of them.
+pub fn built<Way: Builds>(alloc: Global, all: &[FrameParts<'_>]) -> Result<u64, BenchError>
     ensures err { IfErr result (λ error. error ≡ BenchError.OutOfMemory) }
 {
     let mut buffer = Vec::new(alloc);
     let mut total: u64 = 0;
     for parts in all {
         buffer.clear();
-        let built = build_from_addresses(parts, &mut buffer);
+        let built = Way::build(parts, &mut buffer);
         total = total.wrapping_add(number_of(built, buffer.as_slice())?);
     }
     Ok(total)
@@ -227,14 +237,14 @@ pub fn build_from_addresses(
             let (source, destination) = (header.source, header.destination);
             let hops = header.time_to_live;
             match &parts.tags {
-                None => build_ports(link.ipv4(source, destination, hops), behind, buffer),
+                None => build_behind(link.ipv4(source, destination, hops), behind, false, buffer),
                 Some(VlanHeader::Single(tag)) => {
                     let link = link.single_vlan(tag.vlan_id);
-                    build_ports(link.ipv4(source, destination, hops), behind, buffer)
+                    build_behind(link.ipv4(source, destination, hops), behind, false, buffer)
                 }
                 Some(VlanHeader::Double(tags)) => {
                     let link = link.double_vlan(tags.outer.vlan_id, tags.inner.vlan_id);
-                    build_ports(link.ipv4(source, destination, hops), behind, buffer)
+                    build_behind(link.ipv4(source, destination, hops), behind, false, buffer)
                 }
             }
         }
@@ -242,14 +252,14 @@ pub fn build_from_addresses(
             let (source, destination) = (header.source, header.destination);
             let hops = header.hop_limit;
             match &parts.tags {
-                None => build_ports(link.ipv6(source, destination, hops), behind, buffer),
+                None => build_behind(link.ipv6(source, destination, hops), behind, false, buffer),
                 Some(VlanHeader::Single(tag)) => {
                     let link = link.single_vlan(tag.vlan_id);
-                    build_ports(link.ipv6(source, destination, hops), behind, buffer)
+                    build_behind(link.ipv6(source, destination, hops), behind, false, buffer)
                 }
                 Some(VlanHeader::Double(tags)) => {
                     let link = link.double_vlan(tags.outer.vlan_id, tags.inner.vlan_id);
-                    build_ports(link.ipv6(source, destination, hops), behind, buffer)
+                    build_behind(link.ipv6(source, destination, hops), behind, false, buffer)
                 }
             }
         }
@@ -279,43 +289,6 @@ fn build_with_size(parts: &FrameParts<'_>, buffer: &mut Vec<u8>) -> Result<(), B
     Ok(())
 }
 
-/// Appends the frame of a step of IP headers, the ports or the type of a transport header, and the payload. It is
-/// inlined, once for each place: so what the step holds is known there.
-#[inline(always)]
-fn build_ports(
-    step: PacketBuilderStep<IpHeaders>,
-    behind: &Behind<'_>,
-    buffer: &mut Vec<u8>,
-) -> Result<(), BuildWriteError> {
-    match behind {
-        Behind::Payload(number, payload) => step.write(buffer, *number, payload),
-        Behind::Transport(transport, payload) => match transport {
-            TransportHeader::Udp(header) => {
-                step.udp(header.source_port, header.destination_port)
-                    .write(buffer, payload)
-            }
-            TransportHeader::Tcp(header) => {
-                step.tcp(
-                    header.source_port,
-                    header.destination_port,
-                    header.sequence_number,
-                    header.window_size,
-                )
-                .ack(header.acknowledgment_number)
-                .write(buffer, payload)
-            }
-            TransportHeader::Icmpv4(header) => {
-                step.icmpv4(header.icmp_type.clone().unwrap())
-                    .write(buffer, payload)
-            }
-            TransportHeader::Icmpv6(header) => {
-                step.icmpv6(header.icmp_type.clone().unwrap())
-                    .write(buffer, payload)
-            }
-        },
-    }
-}
-
 /// A copy of extension headers.
 #[inline(always)]
 fn copy_of(extensions: &Ipv6Extensions) -> Ipv6Extensions {
@@ -333,16 +306,23 @@ fn build_ip(
 ) -> Result<(), BuildWriteError> {
     let link = PacketBuilder::ethernet2(parts.link.source, parts.link.destination);
     match &parts.tags {
-        Some(tags) => { build_behind(link.vlan(tags.clone().unwrap()).ip(headers), behind, buffer) }
-        None => build_behind(link.ip(headers), behind, buffer),
+        Some(tags) => build_behind(
+            link.vlan(tags.clone().unwrap()).ip(headers),
+            behind,
+            true,
+            buffer,
+        ),
+        None => build_behind(link.ip(headers), behind, true, buffer),
     }
 }
 
-/// Appends the frame of a step of IP headers and what stands behind them. It is inlined for the same reason.
+/// Appends the frame of a step of IP headers and what stands behind them; with a whole header of TCP, or else its ports
+/// and numbers alone. It is inlined for the same reason, and so that what the step holds is known there.
 #[inline(always)]
 fn build_behind(
     step: PacketBuilderStep<IpHeaders>,
     behind: &Behind<'_>,
+    whole: bool,
     buffer: &mut Vec<u8>,
 ) -> Result<(), BuildWriteError> {
     match behind {
@@ -352,9 +332,19 @@ fn build_behind(
                 step.udp(header.source_port, header.destination_port)
                     .write(buffer, payload)
             }
-            TransportHeader::Tcp(header) => {
+            TransportHeader::Tcp(header) if whole => {
                 step.tcp_header(header.clone().unwrap())
                     .write(buffer, payload)
+            }
+            TransportHeader::Tcp(header) => {
+                step.tcp(
+                    header.source_port,
+                    header.destination_port,
+                    header.sequence_number,
+                    header.window_size,
+                )
+                .ack(header.acknowledgment_number)
+                .write(buffer, payload)
             }
             TransportHeader::Icmpv4(header) => {
                 step.icmpv4(header.icmp_type.clone().unwrap())

@@ -4,7 +4,7 @@ ghost use Rattle.std.specs.Prelude.{◌≡◌, ◌*◌, ◌/◌, ◌<◌, ◌^�
 ghost use Rattle.slice_bench.specs.BenchTexts.{measurement_name};
 
 use crate::bench_error::BenchError;
-use crate::building::{FrameParts, built, built_from_addresses, built_with_size};
+use crate::building::{FrameParts, FromAddresses, FromHeaders, built, built_with_size};
 use crate::columns::{
     Decoding, Filling, LaxFilling, ReadingIpHeaders, Rereading, Slicing, SlicingApart, SlicingIpv4,
     total,
@@ -121,9 +121,9 @@ impl Measurement {
             Measurement::ReadingIpHeaders => Ok(total::<ReadingIpHeaders>(
                 corpus.ip_packets.as_slice(),
             )),
-            Measurement::Building => built(alloc, corpus.frame_parts.as_slice()),
+            Measurement::Building => built::<FromHeaders>(alloc, corpus.frame_parts.as_slice()),
             Measurement::BuildingFromAddresses => {
-                built_from_addresses(alloc, corpus.frame_parts.as_slice())
+                built::<FromAddresses>(alloc, corpus.frame_parts.as_slice())
             }
             Measurement::BuildingWithSize => built_with_size(alloc, corpus.frame_parts.as_slice()),
             Measurement::Reassembly => handed_out(alloc, corpus.frames.as_slice()),
