@@ -3,7 +3,7 @@
 
 In each document (but generated ones) a name in backticks has to stand somewhere in the code, and a link has to lead to a
 file, to a heading where it names one, and to the file in which a definition stands where its text is one. All documents
-together have at most 28,000 words. Each thing that is wrong is a line, and the status is then 1. A lemma or a definition
+but docs/PERF.md, which is passed over, have at most 28,000 words together. Each thing that is wrong is a line, and the status is then 1. A lemma or a definition
 of `proofs/` or `specs/` whose name stands nowhere but in itself is a line, too, behind `unused:`, and the status is then
 1 with --unused.
 """
@@ -14,6 +14,8 @@ import subprocess
 import sys
 
 MOST_WORDS = 28_000
+# What is told of gains and of what was tried, under names that may be gone.
+PASSED_OVER = "docs/PERF.md"
 # Names of Rust and of the toolchain, which no file of the repository has.
 OTHERS = {"splice", "in_lanes", "rattle", "kit", "crates", "txt", "antt", "edit", "sh", "rlib", "README", "md"}
 # What the tool looks for in a proof, so that nothing else names it.
@@ -129,13 +131,14 @@ def main():
     fronts = {word[:length] for word in words for length in range(3, len(word))}
     backs = {word[length:] for word in words for length in range(len(word)) if word[length] == "_"}
     wrong = []
-    for path in documents:
+    checked = [path for path in documents if path != PASSED_OVER]
+    for path in checked:
         text = read(path)
         for token, name in names_in(without_others(path, text)):
             if not any(name in known for known in (words, fronts, backs, OTHERS)):
                 wrong.append(f"{path}: `{token}` names {name}, which is nowhere")
         wrong += [f"{path}: {what}" for what in links_in(path, text)]
-    count = sum(len(read(path).split()) for path in documents)
+    count = sum(len(read(path).split()) for path in checked)
     if count > MOST_WORDS:
         wrong.append(f"the documents have {count} words, and may have {MOST_WORDS}")
     for line in wrong:
