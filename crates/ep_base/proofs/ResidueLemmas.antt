@@ -45,3 +45,12 @@ residue_last a b = ap residue (add_comm a (residue b)) ∙ residue_part b a ∙ 
 -- equal residues stay equal beside one more part
 pub residue_beside : (a b c : ℕ) → residue a ≡ residue b → residue (a + c) ≡ residue (b + c)
 residue_beside a b c e = sym (residue_part a c) ∙ ap (λ x. residue (x + c)) e ∙ residue_part b c
+
+-- equal residues stay equal where both are taken 256 times
+pub residue_times_256 : (a b : ℕ) → residue a ≡ residue b → residue (256 * a) ≡ residue (256 * b)
+residue_times_256 a b e =
+    let s = residue_split a in
+    let t = residue_split b in
+    residue_unique (256 * a) (256 * b) (256 * t.0) (256 * s.0) (omega (arith, s.1, t.1, e))
+    (λ z. let none : a ≡ 0 = omega arith in omega (arith, residue_zero b (sym e ∙ ap residue none)))
+    (λ z. let none : b ≡ 0 = omega arith in omega (arith, residue_zero a (e ∙ ap residue none)))

@@ -1,9 +1,12 @@
 -- The one's complement sum of lists of bytes.
-use Rattle.std.proofs.Common.{◌≡◌, ℕ, zero, suc, ◌+◌, ◌-◌, ◌*◌, ◌/◌, ◌%◌, ◌↔◌, ◌≤◌, List, [], ◌∷◌, ◌++◌, length}
-use Rattle.std.proofs.Common.{replicate, refl, ap, sym, ◌∙◌, arith, add_assoc, add_comm, zero-add, length-append}
+use Rattle.std.proofs.Common.{◌≡◌, ℕ, zero, suc, ◌+◌, ◌-◌, ◌*◌, ◌/◌, ◌%◌, ◌^◌, ◌↔◌, ◌<◌, ◌≤◌, List, [], ◌∷◌, ◌++◌, length}
+use Rattle.std.proofs.Common.{take, drop, Some, None, refl, ap, sym, ◌∙◌, arith, add_assoc, add_comm, zero-add, length-append}
+use Rattle.std.proofs.lemmas.List.{length-take-le, take-append-drop}
 use Rattle.std.proofs.lemmas.List.Elements.{All-nil, All-cons, All-head, All-tail}
-use Rattle.std.specs.Int.{w16, w32, w64, from_be_bytes, to_be_bytes}
-use Rattle.std.specs.List.{All}
+use Rattle.std.proofs.lemmas.Nat.{and_mask, from_le_bytes-to_le_bytes_8}
+use Rattle.std.specs.Int.Bits.{bit_and}
+use Rattle.std.specs.Int.{w16, w32, w64, w128, from_be_bytes, from_le_bytes, to_be_bytes, to_le_bytes, swap_bytes}
+use Rattle.std.specs.List.{All, slice_get}
 use Rattle.ep_base.specs.Checksum.{word_sum, residue, ones_sum, ones_add, checksum_of}
 use Rattle.ep_base.proofs.ResidueLemmas.{residue_unique, residue_part, residue_last, residue_beside}
 use Rattle.ep_base.proofs.ResidueLemmas.{residue_split, residue_le, residue_zero}
@@ -16,14 +19,18 @@ word_sum-append (x ∷ y ∷ a) b p =
     let q : length a % 2 ≡ 0 = omega arith in
     omega (arith, word_sum-append a b q)
 
--- zero bytes at the end add nothing
-pub word_sum-zeros : (a : List ℕ) (n : ℕ) → word_sum (a ++ replicate n 0) ≡ word_sum a
-word_sum-zeros [] zero = refl
-word_sum-zeros [] (suc zero) = refl
-word_sum-zeros [] (suc (suc n)) = omega (arith, word_sum-zeros [] n)
-word_sum-zeros (x ∷ []) zero = refl
-word_sum-zeros (x ∷ []) (suc n) = omega (arith, word_sum-zeros [] n)
-word_sum-zeros (x ∷ y ∷ a) n = omega (arith, word_sum-zeros a n)
+-- the word of an odd last byte, or none
+pub word_sum-one : (bytes : List ℕ) (byte : ℕ) → length bytes < 2 → Some byte ≡ slice_get bytes 0
+    → byte * 256 ≡ word_sum bytes
+word_sum-one [] byte short first = absurd (cc)
+word_sum-one (x ∷ []) byte short first =
+    let same : byte ≡ x = cc in
+    omega arith
+word_sum-one (x ∷ y ∷ bytes) byte short first = absurd (omega arith)
+
+pub word_sum-none : (bytes : List ℕ) → None ≡ slice_get bytes 0 → 0 ≡ word_sum bytes
+word_sum-none [] first = refl
+word_sum-none (x ∷ bytes) first = absurd (cc)
 
 pub ones_sum-append : (a b : List ℕ) → length a % 2 ≡ 0 → ones_sum (a ++ b) ≡ ones_add (ones_sum a) (ones_sum b)
 unfolding ones_sum ones_add
@@ -56,6 +63,60 @@ words_of_64 (a ∷ b ∷ c ∷ d ∷ e ∷ f ∷ g ∷ h ∷ []) p =
     residue_unique _ _ 0 carried (omega arith) (λ z. omega arith) (λ z. omega arith)
 words_of_64 _ p = absurd (omega arith)
 
+pub words_of_128 : (bytes : List ℕ) → length bytes ≡ 16
+    → residue (from_be_bytes w128 bytes) ≡ residue (word_sum bytes)
+words_of_128 (a ∷ b ∷ c ∷ d ∷ e ∷ f ∷ g ∷ h ∷ i ∷ j ∷ k ∷ l ∷ m ∷ n ∷ o ∷ p ∷ []) _ =
+    let upper = 79229371458530977775699951617 * (256 * a + b) + 1208944266640182156001281 * (256 * c + d) in
+    let middle = 18447025552981295105 * (256 * e + f) + 281479271743489 * (256 * g + h) in
+    let carried = upper + middle + 4295032833 * (256 * i + j) + 65537 * (256 * k + l) + (256 * m + n) in
+    residue_unique _ _ 0 carried (omega arith) (λ z. omega arith) (λ z. omega arith)
+words_of_128 _ q = absurd (omega arith)
+
+-- a little-endian number, taken 256 times, has the residue of the sum of the words
+pub turned_of_64 : (bytes : List ℕ) → length bytes ≡ 8
+    → residue (256 * from_le_bytes w64 bytes) ≡ residue (word_sum bytes)
+turned_of_64 (a ∷ b ∷ c ∷ d ∷ e ∷ f ∷ g ∷ h ∷ []) _ =
+    let carried = b + 256 * c + 65537 * d + 16777472 * e + 4295032833 * f + 1099528405248 * g + 281479271743489 * h in
+    residue_unique _ _ 0 carried (omega arith) (λ z. omega arith) (λ z. omega arith)
+turned_of_64 _ q = absurd (omega arith)
+
+pub turned_of_128 : (bytes : List ℕ) → length bytes ≡ 16
+    → residue (256 * from_le_bytes w128 bytes) ≡ residue (word_sum bytes)
+turned_of_128 (a ∷ b ∷ c ∷ d ∷ e ∷ f ∷ g ∷ h ∷ i ∷ j ∷ k ∷ l ∷ m ∷ n ∷ o ∷ p ∷ []) _ =
+    let lower = b + 256 * c + 65537 * d + 16777472 * e + 4295032833 * f + 1099528405248 * g + 281479271743489 * h in
+    let middle = 72058693566333184 * i + 18447025552981295105 * j + 4722438541563211546880 * k in
+    let upper = 1208944266640182156001281 * l + 309489732259886631936327936 * m + 79229371458530977775699951617 * n in
+    let carried = lower + middle + upper + 20282719093383930310579187613952 * o + 5192376087906286159508272029171713 * p in
+    residue_unique _ _ 0 carried (omega arith) (λ z. omega arith) (λ z. omega arith)
+turned_of_128 _ q = absurd (omega arith)
+
+-- the halves of a number of 128 bits: it has the residue of their sum
+low_half : (n : ℕ) → n ≡ 18446744073709551616 * (n / 18446744073709551616) + bit_and n 18446744073709551615
+low_half n =
+    let low : bit_and n 18446744073709551615 ≡ n % 18446744073709551616 = and_mask n 64 in
+    omega arith
+
+pub residue_halves : (n : ℕ) → residue (n / 18446744073709551616 + bit_and n 18446744073709551615) ≡ residue n
+residue_halves n =
+    let whole = low_half n in
+    let carried = 281479271743489 * (n / 18446744073709551616) in
+    residue_unique _ _ carried 0 (omega arith) (λ z. omega arith) (λ z. omega arith)
+
+pub turned_halves : (n : ℕ) (bytes : List ℕ) → length bytes ≡ 16 → n ≡ from_le_bytes w128 bytes
+    → residue (256 * (bit_and n 18446744073709551615 + n / 18446744073709551616)) ≡ residue (word_sum bytes)
+turned_halves n bytes long e =
+    let whole = low_half n in
+    let carried = 72058693566333184 * (n / 18446744073709551616) in
+    residue_unique _ (256 * n) carried 0 (omega arith) (λ z. omega arith) (λ z. omega arith)
+    ∙ ap (λ x. residue (256 * x)) e ∙ turned_of_128 bytes long
+
+-- a number of 64 bits with its bytes in the other order
+pub turned_bytes : (n : ℕ) → n < 2 ^ 64 → residue (swap_bytes w64 n) ≡ residue (256 * n)
+turned_bytes n fits =
+    let bytes = to_le_bytes w64 n in
+    words_of_64 bytes refl ∙ sym (turned_of_64 bytes refl)
+    ∙ ap (λ x. residue (256 * x)) (from_le_bytes-to_le_bytes_8 n fits)
+
 -- a number that stands for the words of some bytes, added to a sum, with the rest to come
 pub sum_with_word : (sum word new rest words : ℕ) → residue new ≡ residue (sum + word) → residue word ≡ residue words
     → residue (new + rest) ≡ residue (sum + (words + rest))
@@ -63,6 +124,18 @@ sum_with_word sum word new rest words e w =
     let turn : residue (sum + word + rest) ≡ residue (word + (sum + rest)) = ap residue (omega arith) in
     let back : residue (words + (sum + rest)) ≡ residue (sum + (words + rest)) = ap residue (omega arith) in
     residue_beside new (sum + word) rest e ∙ turn ∙ residue_beside word words (sum + rest) w ∙ back
+
+-- the same, where the words are those of bytes that are cut off the front of what is to come
+pub sum_with_piece : (n sum word new : ℕ) (piece after rest : List ℕ) → n % 2 ≡ 0
+    → (piece ≡ take n rest) × (after ≡ drop n rest) × (length after + n ≡ length rest)
+    → residue new ≡ residue (sum + word) → (length piece ≡ n → residue word ≡ residue (word_sum piece))
+    → residue (new + word_sum after) ≡ residue (sum + word_sum rest)
+sum_with_piece n sum word new piece after rest even cut e w =
+    let within : n ≤ length rest = omega (arith, cut.2) in
+    let long : length piece ≡ n = ap length cut.0 ∙ length-take-le n rest within in
+    let whole : piece ++ after ≡ rest = rw (cut.0, cut.1, take-append-drop) refl in
+    let words = sym (word_sum-append piece after (ap (λ x. x % 2) long ∙ even)) ∙ ap word_sum whole in
+    sum_with_word sum word new (word_sum after) (word_sum piece) e (w long) ∙ ap (λ x. residue (sum + x)) words
 
 -- the same, with nothing to come
 pub sum_with_last : (sum word new words : ℕ) → residue new ≡ residue (sum + word) → residue word ≡ residue words

@@ -1,7 +1,7 @@
 //! The Internet checksum (RFC 1071) of IPv4, UDP, TCP and ICMP.
 
-ghost use Rattle.std.specs.Prelude.{◌≡◌, ◌+◌, ◌-◌, ◌≤◌, ◌++◌, length, replicate};
-ghost use Rattle.ep_base.specs.Checksum.{residue, ones_sum, ones_add, no_zero};
+ghost use Rattle.std.specs.Prelude.{◌≡◌, ◌+◌, ◌-◌, ◌<◌, length};
+ghost use Rattle.ep_base.specs.Checksum.{word_sum, residue, ones_sum, ones_add, no_zero};
 
 use std::marker::Model;
 
@@ -83,7 +83,9 @@ impl Sum16BitWords {
     pub fn add_16bytes(&self, value: [u8; 16]) -> Sum16BitWords
         ensures { result ≡ ones_add self.now (ones_sum value) }
     {
-        self.add_slice(&value)
+        Sum16BitWords {
+            sum: add_word(self.sum, in_64_bits(u128::from_be_bytes(value))),
+        }
     }
 
     /// The sum with the bytes of a slice, an odd last byte being the upper half of a word.
@@ -91,14 +93,21 @@ impl Sum16BitWords {
     pub fn add_slice(&self, slice: &[u8]) -> Sum16BitWords
         ensures { result ≡ ones_add self.now (ones_sum slice.now) }
     {
-        let mut sum = self.sum;
+        // The words are read lowest byte first, as the machine has them, into two sums that have room for each carry,
+        // so that none waits for another. A sum of words with their bytes exchanged is the sum with its bytes
+        // exchanged (RFC 1071, 2 (B)), so this is done once.
+        let mut lower: u128 = 0;
+        let mut upper: u128 = 0;
         let mut rest = slice;
-        while let Some((piece, after)) = rest.split_first_chunk::<8>() {
-            sum = add_word(sum, u64::from_be_bytes(*piece));
+        while let Some((piece, after)) = rest.split_first_chunk::<16>() {
+            let words = u128::from_le_bytes(*piece);
+            lower += words & u64::MAX as u128;
+            upper += words >> 64;
             rest = after;
         }
+        let sum = add_word(self.sum, in_64_bits(lower + upper).swap_bytes());
         Sum16BitWords {
-            sum: add_word(sum, u64::from_be_bytes(filled_up(rest))),
+            sum: add_last(sum, rest),
         }
     }
 
@@ -131,15 +140,39 @@ fn add_word(sum: u64, word: u64) -> u64
     sum + carry as u64
 }
 
-/// At most 8 bytes, filled up by zero bytes.
+/// A sum of 128 bits in one's complement of 64 bits.
 #[inline]
-fn filled_up(bytes: &[u8]) -> [u8; 8]
-    requires { length bytes.now ≤ 8 }
-    ensures { result ≡ bytes.now ++ replicate (8 - length bytes.now) 0 }
+fn in_64_bits(sum: u128) -> u64
+    ensures { residue result ≡ residue sum }
 {
-    let mut filled = [0; 8];
-    filled[..bytes.len()].copy_from_slice(bytes);
-    filled
+    add_word((sum >> 64) as u64, (sum & u64::MAX as u128) as u64)
+}
+
+/// A sum with the last bytes, fewer than 16. They are no more than four numbers, so nothing is copied.
+#[inline]
+fn add_last(sum: u64, bytes: &[u8]) -> u64
+    requires { length bytes.now < 16 }
+    ensures { residue result ≡ residue (sum + word_sum bytes.now) }
+{
+    let mut sum = sum;
+    let mut rest = bytes;
+    if let Some((piece, after)) = rest.split_first_chunk::<8>() {
+        sum = add_word(sum, u64::from_be_bytes(*piece));
+        rest = after;
+    }
+    if let Some((piece, after)) = rest.split_first_chunk::<4>() {
+        sum = add_word(sum, u32::from_be_bytes(*piece) as u64);
+        rest = after;
+    }
+    if let Some((piece, after)) = rest.split_first_chunk::<2>() {
+        sum = add_word(sum, u16::from_be_bytes(*piece) as u64);
+        rest = after;
+    }
+    let odd = match rest.first() {
+        Some(byte) => *byte as u64 * 256,
+        None => 0,
+    };
+    add_word(sum, odd)
 }
 
 /// The sum in 16 bits that a sum in 64 bits stands for.
