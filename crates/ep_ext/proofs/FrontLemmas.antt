@@ -1,6 +1,5 @@
 -- The headers of a chain that stand, where the next one may be refused: how they are read, and that there is one way.
 use Rattle.std.proofs.Common.{◌≡◌, ℕ, ◌+◌, ◌-◌, ◌≤◌, ◌<◌, ◌==◌, Bool, true, false, ◌||◌, List, [], ◌∷◌, ◌++◌, length, take, Option, Some, None, refl, sym, ap, subst, ◌∙◌, inl, inr, arith, append_assoc, length-append}
-use Rattle.std.proofs.lemmas.Grind.{common_steps}
 use Rattle.std.proofs.lemmas.Bool.{eq-eqb, ne_eqb}
 use Rattle.std.proofs.lemmas.List.{append-nil, take_at}
 use Rattle.std.specs.Option.{option_map}
@@ -15,7 +14,7 @@ use Rattle.ep_base.specs.declared.err.ipv6_exts.HeaderSliceError.{HeaderSliceErr
 use Rattle.ep_base.specs.declared.err.ipv6_exts.HeaderSliceError.TheVariants as header_error
 use Rattle.ep_ext.specs.IpAuth.{RefusesIpAuth, ip_auth_rows}
 use Rattle.ep_ext.specs.ExtensionParts.{ExtensionPart, auth_refusal, part_next, part_len, part_fragments, IsExtensionPart, RefusesExtensionPart}
-use Rattle.ep_ext.specs.Chains.{IpVersion, ipv4, ipv6, ExtensionChain, chain_of, chain_fragments, ends, takes, misplaced, demand_of, is_first, is_ipv6_extension, IsChainBehind, IsExtensionChain, RefusesChainBehind, RefusesExtensionChain, further_in}
+use Rattle.ep_ext.specs.Chains.{IpVersion, ipv4, ipv6, ExtensionChain, chain_of, chain_fragments, takes, demand_of, is_first, is_ipv6_extension, IsChainBehind, RefusesChainBehind, further_in}
 use Rattle.ep_ext.specs.FrontChains.{AreInFront, IsFrontChain}
 use Rattle.ep_ext.specs.ShownChains.{shown_parts}
 use Rattle.ep_ext.proofs.ChainLemmas.{chain_decided, further_zero, taken_is_kind}

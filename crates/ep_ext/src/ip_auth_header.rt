@@ -2,6 +2,7 @@
 
 ghost use Rattle.std.specs.Prelude.{◌≡◌, ◌<◌, ◌≤◌, ◌+◌, ◌%◌, ◌^◌, [], ◌∷◌, ◌++◌, List, ℕ, length, vec_len, vec_capacity, IfOk, IfErr, OnOk, OnErr, IsOkAnd, MatchResult};
 ghost use Rattle.std.specs.Int.{w32, to_be_bytes};
+ghost use Rattle.ep_ext.specs.IpAuthSlices.{ip_auth_slice_header};
 ghost use Rattle.ep_ext.specs.IpAuth.{FitsIpAuth, IsIpAuth, RefusesIcv, RefusesIpAuth, ip_auth_bytes, ip_auth_icv, ip_auth_len, ip_auth_with};
 
 use crate::err::ip_auth::{HeaderSliceError, IcvLenError};
@@ -75,6 +76,28 @@ impl IpAuthHeader {
             sequence_number,
             icv: IpAuthIcv::copy_of(raw_icv),
         }
+    }
+
+    /// A header that is to be filled in, where headers are read into a value: it is made in its place.
+    #[inline(always)]
+    pub(crate) fn room() -> IpAuthHeader {
+        IpAuthHeader {
+            next_header: IpNumber(0),
+            spi: 0,
+            sequence_number: 0,
+            icv: IpAuthIcv::shortest(),
+        }
+    }
+
+    /// Becomes the header that lies in a slice.
+    #[inline]
+    pub(crate) fn fill(&mut self, header: &IpAuthHeaderSlice<'_>)
+        ensures { self.new ≡ ip_auth_slice_header header.now }
+    {
+        self.next_header = header.next_header();
+        self.spi = header.spi();
+        self.sequence_number = header.sequence_number();
+        self.icv.fill(header.raw_icv());
     }
 
     /// The header at the front of the slice, and the bytes behind it.

@@ -25,7 +25,7 @@ pub struct IpAuthHeaderSlice<'a> {
 }
 
 impl<'a> IpAuthHeaderSlice<'a> {
-    ghost use Rattle.std.specs.Prelude.{◌≡◌, ◌≤◌, ◌%◌, ◌++◌, List, ℕ, length, IfOk, IfErr, IsOkAnd};
+    ghost use Rattle.std.specs.Prelude.{◌≡◌, ◌≤◌, ◌%◌, ◌++◌, List, ℕ, length, Some, IfOk, IfErr, IsOkAnd};
     ghost use Rattle.ep_ext.specs.declared.ip_auth_header.IpAuthHeader.{IpAuthHeader};
     ghost use Rattle.ep_ext.specs.IpAuth.{IsIpAuth, RefusesIpAuth, ip_auth_icv, ip_auth_len};
     ghost use Rattle.ep_ext.specs.IpAuthSlices.{ip_auth_slice_bytes, ip_auth_slice_header};
@@ -129,5 +129,15 @@ impl<'a> IpAuthHeaderSlice<'a> {
             self.sequence_number(),
             self.raw_icv(),
         )
+    }
+
+    /// Puts the header as a value in the place of what is there. It is filled in there, so that none is moved.
+    pub fn header_into(&self, place: &mut Option<IpAuthHeader>)
+        ensures { place.new ≡ Some (ip_auth_slice_header self.now) }
+    {
+        *place = Some(IpAuthHeader::room());
+        if let Some(room) = place {
+            room.fill(self);
+        }
     }
 }

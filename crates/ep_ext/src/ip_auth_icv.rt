@@ -53,6 +53,27 @@ impl IpAuthIcv {
         }
     }
 
+    /// The shortest value, of no bytes.
+    #[inline(always)]
+    pub(crate) fn shortest() -> IpAuthIcv {
+        IpAuthIcv {
+            bytes: [0; 1016],
+            words: 0,
+        }
+    }
+
+    /// Puts a copy of the bytes in the value's place. A value is large, and this moves none.
+    #[inline]
+    pub(crate) fn fill(&mut self, slice: &[u8])
+        requires bound { length slice.now ≤ 1016 }
+        requires words { length slice.now % 4 ≡ 0 }
+        ensures { self.new ≡ slice.now }
+    {
+        self.bytes = [0; 1016];
+        self.bytes[..slice.len()].copy_from_slice(slice);
+        self.words = (slice.len() / 4) as u8;
+    }
+
     /// The bytes of the value.
     #[inline]
     pub(crate) fn as_slice(&self) -> &[u8]

@@ -1,16 +1,18 @@
 //! The extension headers of IPv6 by value (RFC 8200, 4.1).
 
-ghost use Rattle.std.specs.Prelude.{◌≡◌, ◌≤◌, ◌++◌, ◌↔◌, ◌==◌, List, true, false, IfOk, IfErr, IsOkAnd, Ok, Err};
+ghost use Rattle.std.specs.Prelude.{◌≡◌, ◌≤◌, ◌++◌, ◌↔◌, ◌==◌, List, true, false, IfOk, IfErr, IsOkAnd, Ok, Err, Some, None};
 ghost use Rattle.ep_base.specs.Readings.{headers};
 ghost use Rattle.ep_ext.specs.ExtensionParts.{ExtensionPart, IsExtensionPart, RefusesExtensionPart, part_next};
 ghost use Rattle.ep_ext.specs.Chains.{ipv6, ExtensionChain, IsExtensionChain, RefusesExtensionChain, chain_of, chain_fragments, is_ipv6_extension};
 ghost use Rattle.ep_ext.specs.Ipv6ExtensionSlices.{extension_slice_part};
+ghost use Rattle.ep_ext.specs.RawExtensionSlices.{raw_extension_slice_header};
 ghost use Rattle.ep_ext.specs.Ipv6Chains.{no_ipv6_extensions, ipv6_parts, extensions_of, with_part, has_kind};
 
 use crate::ip_auth_header::IpAuthHeader;
 use crate::ipv6_ext_slice::{Ipv6ExtensionSlice, further, is_extension};
 use crate::ipv6_fragment_header::Ipv6FragmentHeader;
 use crate::ipv6_raw_ext_header::Ipv6RawExtHeader;
+use crate::ipv6_raw_ext_header_slice::Ipv6RawExtHeaderSlice;
 use crate::ipv6_routing_exts::Ipv6RoutingExtensions;
 use ep_base::err::ipv6_exts::{HeaderError, HeaderSliceError};
 use ep_base::{IpNumber, ip_number};
@@ -50,6 +52,51 @@ impl Ipv6Extensions {
         match extensions.fill(number, slice) {
             Ok((next, rest)) => Ok((extensions, next, rest)),
             Err(error) => Err(error),
+        }
+    }
+
+    /// Reads what [`Ipv6Extensions::from_slice`] reads into the value, whatever headers it held, and gives the number of
+    /// what follows them, and the bytes behind them. Headers are large: a caller that has room for them moves none. A
+    /// refusal leaves those before it.
+    #[inline]
+    pub fn read_into<'a>(
+        &mut self,
+        number: IpNumber,
+        slice: &'a [u8],
+    ) -> Result<(IpNumber, &'a [u8]), HeaderSliceError>
+        ensures ok { IfOk result (λ read. (parts : List ExtensionPart) × (self.new ≡ extensions_of parts)
+            × IsExtensionChain ipv6 headers number.0 slice.now (chain_of parts read.0.0 read.1.now)) }
+        ensures only { (chain : ExtensionChain) → IsExtensionChain ipv6 headers number.0 slice.now chain
+            → IsOkAnd result (λ read. (self.new ≡ extensions_of chain.parts)
+            × (read.0.0 ≡ chain.last) × (read.1.now ≡ chain.rest)) }
+        ensures err { IfErr result (RefusesExtensionChain ipv6 headers number.0 slice.now) }
+    {
+        self.clear();
+        match self.fill(number, slice) {
+            Ok(read) => Ok(read),
+            Err(error) => Err(error),
+        }
+    }
+
+    /// Drops the headers that are there. Room of those that are not is not touched.
+    #[inline]
+    pub fn clear(&mut self)
+        ensures { self.new ≡ no_ipv6_extensions }
+    {
+        if self.hop_by_hop_options.is_some() {
+            self.hop_by_hop_options = None;
+        }
+        if self.destination_options.is_some() {
+            self.destination_options = None;
+        }
+        if self.routing.is_some() {
+            self.routing = None;
+        }
+        if self.fragment.is_some() {
+            self.fragment = None;
+        }
+        if self.auth.is_some() {
+            self.auth = None;
         }
     }
 
@@ -136,27 +183,24 @@ impl Ipv6Extensions {
     {
         match part {
             Ipv6ExtensionSlice::HopByHop(header) => {
-                self.hop_by_hop_options = Some(header.to_header());
+                put_raw(&mut self.hop_by_hop_options, header);
             }
             Ipv6ExtensionSlice::Routing(header) => {
-                self.routing = Some(Ipv6RoutingExtensions {
-                    routing: header.to_header(),
-                    final_destination_options: None,
-                });
+                put_routing(&mut self.routing, header);
             }
             Ipv6ExtensionSlice::Fragment(header) => {
                 self.fragment = Some(header.to_header());
             }
             Ipv6ExtensionSlice::DestinationOptions(header) => match &mut self.routing {
                 Some(behind) => {
-                    behind.final_destination_options = Some(header.to_header());
+                    put_raw(&mut behind.final_destination_options, header);
                 }
                 None => {
-                    self.destination_options = Some(header.to_header());
+                    put_raw(&mut self.destination_options, header);
                 }
             },
             Ipv6ExtensionSlice::Authentication(header) => {
-                self.auth = Some(header.to_header());
+                header.header_into(&mut self.auth);
             }
         }
     }
@@ -170,5 +214,31 @@ impl Ipv6Extensions {
             Some(header) => header.is_fragmenting_payload(),
             None => false,
         }
+    }
+}
+
+/// Puts the header that lies in a slice in the place of what is there. It is filled in there, so that none is moved.
+fn put_raw(place: &mut Option<Ipv6RawExtHeader>, header: &Ipv6RawExtHeaderSlice<'_>)
+    ensures { place.new ≡ Some (raw_extension_slice_header header.now) }
+{
+    *place = Some(Ipv6RawExtHeader::room());
+    if let Some(room) = place {
+        room.fill(header);
+    }
+}
+
+/// The same of a routing header, behind which there are no destination options yet.
+fn put_routing(place: &mut Option<Ipv6RoutingExtensions>, header: &Ipv6RawExtHeaderSlice<'_>)
+    ensures { place.new ≡ Some (record {
+      routing = raw_extension_slice_header header.now;
+      final_destination_options = None;
+    }) }
+{
+    *place = Some(Ipv6RoutingExtensions {
+        routing: Ipv6RawExtHeader::room(),
+        final_destination_options: None,
+    });
+    if let Some(room) = place {
+        room.routing.fill(header);
     }
 }

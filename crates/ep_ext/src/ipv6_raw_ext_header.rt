@@ -1,6 +1,7 @@
 //! An extension header of IPv6 whose payload is left as bytes (RFC 8200, 4).
 
 ghost use Rattle.std.specs.Prelude.{◌≡◌, ◌<◌, ◌≤◌, ◌+◌, ◌%◌, ◌++◌, List, ℕ, length, vec_len, vec_capacity, IfOk, IfErr, OnOk, OnErr, IsOkAnd, MatchResult};
+ghost use Rattle.ep_ext.specs.RawExtensionSlices.{raw_extension_slice_header};
 ghost use Rattle.ep_ext.specs.RawExtension.{FitsRawExtension, IsRawExtension, RefusesRawPayload, RefusesRawExtension, raw_extension_bytes, raw_extension_len, raw_extension_payload, raw_extension_with};
 
 use crate::err::LenError;
@@ -71,6 +72,24 @@ impl Ipv6RawExtHeader {
             next_header,
             payload: Ipv6RawExtPayload::copy_of(payload),
         }
+    }
+
+    /// A header that is to be filled in, where headers are read into a value: it is made in its place.
+    #[inline(always)]
+    pub(crate) fn room() -> Ipv6RawExtHeader {
+        Ipv6RawExtHeader {
+            next_header: IpNumber(0),
+            payload: Ipv6RawExtPayload::shortest(),
+        }
+    }
+
+    /// Becomes the header that lies in a slice.
+    #[inline]
+    pub(crate) fn fill(&mut self, header: &Ipv6RawExtHeaderSlice<'_>)
+        ensures { self.new ≡ raw_extension_slice_header header.now }
+    {
+        self.next_header = header.next_header();
+        self.payload.fill(header.payload());
     }
 
     /// The header at the front of the slice, and the bytes behind it.

@@ -54,6 +54,28 @@ impl Ipv6RawExtPayload {
         }
     }
 
+    /// The shortest payload, six bytes that are zero.
+    #[inline(always)]
+    pub(crate) fn shortest() -> Ipv6RawExtPayload {
+        Ipv6RawExtPayload {
+            bytes: [0; 2046],
+            units: 0,
+        }
+    }
+
+    /// Puts a copy of the bytes in the payload's place. A payload is large, and this moves none.
+    #[inline]
+    pub(crate) fn fill(&mut self, slice: &[u8])
+        requires least { 6 ≤ length slice.now }
+        requires bound { length slice.now ≤ 2046 }
+        requires units { (length slice.now + 2) % 8 ≡ 0 }
+        ensures { self.new ≡ slice.now }
+    {
+        self.bytes = [0; 2046];
+        self.bytes[..slice.len()].copy_from_slice(slice);
+        self.units = (slice.len() / 8) as u8;
+    }
+
     /// The bytes of the payload.
     #[inline]
     pub(crate) fn as_slice(&self) -> &[u8]

@@ -1,12 +1,13 @@
 //! How IP headers are read into the room that a packet has for them. Headers are large: room that held some of the
-//! same version is written only where headers stand or stood. Other room, and that of a packet of IPv6 with extension
-//! headers, is written as a whole.
+//! same version is written only where headers stand or stood. Other room is written as a whole.
 
 ghost use Rattle.std.specs.Prelude.{◌≡◌, IfOk, IfErr, List, ℕ, Some};
 ghost use Rattle.ep_base.specs.IpPayload.{ip_payload_of};
 ghost use Rattle.ep_base.specs.Readings.{headers};
 ghost use Rattle.ep_base.specs.Tables.{RefusesAs};
-ghost use Rattle.ep_ext.specs.Ipv6Chains.{no_ipv6_extensions};
+ghost use Rattle.ep_ext.specs.Chains.{ipv6, IsExtensionChain, RefusesExtensionChain, chain_fragments, chain_of};
+ghost use Rattle.ep_ext.specs.ExtensionParts.{ExtensionPart};
+ghost use Rattle.ep_ext.specs.Ipv6Chains.{extensions_of, ipv6_parts, no_ipv6_extensions};
 ghost use Rattle.ep_ip.specs.declared.ipv4_header.Ipv4Header.{Ipv4Header};
 ghost use Rattle.ep_ip.specs.declared.ipv6_header.Ipv6Header.{Ipv6Header};
 ghost use Rattle.ep_ip.specs.IpPackets.{IpPacket, IpPart, IsIp, IsIpv4, IsIpv6, RefusesIp, RefusesIpv4, RefusesIpv6};
@@ -22,10 +23,10 @@ use crate::ip_headers_read::{
     unsupported,
 };
 use crate::net_headers::NetHeaders;
-use ep_base::IpPayloadSlice;
 use ep_base::err::ip::HeadersSliceError;
 use ep_base::err::{ipv4, ipv6, ipv6_exts};
-use ep_ext::{Ipv4Extensions, Ipv6Extensions};
+use ep_base::{IpNumber, IpPayloadSlice};
+use ep_ext::Ipv4Extensions;
 use ep_ip::{Ipv4Slice, Ipv6Header};
 
 /// Fills in the headers of either version at the front of the slice, and gives the payload behind them and its offset.
@@ -88,7 +89,7 @@ fn put_ipv4(net: &mut Option<NetHeaders>, packet: &Ipv4Slice<'_>)
         if let NetHeaders::Ipv4(room, extensions) = headers {
             *room = header;
             match auth {
-                Some(auth) => extensions.auth = Some(auth.to_header()),
+                Some(auth) => auth.header_into(&mut extensions.auth),
                 None => {
                     if extensions.auth.is_some() {
                         extensions.auth = None;
@@ -135,7 +136,7 @@ pub(crate) fn fill_ipv6<'a>(
 }
 
 /// What [`fill_ipv6`] does of a packet with extension headers. It is a call of its own, which cuts the packet again,
-/// since the room for extension headers that are read would else be zeroed for packets without them too.
+/// so that packets without them take no time for it.
 #[inline(never)]
 fn fill_ipv6_extensions<'a>(
     net: &mut Option<NetHeaders>,
@@ -149,16 +150,15 @@ fn fill_ipv6_extensions<'a>(
         Ok(cut) => cut,
         Err(error) => return Err(error),
     };
-    match Ipv6Extensions::from_slice(header.next_header, content) {
-        Ok((extensions, ip_number, payload)) => {
+    match put_ipv6_extensions(net, header, content) {
+        Ok((ip_number, fragmented, payload)) => {
             let offset = Ipv6Header::LEN + (content.len() - payload.len());
             let payload = IpPayloadSlice {
                 ip_number,
-                fragmented: extensions.is_fragmenting_payload(),
+                fragmented,
                 len_source,
                 payload,
             };
-            *net = Some(NetHeaders::Ipv6(header, extensions));
             Ok((payload, offset))
         }
         Err(ipv6_exts::HeaderSliceError::Len(error)) => {
@@ -168,6 +168,34 @@ fn fill_ipv6_extensions<'a>(
     }
 }
 
+/// Puts a header of IPv6 into the room, and the extension headers behind it, and gives the number of what follows them,
+/// whether the packet carries one fragment of a longer payload, and the bytes behind them.
+#[inline]
+fn put_ipv6_extensions<'a>(
+    net: &mut Option<NetHeaders>,
+    header: Ipv6Header,
+    content: &'a [u8],
+) -> Result<(IpNumber, bool, &'a [u8]), ipv6_exts::HeaderSliceError>
+    ensures ok { IfOk result (λ read. (parts : List ExtensionPart)
+        × (net.new ≡ Some (variant.Ipv6 header (extensions_of parts)))
+        × IsExtensionChain ipv6 headers header.next_header.0 content.now (chain_of parts read.0.0 read.2.now)
+        × (read.1 ≡ chain_fragments (ipv6_parts (extensions_of parts)))) }
+    ensures err { IfErr result (RefusesExtensionChain ipv6 headers header.next_header.0 content.now) }
+{
+    let number = header.next_header;
+    put_ipv6(net, header);
+    if let Some(headers) = net {
+        if let NetHeaders::Ipv6(_, extensions) = headers {
+            return match extensions.read_into(number, content) {
+                Ok((last, payload)) => Ok((last, extensions.is_fragmenting_payload(), payload)),
+                Err(error) => Err(error),
+            };
+        }
+    }
+    // Not reached: the room holds headers of IPv6.
+    Ok((number, false, content))
+}
+
 /// Puts a header of IPv6 without extension headers into the room.
 fn put_ipv6(net: &mut Option<NetHeaders>, header: Ipv6Header)
     ensures { net.new ≡ Some (variant.Ipv6 header no_ipv6_extensions) }
@@ -175,30 +203,9 @@ fn put_ipv6(net: &mut Option<NetHeaders>, header: Ipv6Header)
     if let Some(headers) = net {
         if let NetHeaders::Ipv6(room, extensions) = headers {
             *room = header;
-            drop_extensions(extensions);
+            extensions.clear();
             return;
         }
     }
     *net = Some(NetHeaders::Ipv6(header, no_extensions()));
-}
-
-/// Drops the extension headers that are there.
-fn drop_extensions(extensions: &mut Ipv6Extensions)
-    ensures { extensions.new ≡ no_ipv6_extensions }
-{
-    if extensions.hop_by_hop_options.is_some() {
-        extensions.hop_by_hop_options = None;
-    }
-    if extensions.destination_options.is_some() {
-        extensions.destination_options = None;
-    }
-    if extensions.routing.is_some() {
-        extensions.routing = None;
-    }
-    if extensions.fragment.is_some() {
-        extensions.fragment = None;
-    }
-    if extensions.auth.is_some() {
-        extensions.auth = None;
-    }
 }

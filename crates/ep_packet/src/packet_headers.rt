@@ -72,8 +72,8 @@ impl<'a> PacketHeaders<'a> {
     }
 
     /// Reads the packet that begins with what `entry` says into the value, for a caller in a loop that keeps one
-    /// packet: where the packet before was of the same version of IP, and this one has no extension headers of IPv6,
-    /// room for headers that are not there is not touched. A refusal leaves a packet without layers. The payload of a
+    /// packet: where the packet before was of the same version of IP, room for headers that are not there is not
+    /// touched. A refusal leaves a packet without layers. The payload of a
     /// cooked packet whose protocol is no ether type is `MacsecMod`, as other bytes are whose type is not known.
     pub fn read_into(&mut self, entry: Entry, bytes: &'a [u8]) -> Result<(), SliceError>
         ensures ok { OnOk result ((layers : Layers) × IsFrameIn headers entry bytes.now layers

@@ -1,17 +1,14 @@
-use Rattle.std.proofs.Common.{◌≡◌, Some, ap, ◌∙◌, arith}
+use Rattle.std.proofs.Common.{◌≡◌, ap, ◌∙◌, arith}
 use Rattle.ep_base.specs.IpPayload.{ip_payload_of}
 use Rattle.ep_base.specs.Readings.{headers}
 use Rattle.ep_base.specs.declared.err.len_error.LenError.{LenError}
 use Rattle.ep_base.specs.declared.ip_payload_slice.IpPayloadSlice.{IpPayloadSlice}
-use Rattle.ep_ext.specs.declared.ipv6_exts.Ipv6Extensions.{Ipv6Extensions}
 use Rattle.ep_ext.specs.Chains.{chain_fragments, chain_of}
-use Rattle.ep_ext.specs.Ipv6Chains.{ipv6_parts}
 use Rattle.ep_ext.proofs.ValueLawLemmas.{chain_value_fragments}
 use Rattle.ep_ip.specs.IpPackets.{ipv6_part}
 use Rattle.ep_ip.specs.Ipv6.{ipv6_payload_source}
 use Rattle.ep_ip.proofs.ExtensionLawLemmas.{exts_within}
 use Rattle.ep_ip.proofs.PacketLemmas.{shown_packet}
-use Rattle.ep_packet.specs.declared.net_headers.NetHeaders.TheVariants as variant
 use Rattle.ep_packet.proofs.HeadersLemmas.{fills_read}
 use Rattle.ep_packet.proofs.IpHeadersLemmas.{ipv6_by_value}
 use Rattle.ep_packet.proofs.NetFillLemmas.{chain_content}
@@ -19,9 +16,9 @@ use Rattle.ep_packet.proofs.net_headers_fill.fill_ipv6_extensions.Goals as goal
 
 pub overflow_sub-offset : goal.overflow_sub-offset
 overflow_sub-offset c =
-    let read = c.in-Ok-from_slice.ensures.ok in
+    let read = c.in-Ok-put_ipv6_extensions.ensures.ok in
     let whole = chain_content c.args.slice.now c.in-Ok.cut.1.now c.in-Ok.ensures.ok.0 c.in-Ok.cut.0 read.0
-    c.in-Ok-from_slice.ip_number.0 c.in-Ok-from_slice.payload.now c.in-Ok.ensures.ok.1 read.2 in
+    c.in-Ok-put_ipv6_extensions.ip_number.0 c.in-Ok-put_ipv6_extensions.payload.now c.in-Ok.ensures.ok.1 read.2 in
     omega (arith, whole)
 
 pub behind_header-requires : goal.behind_header-requires
@@ -33,26 +30,24 @@ behind_header-requires c =
     let same = ap (λ (e : LenError). e.layer_start_offset) c.in-Err-Len.error-is in
     omega (arith, within, same, c.in-Ok.ensures.within)
 
-pub returns-in-Ok-from_slice-clause-ok : goal.returns-in-Ok-from_slice-clause-ok
-returns-in-Ok-from_slice-clause-ok c =
+pub returns-in-Ok-put_ipv6_extensions-clause-ok : goal.returns-in-Ok-put_ipv6_extensions-clause-ok
+returns-in-Ok-put_ipv6_extensions-clause-ok c =
     let bytes = c.args.slice.now in
     let header = c.in-Ok.cut.0 in
     let content = c.in-Ok.cut.1.now in
     let cut = c.in-Ok.ensures.ok in
-    let found = c.in-Ok-from_slice in
+    let found = c.in-Ok-put_ipv6_extensions in
     let read = found.ensures.ok in
     let number = found.ip_number.0 in
     let rest = found.payload.now in
     let chain = chain_of read.0 number rest in
-    let fragments = c.is_fragmenting_payload.ensures
-    ∙ ap (λ (e : Ipv6Extensions). chain_fragments (ipv6_parts e)) read.1
-    ∙ chain_value_fragments header.next_header.0 content chain read.2 in
+    let fragments = read.3 ∙ chain_value_fragments header.next_header.0 content chain read.2 in
     let source = c.in-Ok.ensures.source in
     let packet = shown_packet header chain (chain_fragments read.0) (ipv6_payload_source header content) cut.0 in
     let is = ipv6_by_value bytes content cut.0 header read.0 number rest cut.1 read.2 in
     let payload : IpPayloadSlice = record {
       ip_number = found.ip_number;
-      fragmented = c.is_fragmenting_payload.result;
+      fragmented = found.fragmented;
       len_source = c.in-Ok.cut.2;
       payload = found.payload;
     } in
@@ -62,6 +57,6 @@ returns-in-Ok-from_slice-clause-ok c =
       packet,
       is,
       fills_read bytes (ipv6_part packet) _ payload _ is
-          (ap (λ (e : Ipv6Extensions). Some (variant.Ipv6 header e)) read.1) same
+          read.1 same
           (omega (arith, whole)),
     )
