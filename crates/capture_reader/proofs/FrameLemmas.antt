@@ -1,16 +1,19 @@
 -- What stands around a block, as it was read.
 use Rattle.std.proofs.Common.{◌≡◌, ℕ, ◌+◌, ◌-◌, ◌≤◌}
-use Rattle.std.proofs.Common.{List, None, length, drop, slice_range, sym, ap, subst, ◌∙◌}
+use Rattle.std.proofs.Common.{List, None, length, drop, slice_range, refl, sym, ap, subst, ◌∙◌}
+use Rattle.std.proofs.Common.{Bool, false, ◌&&◌, nat_le, nat_lt}
 use Rattle.std.proofs.Common.{length-drop, length-take-le, arith}
+use Rattle.std.proofs.Math.Bool.{and-false}
+use Rattle.std.proofs.lemmas.Grind.{common_steps}
 use Rattle.ep_base.specs.Bytes.{AreBytes}
 use Rattle.ep_base.specs.Tables.{first_row}
 use Rattle.capture_reader.specs.Numbers.{word32_at}
 use Rattle.capture_reader.specs.Blocks.{IsBlock, section_after}
 use Rattle.capture_reader.specs.Blocks.{block_in, block_of, block_rows, body_rows}
-use Rattle.capture_reader.specs.Blocks.{order_in, order_of}
+use Rattle.capture_reader.specs.Blocks.{is_other, most_block, order_in, order_of}
 use Rattle.capture_reader.specs.BlockContents.{FitsLen, IsFramed, Says, StandsIn, content_interfaces, content_shown}
 use Rattle.capture_reader.specs.BlockContents.{section_of}
-use Rattle.capture_reader.specs.Captures.{block_shown}
+use Rattle.capture_reader.specs.Captures.{begins_long, block_shown}
 use Rattle.capture_reader.specs.declared.block.BlockKind.{BlockKind}
 use Rattle.capture_reader.specs.declared.block.BlockKind.TheVariants.{SectionHeader, InterfaceDescription, SimplePacket}
 use Rattle.capture_reader.specs.declared.block.BlockKind.TheVariants.{EnhancedPacket, ObsoletePacket, Other}
@@ -100,3 +103,25 @@ whole_block before bytes frame interfaces content fits is says =
       ap (block_shown interfaces) block ∙ says.shown number,
       subst (FitsLen content) size says.fits,
     )
+
+not_parts : (before : ByteOrder) (kind : BlockKind) (magic len : ℕ) (bytes : List ℕ)
+    → len ≡ word32_at (order_of before kind magic) bytes 4 → len ≤ most_block
+    → (is_other kind && nat_lt most_block (word32_at before bytes 4)) ≡ false
+not_parts before SectionHeader magic len bytes is most = refl
+not_parts before InterfaceDescription magic len bytes is most = refl
+not_parts before SimplePacket magic len bytes is most = refl
+not_parts before EnhancedPacket magic len bytes is most = refl
+not_parts before ObsoletePacket magic len bytes is most = refl
+not_parts before Other magic len bytes is most = grind (arith, common_steps)
+
+-- a block that is there whole is none that comes in parts
+pub framed_short : (before : ByteOrder) (bytes : List ℕ) (frame : Framing) → IsFramed before bytes frame
+    → begins_long before bytes ≡ false
+framed_short before bytes frame is =
+    let magic = word32_at Big bytes 8 in
+    let long = nat_le 8 (length bytes) in
+    let order = is.order_is ∙ ap (λ k. order_of before k magic) (sym is.kind) in
+    ap (λ k. long && (is_other k && nat_lt most_block (word32_at before bytes 4))) (sym is.kind)
+    ∙ ap (λ (b : Bool). long && b)
+    (not_parts before frame.kind magic frame.len bytes (is.len ∙ ap (λ o. word32_at o bytes 4) order) is.most)
+    ∙ and-false long

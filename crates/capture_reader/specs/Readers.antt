@@ -55,7 +55,7 @@ reader_held reader = length reader.buffer.items
 
 -- how many bytes it has room for that are not read, behind the next piece
 abbrev pub bytes_room : CaptureReader → ℕ
-bytes_room reader = vec_capacity reader.spare
+bytes_room reader = vec_capacity reader.buffer
 
 -- how many interfaces it has room for
 abbrev pub interfaces_room : CaptureReader → ℕ

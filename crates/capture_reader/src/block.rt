@@ -1,10 +1,10 @@
 //! The blocks of a capture in the newer format.
 
-ghost use Rattle.std.specs.Prelude.{◌≡◌, ◌≤◌, ◌+◌, ◌-◌, List, None, IfErr, IfOk, drop, length, slice_range};
+ghost use Rattle.std.specs.Prelude.{◌≡◌, ◌≤◌, ◌+◌, ◌-◌, false, List, None, IfErr, IfOk, IfSome, OnSome, drop, length, slice_range};
 ghost use Rattle.ep_base.specs.Tables.{Refuses, first_row};
-ghost use Rattle.capture_reader.specs.Blocks.{IsBlock, RefusesBlock, block_in, body_rows, kept_of, kept_rows};
+ghost use Rattle.capture_reader.specs.Blocks.{IsBlock, RefusesBlock, block_in, body_rows, kept_of, kept_rows, kind_in};
 ghost use Rattle.capture_reader.specs.Blocks.{is_other, kind_of, known_order, knows_minor, least_len, order_said, section_after};
-ghost use Rattle.capture_reader.specs.Captures.{block_shown};
+ghost use Rattle.capture_reader.specs.Captures.{begins_long, block_shown};
 ghost use Rattle.capture_reader.specs.BlockContents.{FitsLen, IsFramed, Says, content_interfaces, content_shown, section_of, timed_known};
 
 use crate::byte_order::ByteOrder;
@@ -121,6 +121,83 @@ impl Block {
             Err(refusal) => Err(refusal),
         }
     }
+
+    /// The block at the front of the bytes, where it is not refused. Each kind has a call of its own, which is compiled
+    /// for that kind alone.
+    #[inline(always)]
+    pub(crate) fn whole(order: ByteOrder, interfaces: &[Interface], bytes: &[u8]) -> Option<Block>
+        ensures short { OnSome result (begins_long order bytes.now ≡ false) }
+        ensures ok { IfSome result (λ one. let section = section_of order interfaces.now in
+            IsBlock section bytes.now (block_in section bytes.now, drop one.len bytes.now)) }
+        ensures within { IfSome result (λ one. one.len ≤ length bytes.now) }
+        ensures least { IfSome result (λ one. 12 ≤ one.len) }
+        ensures fits { IfSome result (λ one. FitsLen one.content one.len) }
+        ensures after { IfSome result (λ one. let section = section_of order interfaces.now in
+            section_after section (block_in section bytes.now)
+            ≡ section_of one.order (content_interfaces interfaces.now one.content)) }
+        ensures shown { IfSome result (λ one. let section = section_of order interfaces.now in
+            block_shown interfaces.now (block_in section bytes.now)
+            ≡ content_shown (slice_range bytes.now 8 (one.len - 4)) one.content) }
+    {
+        if bytes.len() < 12 {
+            return None;
+        }
+        match kind_of(order.word32(bytes, 0)) {
+            BlockKind::EnhancedPacket => {
+                Block::of_kind(order, BlockKind::EnhancedPacket, interfaces, bytes)
+            }
+            BlockKind::SimplePacket => {
+                Block::of_kind(order, BlockKind::SimplePacket, interfaces, bytes)
+            }
+            BlockKind::ObsoletePacket => {
+                Block::of_kind(order, BlockKind::ObsoletePacket, interfaces, bytes)
+            }
+            BlockKind::Other => Block::of_kind(order, BlockKind::Other, interfaces, bytes),
+            BlockKind::InterfaceDescription => {
+                Block::of_kind(order, BlockKind::InterfaceDescription, interfaces, bytes)
+            }
+            BlockKind::SectionHeader => {
+                Block::of_kind(order, BlockKind::SectionHeader, interfaces, bytes)
+            }
+        }
+    }
+
+    /// The block at the front of the bytes, which is of this kind, where it is not refused.
+    #[inline(always)]
+    fn of_kind(
+        order: ByteOrder,
+        kind: BlockKind,
+        interfaces: &[Interface],
+        bytes: &[u8],
+    ) -> Option<Block>
+        requires long { 12 ≤ length bytes.now }
+        requires kind { kind ≡ kind_in order bytes.now }
+        ensures short { OnSome result (begins_long order bytes.now ≡ false) }
+        ensures ok { IfSome result (λ one. let section = section_of order interfaces.now in
+            IsBlock section bytes.now (block_in section bytes.now, drop one.len bytes.now)) }
+        ensures within { IfSome result (λ one. one.len ≤ length bytes.now) }
+        ensures least { IfSome result (λ one. 12 ≤ one.len) }
+        ensures fits { IfSome result (λ one. FitsLen one.content one.len) }
+        ensures after { IfSome result (λ one. let section = section_of order interfaces.now in
+            section_after section (block_in section bytes.now)
+            ≡ section_of one.order (content_interfaces interfaces.now one.content)) }
+        ensures shown { IfSome result (λ one. let section = section_of order interfaces.now in
+            block_shown interfaces.now (block_in section bytes.now)
+            ≡ content_shown (slice_range bytes.now 8 (one.len - 4)) one.content) }
+    {
+        let Ok(framing) = Framing::of_kind(order, kind, bytes) else {
+            return None;
+        };
+        let body = &bytes[8..framing.len as usize - 4];
+        let Ok(content) = framing.content(interfaces, body) else {
+            return None;
+        };
+        Some(Block {
+            order: framing.order,
+            len: framing.len as usize,
+            content,
+        })
+    }
 }
 
 /// What stands around what a block holds.
@@ -145,7 +222,18 @@ impl Framing {
                 len: bytes.len(),
             });
         }
-        let kind = kind_of(order.word32(bytes, 0));
+        Framing::of_kind(order, kind_of(order.word32(bytes, 0)), bytes)
+    }
+
+    /// The same of a block of this kind.
+    #[inline(always)]
+    fn of_kind(order: ByteOrder, kind: BlockKind, bytes: &[u8]) -> Result<Framing, Refusal>
+        requires long { 12 ≤ length bytes.now }
+        requires kind { kind ≡ kind_in order bytes.now }
+        ensures ok { IfOk result (λ framing. IsFramed order bytes.now framing) }
+        ensures err { IfErr result (λ error. (interfaces : List Interface) →
+            RefusesBlock (section_of order interfaces) bytes.now error) }
+    {
         let magic = ByteOrder::Big.word32(bytes, 8);
         let Some(order) = known_order(order, kind, magic) else {
             return Err(Refusal::UnknownByteOrder { magic });
@@ -171,6 +259,7 @@ impl Framing {
     }
 
     /// What the block says which holds these bytes.
+    #[inline(always)]
     fn content(&self, interfaces: &[Interface], body: &[u8]) -> Result<Content, Refusal>
         requires { least_len self.now.kind ≤ 12 + length body.now }
         ensures ok { IfOk result (Says interfaces.now self.now.order self.now.kind self.now.len body.now) }
@@ -220,6 +309,7 @@ impl Framing {
     }
 
     /// A packet without a time.
+    #[inline(always)]
     fn simple(&self, interfaces: &[Interface], body: &[u8]) -> Result<Content, Refusal>
         requires { 4 ≤ length body.now }
         ensures ok { IfOk result (Says interfaces.now self.now.order BlockKind.SimplePacket self.now.len body.now) }
@@ -242,6 +332,7 @@ impl Framing {
     }
 
     /// A packet of an interface.
+    #[inline(always)]
     fn enhanced(&self, interfaces: &[Interface], body: &[u8]) -> Result<Content, Refusal>
         requires { 20 ≤ length body.now }
         ensures ok { IfOk result (Says interfaces.now self.now.order BlockKind.EnhancedPacket self.now.len body.now) }
@@ -259,6 +350,7 @@ impl Framing {
 
     /// A packet of an interface, in the form that enhanced packets replace: behind the number of its interface, of two
     /// bytes, it has how many packets were dropped in front of it.
+    #[inline(always)]
     fn obsolete(&self, interfaces: &[Interface], body: &[u8]) -> Result<Content, Refusal>
         requires { 20 ≤ length body.now }
         ensures ok { IfOk result (Says interfaces.now self.now.order BlockKind.ObsoletePacket self.now.len body.now) }
@@ -278,6 +370,7 @@ impl Framing {
 
     /// What is known of a packet of the interface of a number, which begins with this: its time stands behind four
     /// bytes, in two halves, and its length behind sixteen.
+    #[inline(always)]
     fn timed(&self, number: u32, about: Interface, body: &[u8]) -> Known
         requires { 20 ≤ length body.now }
         ensures { result ≡ timed_known self.now.order number about body.now }
@@ -297,6 +390,7 @@ impl Framing {
     }
 
     /// A packet of which so many bytes were kept, behind so many others.
+    #[inline(always)]
     fn packet(&self, known: Known, start: usize, kept: u32, body: &[u8]) -> Result<Content, Refusal>
         requires { start ≤ 20 }
         ensures none { IfOk result (λ content. first_row (kept_rows self.now.len start kept (length body.now)) ≡ None) }

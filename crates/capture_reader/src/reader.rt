@@ -1,7 +1,7 @@
 //! A capture that comes in pieces.
 
-ghost use Rattle.std.specs.Prelude.{◌≡◌, ◌≤◌, ◌<◌, ◌+◌, ◌-◌, ◌^◌, ◌++◌, [], ℕ, List, IfErr, IfOk, OnErr, OnOk};
-ghost use Rattle.std.specs.Prelude.{◌*◌, ◌/◌, ◌⊎◌, false, true, length, vec_capacity, vec_len};
+ghost use Rattle.std.specs.Prelude.{◌≡◌, ◌≤◌, ◌<◌, ◌+◌, ◌-◌, ◌^◌, ◌++◌, [], ℕ, List, IfErr, IfOk, IfSome, OnErr, OnOk};
+ghost use Rattle.std.specs.Prelude.{◌*◌, ◌/◌, ◌⊎◌, false, true, drop, length, vec_capacity, vec_len};
 ghost use Rattle.capture_reader.specs.Captures.{begins_long, begins_section};
 ghost use Rattle.capture_reader.specs.States.{in_front};
 
@@ -14,7 +14,6 @@ use crate::parts::{MOST_STRETCH, begins_long, check_back, front_len};
 use crate::refusal::{CaptureError, Refusal};
 use crate::shown::{Known, Shown};
 use std::alloc::{AllocError, Global};
-use std::mem;
 
 /// What was read of a capture.
 #[derive(Clone, Copy, Debug)]
@@ -55,8 +54,6 @@ pub struct CaptureReader {
     state: State,
     /// What was taken and may not yet be read.
     buffer: Vec<u8>,
-    /// Room for what is taken next.
-    spare: Vec<u8>,
     /// Where in the buffer the packet that was read last begins.
     start: usize,
     /// Where in the buffer it ends.
@@ -101,7 +98,6 @@ impl CaptureReader {
         CaptureReader {
             state: State::Start,
             buffer: Vec::new(alloc),
-            spare: Vec::new(alloc),
             start: 0,
             last: 0,
             end: 0,
@@ -135,15 +131,16 @@ impl CaptureReader {
             OnErr result ((bytes_room self.old < left)
             ⊎ (interfaces_room self.old < interfaces_held self.old + left / 20)) }
     {
-        self.spare.clear();
-        self.spare
-            .extend_from_slice(&self.buffer.as_slice()[self.end..])?;
-        self.spare.extend_from_slice(piece)?;
-        self.interfaces.reserve(self.spare.len() / Interface::LEN)?;
+        // All room is asked for first, so that want of memory leaves everything as it was.
+        let left = self.buffer.len() - self.end;
+        self.buffer.reserve(piece.len().saturating_sub(self.end))?;
+        self.interfaces
+            .reserve((left + piece.len()) / Interface::LEN)?;
+        drop_front(&mut self.buffer, self.end);
         self.start = 0;
         self.last = 0;
         self.end = 0;
-        mem::swap(&mut self.buffer, &mut self.spare);
+        self.buffer.extend_from_slice(piece)?;
         Ok(())
     }
 
@@ -174,6 +171,9 @@ impl CaptureReader {
             }
             State::Records(heading) => self.advance_record(heading),
             State::Blocks(order) => {
+                if let Some(block) = self.next_whole(order) {
+                    return self.read_block(block);
+                }
                 if self.end == self.buffer.len() {
                     return Ok(Advance::MayEnd);
                 }
@@ -262,35 +262,51 @@ impl CaptureReader {
         }
     }
 
+    /// The block that stands next, in a section of a byte order, where it is not refused.
+    #[inline(always)]
+    fn next_whole(&self, order: ByteOrder) -> Option<Block>
+        requires { self.now.state ≡ State.Blocks order }
+        ensures { IfSome result (ReadsBlock self.now order) }
+    {
+        Block::whole(order, self.interfaces.as_slice(), self.rest())
+    }
+
+    /// Reads the block that stands next.
+    #[inline(always)]
+    fn read_block(&mut self, block: Block) -> Result<Advance, CaptureError>
+        requires { (order : ByteOrder) × ReadsBlock self.old order block }
+        ensures { Answers self.old self.new result }
+    {
+        let start = self.end + Block::FRONT_LEN;
+        self.end += block.len;
+        self.offset += block.len as u64;
+        self.state = State::Blocks(block.order);
+        match block.content {
+            Content::Section => {
+                self.interfaces.clear();
+                Ok(Advance::Other)
+            }
+            Content::Interface(interface) => {
+                self.interfaces.push_reserved(interface);
+                Ok(Advance::Other)
+            }
+            Content::Packet(packet) => {
+                self.start = start + packet.start;
+                self.last = self.start + packet.kept;
+                self.known = packet.known;
+                Ok(Advance::Packet)
+            }
+            Content::Other => Ok(Advance::Other),
+        }
+    }
+
     /// Reads a block, in a section of a byte order.
     fn advance_block(&mut self, order: ByteOrder) -> Result<Advance, CaptureError>
         requires { ReadsBlocks self.old order }
         ensures { Answers self.old self.new result }
     {
         match self.next_block(order) {
-            Ok(block) => {
-                let start = self.end + Block::FRONT_LEN;
-                self.end += block.len;
-                self.offset += block.len as u64;
-                self.state = State::Blocks(block.order);
-                match block.content {
-                    Content::Section => {
-                        self.interfaces.clear();
-                        Ok(Advance::Other)
-                    }
-                    Content::Interface(interface) => {
-                        self.interfaces.push_reserved(interface);
-                        Ok(Advance::Other)
-                    }
-                    Content::Packet(packet) => {
-                        self.start = start + packet.start;
-                        self.last = self.start + packet.kept;
-                        self.known = packet.known;
-                        Ok(Advance::Packet)
-                    }
-                    Content::Other => Ok(Advance::Other),
-                }
-            }
+            Ok(block) => self.read_block(block),
             Err(refusal) => self.refuse(refusal),
         }
     }
@@ -418,4 +434,19 @@ fn begins_section(bytes: &[u8]) -> bool
     ensures { result ≡ begins_section bytes.now }
 {
     bytes.len() >= 4 && ByteOrder::Big.word32(bytes, 0) == SECTION
+}
+
+/// Drops the first bytes, so many, and moves the others to the front.
+fn drop_front(bytes: &mut Vec<u8>, count: usize)
+    requires { count ≤ vec_len bytes.old }
+    ensures items { bytes.new.items ≡ drop count bytes.old.items }
+    ensures len { vec_len bytes.new + count ≡ vec_len bytes.old }
+    ensures capacity { vec_capacity bytes.new ≡ vec_capacity bytes.old }
+{
+    if count == 0 {
+        return;
+    }
+    let len = bytes.len();
+    bytes.copy_within(count..len, 0);
+    bytes.truncate(len - count);
 }

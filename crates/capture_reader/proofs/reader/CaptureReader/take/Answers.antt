@@ -6,5 +6,7 @@ use Rattle.capture_reader.proofs.reader.CaptureReader.take.Goals as goal
 
 pub returns-clause-ok : goal.returns-clause-ok
 returns-clause-ok c =
-    let buffer : c.swap.new.x.items ≡ reader_rest c.args.self.now ++ c.args.piece.now = grind (arith, common_steps) in
-    takes_more c.args.self.now _ c.args.piece.now refl c.reserve.ensures.items buffer refl refl
+    let self = c.args.self.now in
+    let buffer : c.extend_from_slice.new.self.items ≡ reader_rest self ++ c.args.piece.now =
+    grind (arith, common_steps) in
+    takes_more self _ c.args.piece.now refl c.reserve-2.ensures.items buffer refl refl
