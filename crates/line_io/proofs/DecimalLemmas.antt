@@ -1,63 +1,148 @@
--- The digits of a number, the last one first.
-use Rattle.std.proofs.Common.{◌≡◌, ℕ, zero, suc, ◌+◌, ◌-◌, ◌*◌, ◌/◌, ◌%◌, ◌^◌, ◌<◌, ◌≤◌, List, [], ◌∷◌, ◌++◌, length, drop, set, take}
-use Rattle.std.proofs.Common.{sym, ap, ◌∙◌, subst, arith, append_assoc}
+-- The digits of a number, two at a time, the last ones first.
+use Rattle.std.proofs.Common.{◌≡◌, ℕ, zero, suc, ◌+◌, ◌-◌, ◌*◌, ◌/◌, ◌%◌, ◌^◌, ◌<◌, ◌≤◌, List, [], ◌∷◌, ◌++◌, length, drop, take}
+use Rattle.std.proofs.Common.{Bool, true, ◌&&◌, T, eqb, eqb→eq, get_or, sym, ap, ◌∙◌, subst, arith, append_assoc}
+use Rattle.std.proofs.Common.{inl, inr, eq-zero-or-pos}
 use Rattle.std.specs.Fmt.{decimal}
 use Rattle.std.proofs.Math.Nat.{pow-succ'}
 use Rattle.std.proofs.lemmas.Fmt.{decimal_digit, decimal_step}
-use Rattle.std.proofs.lemmas.List.{drop-set, length-drop, length-set, take_all}
+use Rattle.std.proofs.lemmas.List.{append-nil, drop-drop, drop_all, length-drop, take_all}
+use lib.Ieee.Fits.{and_l, and_r}
+use Rattle.line_io.specs.declared.decimals.TheConstants.{PAIRS}
 
--- the digits behind this place, with those of what is left of the number in front, are those of the number
+-- ---- two digits
+
+-- the digits of a number below 100, with a zero in front where it has one digit
+abbrev pub two_digits : ℕ → List ℕ
+two_digits number = (48 + number / 10) ∷ (48 + number % 10) ∷ []
+
+-- the table has them at their place
+abbrev has_digits : ℕ → Bool
+has_digits number =
+    eqb (get_or PAIRS (2 * number) 0) (48 + number / 10) && eqb (get_or PAIRS (2 * number + 1) 0) (48 + number % 10)
+
+abbrev has_digits_below : ℕ → Bool
+has_digits_below zero = true
+has_digits_below (suc number) = has_digits number && has_digits_below number
+
+has_digits-below : (end number : ℕ) → T (has_digits_below end) → number < end → T (has_digits number)
+has_digits-below zero number all below = absurd (omega (arith, below))
+has_digits-below (suc last) number all below =
+    elim (eq-zero-or-pos (last - number)) [
+      | inl none ↦
+          let is : number ≡ last = omega (arith, none, below) in
+          subst (λ n. T (has_digits n)) (sym is) (and_l (has_digits last) (has_digits_below last) all)
+      | inr some ↦
+          has_digits-below last number (and_r (has_digits last) (has_digits_below last) all) (omega (arith, some))
+    ]
+
+pub first_of_pair : (number : ℕ) → number < 100 → get_or PAIRS (2 * number) 0 ≡ 48 + number / 10
+first_of_pair number below =
+    eqb→eq (get_or PAIRS (2 * number) 0) (48 + number / 10)
+    (and_l _ (eqb (get_or PAIRS (2 * number + 1) 0) (48 + number % 10)) (has_digits-below 100 number tt below))
+
+pub second_of_pair : (number : ℕ) → number < 100 → get_or PAIRS (2 * number + 1) 0 ≡ 48 + number % 10
+second_of_pair number below =
+    eqb→eq (get_or PAIRS (2 * number + 1) 0) (48 + number % 10)
+    (and_r (eqb (get_or PAIRS (2 * number) 0) (48 + number / 10)) _ (has_digits-below 100 number tt below))
+
+-- a number of two digits
+pub decimal_two : (number : ℕ) → 10 ≤ number → number < 100 → decimal number ≡ two_digits number
+decimal_two number least most =
+    decimal_step number least (omega (arith, most))
+    ∙ ap (λ t. t ++ (48 + number % 10) ∷ []) (decimal_digit (number / 10) (omega (arith, most)))
+
+-- the last two digits of a longer one
+pub decimal_more : (number : ℕ) → 100 ≤ number → number < 2 ^ 64
+    → decimal number ≡ decimal (number / 100) ++ two_digits (number % 100)
+decimal_more number least fits =
+    let rest : number / 10 / 10 ≡ number / 100 = omega arith in
+    let tens : number / 10 % 10 ≡ number % 100 / 10 = omega arith in
+    let ones : number % 10 ≡ number % 100 % 10 = omega arith in
+    decimal_step number (omega (arith, least)) fits
+    ∙ ap (λ t. t ++ (48 + number % 10) ∷ []) (decimal_step (number / 10) (omega (arith, least)) (omega (arith, fits)))
+    ∙ append_assoc (decimal (number / 10 / 10)) ((48 + number / 10 % 10) ∷ []) ((48 + number % 10) ∷ [])
+    ∙ ap (λ n. decimal n ++ (48 + number / 10 % 10) ∷ (48 + number % 10) ∷ []) rest
+    ∙ ap (λ n. decimal (number / 100) ++ (48 + n) ∷ (48 + number % 10) ∷ []) tens
+    ∙ ap (λ n. decimal (number / 100) ++ (48 + number % 100 / 10) ∷ (48 + n) ∷ []) ones
+
+-- ---- digits from the last to the first
+
+-- the digits from this place on, with those of what is left of the number in front, are those of the number
 abbrev pub AreLastDigits : ℕ → ℕ → ℕ → List ℕ → Type 0
-AreLastDigits number rest start digits = decimal number ≡ decimal rest ++ drop (start + 1) digits
+AreLastDigits number rest start digits = decimal number ≡ decimal rest ++ drop start digits
 
 -- what is left has no more digits than there is room for
 abbrev pub HasRoom : ℕ → ℕ → Type 0
-HasRoom rest start = rest < 10 ^ (start + 1)
+HasRoom rest start = (0 < start) × (rest < 10 ^ start)
 
--- one power more
-power_more : (start : ℕ) → 10 ^ (start + 1) ≡ 10 * 10 ^ start
-power_more start =
-    let next : start + 1 ≡ suc start = omega arith in
-    ap (λ n. 10 ^ n) next ∙ pow-succ' 10 start
+-- where three digits are left, there is room for one more than two
+pub HasRoom-three : (rest start : ℕ) → HasRoom rest start → 100 ≤ rest → 3 ≤ start
+HasRoom-three rest zero room three = absurd (omega (arith, room.0))
+HasRoom-three rest (suc zero) room three = absurd (omega (arith, room.1, three))
+HasRoom-three rest (suc (suc zero)) room three = absurd (omega (arith, room.1, three))
+HasRoom-three rest (suc (suc (suc start))) room three = omega arith
 
--- where two digits are left, there is room for one more
-pub HasRoom-front : (rest start : ℕ) → HasRoom rest start → 10 ≤ rest → 0 < start
-HasRoom-front rest zero room two = absurd (omega (arith, room, two))
-HasRoom-front rest (suc start) room two = omega arith
+-- where two digits are left, there is room for them
+pub HasRoom-two : (rest start : ℕ) → HasRoom rest start → 10 ≤ rest → 2 ≤ start
+HasRoom-two rest zero room two = absurd (omega (arith, room.0))
+HasRoom-two rest (suc zero) room two = absurd (omega (arith, room.1, two))
+HasRoom-two rest (suc (suc start)) room two = omega arith
 
-pub HasRoom-more : (rest start : ℕ) → HasRoom rest start → 10 ≤ rest → HasRoom (rest / 10) (start - 1)
-HasRoom-more rest start room two =
-    let some = HasRoom-front rest start room two in
-    let same : start - 1 + 1 ≡ start = omega (arith, some) in
-    let below : rest / 10 < 10 ^ start = omega (arith, power_more start, room) in
-    subst (λ n. rest / 10 < 10 ^ n) (sym same) below
+less_room : (rest start : ℕ) → rest < 10 ^ suc (suc start) → rest / 100 < 10 ^ start
+less_room rest start room = omega (arith, pow-succ' 10 (suc start), pow-succ' 10 start, room)
 
--- the next digit in front
-pub AreLastDigits-more : (number rest start : ℕ) (digits : List ℕ) → AreLastDigits number rest start digits
-    → start < length digits → HasRoom rest start → 10 ≤ rest → rest < 2 ^ 64
-    → AreLastDigits number (rest / 10) (start - 1) (set digits start (48 + rest % 10))
-AreLastDigits-more number rest start digits last within room two fits =
-    let some = HasRoom-front rest start room two in
-    let same : start - 1 + 1 ≡ start = omega (arith, some) in
-    last ∙ ap (λ t. t ++ drop (start + 1) digits) (decimal_step rest two fits)
-    ∙ append_assoc (decimal (rest / 10)) ((48 + rest % 10) ∷ []) (drop (start + 1) digits)
-    ∙ ap (λ t. decimal (rest / 10) ++ t) (sym (drop-set digits start (48 + rest % 10) within))
-    ∙ ap (λ n. decimal (rest / 10) ++ drop n (set digits start (48 + rest % 10))) (sym same)
+pub HasRoom-more : (rest start : ℕ) → HasRoom rest start → 100 ≤ rest → HasRoom (rest / 100) (start - 2)
+HasRoom-more rest start room three =
+    let some = HasRoom-three rest start room three in
+    let same : suc (suc (start - 2)) ≡ start = omega (arith, some) in
+    (omega (arith, some), less_room rest (start - 2) (subst (λ n. rest < 10 ^ n) (sym same) room.1))
+
+-- at first no digit is written
+pub AreLastDigits-none : (number : ℕ) (digits : List ℕ) → length digits ≡ 20 → AreLastDigits number number 20 digits
+AreLastDigits-none number digits long =
+    sym (append-nil (decimal number)) ∙ ap (λ t. decimal number ++ t) (sym (drop_all 20 digits (omega (arith, long))))
+
+-- the next two digits in front
+pub AreLastDigits-more : (number rest start : ℕ) (digits written : List ℕ) → AreLastDigits number rest start digits
+    → drop (start - 2) written ≡ two_digits (rest % 100) ++ drop (start - 2 + 2) digits → 2 ≤ start → 100 ≤ rest
+    → rest < 2 ^ 64 → AreLastDigits number (rest / 100) (start - 2) written
+AreLastDigits-more number rest start digits written last puts some three fits =
+    let same : start - 2 + 2 ≡ start = omega (arith, some) in
+    last ∙ ap (λ t. t ++ drop start digits) (decimal_more rest three fits)
+    ∙ append_assoc (decimal (rest / 100)) (two_digits (rest % 100)) (drop start digits)
+    ∙ ap (λ n. decimal (rest / 100) ++ (two_digits (rest % 100) ++ drop n digits)) (sym same)
+    ∙ ap (λ t. decimal (rest / 100) ++ t) (sym puts)
+
+-- the first two digits
+pub AreLastDigits-two : (number rest start : ℕ) (digits written : List ℕ) → AreLastDigits number rest start digits
+    → drop (start - 2) written ≡ two_digits rest ++ drop (start - 2 + 2) digits → 2 ≤ start → 10 ≤ rest → rest < 100
+    → drop (start - 2) written ≡ decimal number
+AreLastDigits-two number rest start digits written last puts some least most =
+    let same : start - 2 + 2 ≡ start = omega (arith, some) in
+    puts ∙ ap (λ n. two_digits rest ++ drop n digits) same
+    ∙ ap (λ t. t ++ drop start digits) (sym (decimal_two rest least most)) ∙ sym last
 
 -- the first digit
-pub AreLastDigits-first : (number rest start : ℕ) (digits : List ℕ) → AreLastDigits number rest start digits
-    → start < length digits → rest < 10 → drop start (set digits start (48 + rest)) ≡ decimal number
-AreLastDigits-first number rest start digits last within one =
-    drop-set digits start (48 + rest) within
-    ∙ ap (λ t. t ++ drop (start + 1) digits) (sym (decimal_digit rest one)) ∙ sym last
+pub AreLastDigits-one : (number rest start : ℕ) (digits written : List ℕ) → AreLastDigits number rest start digits
+    → drop (start - 1) written ≡ (48 + rest) ∷ drop (start - 1 + 1) digits → 0 < start → rest < 10
+    → drop (start - 1) written ≡ decimal number
+AreLastDigits-one number rest start digits written last puts some one =
+    let same : start - 1 + 1 ≡ start = omega (arith, some) in
+    puts ∙ ap (λ n. (48 + rest) ∷ drop n digits) same
+    ∙ ap (λ t. t ++ drop start digits) (sym (decimal_digit rest one)) ∙ sym last
 
--- all digits, in room for twenty
-pub digits-whole : (number rest start : ℕ) (digits : List ℕ) → length digits ≡ 20 → start < 20
-    → AreLastDigits number rest start digits → rest < 10
-    → take (20 - start) (drop start (set digits start (48 + rest))) ≡ decimal number
-digits-whole number rest start digits long within last one =
-    let written = set digits start (48 + rest) in
-    let whole : take (20 - start) (drop start written) ≡ drop start written =
-    take_all (20 - start) (drop start written)
-    (omega (arith, length-drop start written, length-set digits start (48 + rest), long)) in
-    whole ∙ AreLastDigits-first number rest start digits last (omega (arith, long, within)) one
+-- ---- the digits that are appended
+
+-- all from the first on, in room for twenty
+pub digits-whole : (number start : ℕ) (digits : List ℕ) → length digits ≡ 20 → drop start digits ≡ decimal number
+    → take (20 - start) (drop start digits) ≡ decimal number
+digits-whole number start digits long are =
+    take_all (20 - start) (drop start digits) (omega (arith, length-drop start digits, long)) ∙ are
+
+-- all behind the first
+pub digits-behind_first : (number start : ℕ) (digits : List ℕ) → length digits ≡ 20
+    → drop start digits ≡ decimal number
+    → take (20 - (start + 1)) (drop (start + 1) digits) ≡ drop 1 (decimal number)
+digits-behind_first number start digits long are =
+    take_all (20 - (start + 1)) (drop (start + 1) digits) (omega (arith, length-drop (start + 1) digits, long))
+    ∙ sym (drop-drop 1 start digits) ∙ ap (λ t. drop 1 t) are
