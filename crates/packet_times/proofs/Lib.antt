@@ -1,1 +1,2 @@
 pub mod CalendarLemmas
+pub mod FractionLemmas

@@ -33,12 +33,17 @@ fn shifted(offset: i64) -> u128
     }
 }
 
-/// How many nanoseconds these ticks are. No unit is taken for one in a second.
+/// How many nanoseconds these ticks are. No unit is taken for one in a second. For microseconds and nanoseconds, the
+/// units of most captures, no number of 128 bits is divided, which takes long.
 fn nanos_of(ticks: u64, per_second: u64) -> u128
     ensures value { result ≡ nanos_of ticks per_second }
     ensures bound { result < 2 ^ 94 }
 {
-    u128::from(ticks) * SECOND / u128::from(per_second.max(1))
+    match per_second {
+        1_000_000 => 1_000 * u128::from(ticks),
+        1_000_000_000 => u128::from(ticks),
+        _ => u128::from(ticks) * SECOND / u128::from(per_second.max(1)),
+    }
 }
 
 /// Whether the ticks are finer than microseconds.

@@ -1,0 +1,55 @@
+-- The digits of a fraction of a second: those of a number behind a 1, so that zeros in front are told.
+use Rattle.std.proofs.Common.{◌≡◌, ℕ, zero, suc, ◌+◌, ◌/◌, ◌%◌, ◌^◌, ◌<◌, List, [], ◌∷◌, ◌++◌, drop}
+use Rattle.std.proofs.Common.{ap, ◌∙◌, arith}
+use Rattle.std.specs.Fmt.{decimal}
+use Rattle.std.proofs.Math.Nat.{one-le-pow, pow-succ'}
+use Rattle.std.proofs.lemmas.Fmt.{decimal_digit, decimal_step}
+use Rattle.packet_times.specs.TimeTexts.{digit}
+
+-- the last digits of a number
+abbrev last_digits : (count number : ℕ) → List ℕ
+last_digits zero number = []
+last_digits (suc count) number = last_digits count (number / 10) ++ digit number ∷ []
+
+-- behind a 1 they are all digits
+behind_one : (count number : ℕ) → number < 10 ^ count → 10 ^ count + number < 2 ^ 64
+    → decimal (10 ^ count + number) ≡ 49 ∷ last_digits count number
+behind_one zero number below fits =
+    let one : 10 ^ 0 + number ≡ 1 = omega (arith, below) in
+    ap decimal one ∙ decimal_digit 1 (omega arith)
+behind_one (suc count) number below fits =
+    let power = pow-succ' 10 count in
+    let some = one-le-pow count 10 (omega arith) in
+    let front : (10 ^ suc count + number) / 10 ≡ 10 ^ count + number / 10 = omega (arith, power) in
+    let last : (10 ^ suc count + number) % 10 ≡ number % 10 = omega (arith, power) in
+    decimal_step (10 ^ suc count + number) (omega (arith, power, some)) fits
+    ∙ ap (λ n. decimal n ++ (48 + (10 ^ suc count + number) % 10) ∷ []) front
+    ∙ ap (λ t. t ++ (48 + (10 ^ suc count + number) % 10) ∷ [])
+    (behind_one count (number / 10) (omega (arith, power, below)) (omega (arith, power, fits)))
+    ∙ ap (λ n. (49 ∷ last_digits count (number / 10)) ++ (48 + n) ∷ []) last
+
+pub six_digits : (number : ℕ) → number < 1000000
+    → drop 1 (decimal (1000000 + number))
+    ≡ digit (number / 100000) ∷ digit (number / 10000) ∷ digit (number / 1000) ∷ digit (number / 100)
+    ∷ digit (number / 10) ∷ digit number ∷ []
+six_digits number below =
+    let first : number / 100000 ≡ number / 10 / 10 / 10 / 10 / 10 = omega arith in
+    let second : number / 10000 ≡ number / 10 / 10 / 10 / 10 = omega arith in
+    let third : number / 1000 ≡ number / 10 / 10 / 10 = omega arith in
+    let fourth : number / 100 ≡ number / 10 / 10 = omega arith in
+    rw (first, second, third, fourth) (ap (λ t. drop 1 t) (behind_one 6 number below (omega (arith, below))))
+
+pub nine_digits : (number : ℕ) → number < 1000000000
+    → drop 1 (decimal (1000000000 + number))
+    ≡ digit (number / 100000000) ∷ digit (number / 10000000) ∷ digit (number / 1000000) ∷ digit (number / 100000)
+    ∷ digit (number / 10000) ∷ digit (number / 1000) ∷ digit (number / 100) ∷ digit (number / 10) ∷ digit number ∷ []
+nine_digits number below =
+    let first : number / 100000000 ≡ number / 10 / 10 / 10 / 10 / 10 / 10 / 10 / 10 = omega arith in
+    let second : number / 10000000 ≡ number / 10 / 10 / 10 / 10 / 10 / 10 / 10 = omega arith in
+    let third : number / 1000000 ≡ number / 10 / 10 / 10 / 10 / 10 / 10 = omega arith in
+    let fourth : number / 100000 ≡ number / 10 / 10 / 10 / 10 / 10 = omega arith in
+    let fifth : number / 10000 ≡ number / 10 / 10 / 10 / 10 = omega arith in
+    let sixth : number / 1000 ≡ number / 10 / 10 / 10 = omega arith in
+    let seventh : number / 100 ≡ number / 10 / 10 = omega arith in
+    rw (first, second, third, fourth, fifth, sixth, seventh)
+    (ap (λ t. drop 1 t) (behind_one 9 number below (omega (arith, below))))
