@@ -8,6 +8,7 @@ pub mod LineLemmas
 pub mod OpenLemmas
 pub mod PoolLemmas
 pub mod ReadingLemmas
+pub mod RowLemmas
 pub mod ValueLemmas
 pub mod JoinedLemmas
 pub mod OptionLemmas

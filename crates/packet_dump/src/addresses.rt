@@ -1,12 +1,24 @@
 //! Bytes and addresses as text.
 
-ghost use Rattle.std.specs.Prelude.{◌≡◌, ◌<◌, ◌≤◌, ◌+◌, ◌++◌, OnOk, codes, take};
+ghost use Rattle.std.specs.Prelude.{[], ◌∷◌, ◌≡◌, ◌<◌, ◌≤◌, ◌+◌, ◌*◌, ◌++◌, OnOk, codes, if◌then◌else◌, length, take};
 ghost use Rattle.std.specs.Fmt.{decimal};
-ghost use Rattle.packet_dump.specs.Addresses.{further_octets_text, hex_digit, hex_pair, hex_text, ipv4_text, ipv6_text};
+ghost use Rattle.std.specs.Net.Text.{groups_text, hex, hex_groups_text, longest_zero_run};
+ghost use Rattle.packet_dump.specs.Addresses.{further_octets_text, hex_pair, hex_text, ipv4_text, ipv6_text};
 ghost use Rattle.packet_dump.specs.Addresses.{mac_text, octets_text};
 
 use std::alloc::AllocError;
 use std::net::Ipv6Addr;
+
+/// The hexadecimal digits of each byte, two for each.
+static HEX_PAIRS: [u8; 512] = *b"\
+    000102030405060708090a0b0c0d0e0f101112131415161718191a1b1c1d1e1f\
+    202122232425262728292a2b2c2d2e2f303132333435363738393a3b3c3d3e3f\
+    404142434445464748494a4b4c4d4e4f505152535455565758595a5b5c5d5e5f\
+    606162636465666768696a6b6c6d6e6f707172737475767778797a7b7c7d7e7f\
+    808182838485868788898a8b8c8d8e8f909192939495969798999a9b9c9d9e9f\
+    a0a1a2a3a4a5a6a7a8a9aaabacadaeafb0b1b2b3b4b5b6b7b8b9babbbcbdbebf\
+    c0c1c2c3c4c5c6c7c8c9cacbcccdcecfd0d1d2d3d4d5d6d7d8d9dadbdcdddedf\
+    e0e1e2e3e4e5e6e7e8e9eaebecedeeeff0f1f2f3f4f5f6f7f8f9fafbfcfdfeff";
 
 /// Appends a hardware address of six bytes: two digits for each, a colon between two.
 #[tactic(auto, unfolding(crate::specs::Addresses::mac_text))]
@@ -14,24 +26,14 @@ pub fn push_mac(output: &mut Vec<u8>, address: [u8; 6]) -> Result<(), AllocError
     ensures { OnOk result (output.new.items ≡ output.old.items ++ mac_text address) }
 {
     let [a, b, c, d, e, f] = address;
+    let [a0, a1] = hex_pair(a);
+    let [b0, b1] = hex_pair(b);
+    let [c0, c1] = hex_pair(c);
+    let [d0, d1] = hex_pair(d);
+    let [e0, e1] = hex_pair(e);
+    let [f0, f1] = hex_pair(f);
     output.extend_from_slice(&[
-        hex_digit(a / 16),
-        hex_digit(a % 16),
-        b':',
-        hex_digit(b / 16),
-        hex_digit(b % 16),
-        b':',
-        hex_digit(c / 16),
-        hex_digit(c % 16),
-        b':',
-        hex_digit(d / 16),
-        hex_digit(d % 16),
-        b':',
-        hex_digit(e / 16),
-        hex_digit(e % 16),
-        b':',
-        hex_digit(f / 16),
-        hex_digit(f % 16),
+        a0, a1, b':', b0, b1, b':', c0, c1, b':', d0, d1, b':', e0, e1, b':', f0, f1,
     ])
 }
 
@@ -51,7 +53,8 @@ fn push_further_octets(output: &mut Vec<u8>, bytes: &[u8]) -> Result<(), AllocEr
     ensures { OnOk result (output.new.items ≡ output.old.items ++ further_octets_text bytes.now) }
 {
     for byte in bytes {
-        output.extend_from_slice(&[b':', hex_digit(*byte / 16), hex_digit(*byte % 16)])?;
+        let [first, second] = hex_pair(*byte);
+        output.extend_from_slice(&[b':', first, second])?;
     }
     Ok(())
 }
@@ -70,19 +73,16 @@ pub fn push_hex(output: &mut Vec<u8>, bytes: &[u8]) -> Result<(), AllocError>
 pub fn push_pair(output: &mut Vec<u8>, byte: u8) -> Result<(), AllocError>
     ensures { OnOk result (output.new.items ≡ output.old.items ++ hex_pair byte) }
 {
-    output.extend_from_slice(&[hex_digit(byte / 16), hex_digit(byte % 16)])
+    output.extend_from_slice(&hex_pair(byte))
 }
 
-/// The hexadecimal digit of a number below 16.
-fn hex_digit(number: u8) -> u8
-    requires { number < 16 }
-    ensures { result ≡ hex_digit number }
+/// The two hexadecimal digits of a byte.
+#[inline]
+pub fn hex_pair(byte: u8) -> [u8; 2]
+    ensures { result ≡ hex_pair byte }
 {
-    if number < 10 {
-        b'0' + number
-    } else {
-        b'a' - 10 + number
-    }
+    let at = 2 * usize::from(byte);
+    [HEX_PAIRS[at], HEX_PAIRS[at + 1]]
 }
 
 /// How many bytes the four numbers of an address of IPv4 take at most, with a dot before each.
@@ -112,26 +112,103 @@ fn put_octet(text: &mut [u8; DOTTED_LEN], at: usize, octet: u8) -> usize
 {
     let tens = octet / 10;
     text[at] = b'.';
-    if octet < 10 {
-        text[at + 1] = b'0' + octet;
-        at + 2
-    } else if octet < 100 {
-        text[at + 1] = b'0' + tens;
-        text[at + 2] = b'0' + octet % 10;
-        at + 3
-    } else {
-        text[at + 1] = b'0' + tens / 10;
-        text[at + 2] = b'0' + tens % 10;
-        text[at + 3] = b'0' + octet % 10;
-        at + 4
-    }
+    let behind_first = put_digit(text, at + 1, b'0' + tens / 10, octet >= 100);
+    let behind_second = put_digit(text, behind_first, b'0' + tens % 10, octet >= 10);
+    put_digit(text, behind_second, b'0' + octet % 10, true)
 }
 
-/// Appends an address of IPv6 in its shortest form (RFC 5952).
+/// Puts a digit at this place, and answers where the next one stands: at this place too, where the digit is not kept.
+/// So no branch is taken by what the digits are.
+#[inline]
+fn put_digit(text: &mut [u8], at: usize, digit: u8, is_kept: bool) -> usize
+    requires { at < length text.old }
+    ensures text { take result text.new ≡ take at text.old ++ (if is_kept then digit ∷ [] else []) }
+    ensures grows { at ≤ result }
+    ensures bound { result ≤ at + 1 }
+{
+    text[at] = digit;
+    at + usize::from(is_kept)
+}
+
+/// How many bytes the eight groups of an address of IPv6 take at most, with a colon behind each and one more.
+const GROUPS_LEN: usize = 42;
+
+/// Appends an address of IPv6 in its shortest form (RFC 5952). One that stands for an address of IPv4 ends in that.
 pub fn push_ipv6(output: &mut Vec<u8>, address: [u8; 16]) -> Result<(), AllocError>
     ensures { OnOk result (output.new.items ≡ output.old.items ++ ipv6_text address) }
 {
     let address = Ipv6Addr::from_octets(address);
-    let text = format!(in *output.allocator(); "{address}")?;
-    output.extend_from_slice(text.as_bytes())
+    match address.to_ipv4_mapped() {
+        Some(mapped) => {
+            output.extend_from_slice(b"::ffff:")?;
+            push_ipv4(output, mapped.octets())
+        }
+        None => push_groups(output, &address.segments()),
+    }
+}
+
+/// Appends eight groups, with `::` in place of the first of the longest runs of zeros, where it has two or more.
+fn push_groups(output: &mut Vec<u8>, groups: &[u16; 8]) -> Result<(), AllocError>
+    ensures { OnOk result (output.new.items ≡ output.old.items ++ hex_groups_text groups.now) }
+{
+    let mut text = [0; GROUPS_LEN];
+    let (start, len) = longest_run(groups);
+    let end = if len > 1 {
+        let head = put_groups(&mut text, 0, &groups[..start]);
+        text[head] = b':';
+        text[head + 1] = b':';
+        put_groups(&mut text, head + 2, &groups[start + len..])
+    } else {
+        put_groups(&mut text, 0, groups)
+    };
+    output.extend_from_slice(&text[..end])
+}
+
+/// Where the first of the longest runs of zeros begins, and how many it has. From the last group to the first, a run
+/// that is no shorter than the longest one so far takes its place.
+fn longest_run(groups: &[u16; 8]) -> (usize, usize)
+    ensures value { result ≡ longest_zero_run groups.now }
+    ensures bound { result.0 + result.1 ≤ 8 }
+{
+    let mut longest = (8, 0);
+    let mut zeros = 0;
+    for at in (0..8).rev() {
+        zeros = if groups[at] == 0 { zeros + 1 } else { 0 };
+        if zeros >= longest.1 {
+            longest = (at, zeros);
+        }
+    }
+    longest
+}
+
+/// Puts groups at this place, a colon between two, and answers where they end.
+fn put_groups(text: &mut [u8; GROUPS_LEN], at: usize, groups: &[u16]) -> usize
+    requires { at + 5 * length groups.now ≤ 42 }
+    ensures text { take result text.new ≡ take at text.old ++ groups_text groups.now }
+    ensures bound { result ≤ at + 5 * length groups.now }
+{
+    let [first, rest @ ..] = groups else {
+        return at;
+    };
+    let mut end = put_group(text, at, *first);
+    for group in rest {
+        text[end] = b':';
+        end = put_group(text, end + 1, *group);
+    }
+    end
+}
+
+/// Puts the hexadecimal digits of a group at this place, without zeros in front, and answers where they end.
+#[inline]
+fn put_group(text: &mut [u8; GROUPS_LEN], at: usize, group: u16) -> usize
+    requires { at + 4 ≤ 42 }
+    ensures text { take result text.new ≡ take at text.old ++ hex group }
+    ensures bound { result ≤ at + 4 }
+{
+    let [first, second] = hex_pair((group / 256) as u8);
+    let [third, fourth] = hex_pair((group % 256) as u8);
+    let behind_first = put_digit(text, at, first, group >= 0x1000);
+    let behind_second = put_digit(text, behind_first, second, group >= 0x100);
+    let behind_third = put_digit(text, behind_second, third, group >= 0x10);
+    put_digit(text, behind_third, fourth, true)
 }

@@ -1,17 +1,15 @@
-use Rattle.std.proofs.Common.{arith}
-use Rattle.packet_dump.proofs.AddressLemmas.{puts_one_digit, puts_three_digits, puts_two_digits}
+use Rattle.std.proofs.Common.{◌+◌, ◌<◌, ◌∷◌, [], length, set, take, refl, arith}
+use Rattle.std.proofs.lemmas.Grind.{take-set_at}
+use Rattle.packet_dump.proofs.AddressLemmas.{octet_digits-are}
+use Rattle.packet_dump.proofs.LineLemmas.{four_parts}
 use Rattle.packet_dump.proofs.addresses.put_octet.Goals as goal
 
-pub returns-then-octet-lt10-clause-text : goal.returns-then-octet-lt10-clause-text
-returns-then-octet-lt10-clause-text c =
-    puts_one_digit c.args.text.now c.args.at c.args.octet (omega (arith, c.told-text, c.requires)) c.if-octet-lt10.true
-
-pub returns-then-octet-lt100-clause-text : goal.returns-then-octet-lt100-clause-text
-returns-then-octet-lt100-clause-text c =
-    puts_two_digits c.args.text.now c.args.at c.args.octet (omega (arith, c.told-text, c.requires))
-    (omega (arith, c.if-octet-lt10.false)) c.if-octet-lt100.true
-
-pub returns-else-octet-lt100-clause-text : goal.returns-else-octet-lt100-clause-text
-returns-else-octet-lt100-clause-text c =
-    puts_three_digits c.args.text.now c.args.at c.args.octet (omega (arith, c.told-text, c.requires))
-    (omega (arith, c.if-octet-lt100.false)) (omega (arith, c.ranges.octet.fits))
+pub returns-clause-text : goal.returns-clause-text
+returns-clause-text c =
+    let text = c.args.text.now in
+    let at = c.args.at in
+    let within : at < length text = omega (arith, c.told-text, c.requires) in
+    rw (← octet_digits-are c.args.octet c.ranges.octet.fits)
+    (four_parts (take at text) (take (at + 1) (set text at 46)) _ _ _ (46 ∷ []) _ _ _
+    (take-set_at text at (at + 1) 46 refl within)
+    c.put_digit-behind_first.ensures.text c.put_digit-behind_second.ensures.text c.put_digit.ensures.text)
