@@ -1,10 +1,10 @@
 -- A range joins sections that stand apart in order: those that share a point with it are neighbours of one another, and
 -- with their union at their place the sections stand apart in order again.
-use Rattle.std.proofs.Common.{◌≡◌, ℕ, suc, ◌+◌, ◌-◌, ◌<◌, ◌≤◌, nat_le, nat_lt, true, false, not, List, [], ◌∷◌, ◌++◌}
+use Rattle.std.proofs.Common.{◌≡◌, ℕ, suc, ◌+◌, ◌-◌, ◌<◌, ◌≤◌, true, false, not, List, [], ◌∷◌, ◌++◌}
 use Rattle.std.proofs.Common.{length, get_or, set, take, drop, sym, refl, ap, subst, ◌∙◌, inl, inr, arith}
 use Rattle.std.specs.List.{All, AllWithin, AllByRecursion, list_any, filter, fold, insert, remove_range}
-use Rattle.std.specs.List.Sorted.{IsPermutation, IsPartitionPoint}
-use Rattle.std.proofs.lemmas.Bool.{cases_lt, false≢true, ltb-true, ltb-false, leb-true, leb-false}
+use Rattle.std.specs.List.Sorted.{IsPermutation}
+use Rattle.std.proofs.lemmas.Bool.{cases_lt, false≢true}
 use Rattle.std.proofs.lemmas.Bool.Decides.{nat_tests}
 use Rattle.std.proofs.lemmas.List.{append-nil, length-take-le, length-drop, get_or-take, get_or-drop, get_or_default}
 use Rattle.std.proofs.lemmas.List.{take-append-drop, drop-drop, drop_more, take_more_set, drop-set-lt, append_assoc}
@@ -15,8 +15,9 @@ use Rattle.ep_defrag.specs.Ranges.{merges, hull, AreApart}
 use Rattle.ep_defrag.specs.Buffers.{sections_after, AreNeighbours}
 use Rattle.ep_defrag.proofs.ListLemmas.{none_from_filter}
 use Rattle.ep_defrag.proofs.SectionLemmas.{IsOrdered}
-use Rattle.ep_defrag.proofs.ApartLemmas.{AreApartFrom, from_apart, to_apart, ordered_from, from_at, raised}
+use Rattle.ep_defrag.proofs.ApartLemmas.{AreApartFrom, from_apart, to_apart, ordered_from, raised}
 use Rattle.ep_defrag.proofs.ApartLemmas.{least_behind, least_behind-le, apart_parts, apart_append}
+use Rattle.ep_defrag.proofs.ApartLemmas.{starts_rise, ends_rise, behind_earlier}
 
 -- ---- a fact of places, of a part
 module _ {X : Type 0} (P : X → Type 0) (xs : List X) where
@@ -316,30 +317,62 @@ module _ (range : IpFragRange) (ordered : IsOrdered range) (sections : List IpFr
     pub union_apart : AreApart items
     union_apart = rw left_joins is_apart
 
--- ---- the places from the two searches
-pub near_from_points : (range : IpFragRange) → IsOrdered range → (sections : List IpFragRange) → AreApart sections
-    → (from to : ℕ) → from ≤ length sections → to ≤ length sections
-    → IsPartitionPoint (λ (section : IpFragRange). nat_lt section.end range.start ≡ true)
-    (λ section. nat_lt section.end range.start ≡ false) sections from
-    → IsPartitionPoint (λ (section : IpFragRange). nat_le section.start range.end ≡ true)
-    (λ section. nat_le section.start range.end ≡ false) sections to
+-- ---- the places from what stands next to them
+-- a place where the sections that end before the range have an end, and one behind it where those have one that start no
+-- later than its end
+pub near_from_place : (range : IpFragRange) → (sections : List IpFragRange) → AreApart sections → (from to : ℕ)
+    → from ≤ to → to ≤ length sections
+    → AllWithin (λ section. section.end < range.start) sections 0 from
+    → AllWithin (λ section. range.start ≤ section.end) sections from (length sections)
+    → ((d : IpFragRange) → from < to → (get_or sections (to - 1) d).start ≤ range.end)
+    → ((d : IpFragRange) → to < length sections → range.end < (get_or sections to d).start)
     → AreNeighbours range sections from to
-near_from_points range ordered sections apart from to within within' ends starts = record {
-  order = elim (cases_lt to from) [
-    | inr order ↦ order
-    | inl crossed ↦
-        let section = get_or sections to range in
-        let before : section.end < range.start = ltb-true _ _ (ends.0 to range (omega arith) crossed) in
-        let after : range.end < section.start = leb-false _ _ (starts.1 to range (omega arith) (omega arith)) in
-        let kept : section.start ≤ section.end =
-        (from_at 0 sections (from_apart sections apart) to range (omega arith)).1 in
-        absurd (omega arith)
-  ];
-  within = within';
-  earlier = λ k d low high. ltb-true _ _ (ends.0 k d low high);
+near_from_place range sections apart from to order within earlier rest starts behind = record {
+  order = order;
+  within = within;
+  earlier = earlier;
   between = λ k d low high. (
-    ltb-false _ _ (ends.1 k d low (omega arith)),
-    leb-true _ _ (starts.0 k d (omega arith) high),
+    rest k d low (omega arith),
+    omega (arith, starts_rise sections apart k (to - 1) d (omega arith) (omega arith), starts d (omega arith)),
   );
-  later = λ k d low high. leb-false _ _ (starts.1 k d low high);
+  later = λ k d low high. omega (arith, starts_rise sections apart to k d low high, behind d (omega arith));
 }
+
+-- where the range starts behind the end of the last section, none is near
+pub near_at_end : (range : IpFragRange) → (sections : List IpFragRange) → AreApart sections → (d : IpFragRange)
+    → (length sections ≡ 0 → ⊥) → (get_or sections (length sections - 1) d).end < range.start
+    → AreNeighbours range sections (length sections) (length sections)
+near_at_end range sections apart d some behind =
+    let last = length sections - 1 in
+    near_from_place range sections apart (length sections) (length sections) (omega arith) (omega arith)
+    (λ k e low high.
+    omega (
+      arith,
+      ends_rise sections apart k last e (omega arith) (omega arith),
+      ap (λ section. section.end) (get_or_default sections last e d (omega arith)),
+    ))
+    (λ k e low high. absurd (omega arith))
+    (λ e more. absurd (omega arith))
+    (λ e more. absurd (omega arith))
+
+-- where it starts in the last section, at the end of that too, it alone is near
+pub near_in_last : (range : IpFragRange) → IsOrdered range → (sections : List IpFragRange) → AreApart sections
+    → (d : IpFragRange) → (length sections ≡ 0 → ⊥) → range.start ≤ (get_or sections (length sections - 1) d).end
+    → (get_or sections (length sections - 1) d).start ≤ range.start
+    → AreNeighbours range sections (length sections - 1) (length sections)
+near_in_last range ordered sections apart d some within behind =
+    let last = length sections - 1 in
+    let is : (e : IpFragRange) → get_or sections last e ≡ get_or sections last d =
+    λ e. get_or_default sections last e d (omega arith) in
+    near_from_place range sections apart last (length sections) (omega arith) (omega arith)
+    (λ k e low high.
+    omega (
+      arith,
+      behind_earlier 0 sections (from_apart sections apart) k last e high (omega arith),
+      ap (λ section. section.start) (is e),
+    ))
+    (λ k e low high.
+    let here : k ≡ last = omega arith in
+    omega (arith, ap (λ section. section.end) (ap (λ at. get_or sections at e) here ∙ is e)))
+    (λ e more. omega (arith, ap (λ section. section.start) (is e)))
+    (λ e more. absurd (omega arith))

@@ -1,28 +1,46 @@
-use Rattle.std.proofs.Common.{nat_le, nat_lt, rules}
-use Rattle.std.proofs.lemmas.List.Sorted.{IsPartitionPoint-from_clause, IsPartitionedBy-leb, IsPartitionedBy-ltb}
+use Rattle.std.proofs.Common.{length, nat_lt, rules}
+use Rattle.std.proofs.lemmas.Bool.{ltb-true, ltb-false}
+use Rattle.std.proofs.lemmas.List.Sorted.{IsPartitionPoint-from_clause, IsPartitionedBy-ltb}
 use Rattle.ep_defrag.specs.declared.ip_frag_range.IpFragRange.{IpFragRange}
-use Rattle.ep_defrag.proofs.ApartLemmas.{starts_rise, ends_rise}
-use Rattle.ep_defrag.proofs.JoiningLemmas.{near_from_points, some_between}
+use Rattle.ep_defrag.proofs.ApartLemmas.{ends_rise}
+use Rattle.ep_defrag.proofs.JoiningLemmas.{near_at_end, near_in_last, some_between}
 use Rattle.ep_defrag.proofs.ip_defrag_sections.neighbours.Goals as goal
 
-pub returns-clause-near : goal.returns-clause-near
-returns-clause-near c =
-    let range = c.args.range in
-    let sections = c.args.sections.now in
-    near_from_points range c.requires.ordered sections c.requires.apart c.partition_point-from.result
-    c.partition_point-to.result c.partition_point-from.ensures.bound c.partition_point-to.ensures.bound
-    (IsPartitionPoint-from_clause (λ (section : IpFragRange). nat_lt section.end range.start) sections
-    c.partition_point-from.result c.partition_point-from.ensures.partitioned
-    (IsPartitionedBy-ltb (λ (section : IpFragRange). section.end) sections range.start
-    (ends_rise sections c.requires.apart))
-    (λ a r f called. search rules))
-    (IsPartitionPoint-from_clause (λ (section : IpFragRange). nat_le section.start range.end) sections
-    c.partition_point-to.result c.partition_point-to.ensures.partitioned
-    (IsPartitionedBy-leb (λ (section : IpFragRange). section.start) sections range.end
-    (starts_rise sections c.requires.apart))
-    (λ a r f called. search rules))
+pub returns-then-last-range-clause-near : goal.returns-then-last-range-clause-near
+returns-then-last-range-clause-near c =
+    near_at_end c.args.range c.args.sections.now c.requires.apart _ c.if-count-eq0.false
+    c.if-last-range.true
+
+pub returns-then-last-range-clause-merging : goal.returns-then-last-range-clause-merging
+returns-then-last-range-clause-merging c merging =
+    some_between c.args.range c.requires.ordered c.args.sections.now c.requires.apart
+    (length c.args.sections.now) (length c.args.sections.now)
+    (returns-then-last-range-clause-near c) merging
+
+pub returns-then-last-range-2-clause-near : goal.returns-then-last-range-2-clause-near
+returns-then-last-range-2-clause-near c =
+    near_in_last c.args.range c.requires.ordered c.args.sections.now c.requires.apart _ c.if-count-eq0.false
+    c.if-last-range.false c.if-last-range-2.true
+
+pub place_behind-to-requires-clause-earlier : goal.place_behind-to-requires-clause-earlier
+place_behind-to-requires-clause-earlier c k d low high =
+    ltb-true _ _
+    ((IsPartitionPoint-from_clause (λ (section : IpFragRange). nat_lt section.end c.args.range.start)
+    c.args.sections.now c.partition_point-from.result c.partition_point-from.ensures.partitioned
+    (IsPartitionedBy-ltb (λ (section : IpFragRange). section.end) c.args.sections.now c.args.range.start
+    (ends_rise c.args.sections.now c.requires.apart))
+    (λ a r f called. search rules)).0 k d low high)
+
+pub place_behind-to-requires-clause-rest : goal.place_behind-to-requires-clause-rest
+place_behind-to-requires-clause-rest c k d low high =
+    ltb-false _ _
+    ((IsPartitionPoint-from_clause (λ (section : IpFragRange). nat_lt section.end c.args.range.start)
+    c.args.sections.now c.partition_point-from.result c.partition_point-from.ensures.partitioned
+    (IsPartitionedBy-ltb (λ (section : IpFragRange). section.end) c.args.sections.now c.args.range.start
+    (ends_rise c.args.sections.now c.requires.apart))
+    (λ a r f called. search rules)).1 k d low high)
 
 pub returns-clause-merging : goal.returns-clause-merging
 returns-clause-merging c merging =
     some_between c.args.range c.requires.ordered c.args.sections.now c.requires.apart c.partition_point-from.result
-    c.partition_point-to.result (returns-clause-near c) merging
+    c.place_behind-to.result c.place_behind-to.ensures.near merging
