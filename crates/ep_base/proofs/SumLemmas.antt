@@ -3,12 +3,12 @@ use Rattle.std.proofs.Common.{◌≡◌, ℕ, zero, suc, ◌+◌, ◌-◌, ◌*�
 use Rattle.std.proofs.Common.{take, drop, Some, None, refl, ap, sym, ◌∙◌, arith, add_assoc, add_comm, zero-add, length-append}
 use Rattle.std.proofs.lemmas.List.{length-take-le, take-append-drop}
 use Rattle.std.proofs.lemmas.List.Elements.{All-nil, All-cons, All-head, All-tail}
-use Rattle.std.proofs.lemmas.Nat.{and_mask, from_le_bytes-to_le_bytes_8}
-use Rattle.std.specs.Int.Bits.{bit_and}
+use Rattle.std.proofs.lemmas.Nat.{and_comm, and_mask, and_mod, and_shr, and-not, from_le_bytes-to_le_bytes_8}
+use Rattle.std.specs.Int.Bits.{bit_and, and_zero_r}
 use Rattle.std.specs.Int.{w16, w32, w64, w128, from_be_bytes, from_le_bytes, to_be_bytes, to_le_bytes, swap_bytes}
-use Rattle.std.specs.List.{All, slice_get}
+use Rattle.std.specs.List.{All}
 use Rattle.ep_base.specs.Checksum.{word_sum, residue, ones_sum, ones_add, checksum_of}
-use Rattle.ep_base.proofs.ResidueLemmas.{residue_unique, residue_part, residue_last, residue_beside}
+use Rattle.ep_base.proofs.ResidueLemmas.{residue_unique, residue_part, residue_last, residue_beside, residue_times_256}
 use Rattle.ep_base.proofs.ResidueLemmas.{residue_split, residue_le, residue_zero}
 
 -- the words of a concatenation, where the first part ends at a word's end
@@ -18,19 +18,6 @@ word_sum-append (x ∷ []) b p = absurd (omega arith)
 word_sum-append (x ∷ y ∷ a) b p =
     let q : length a % 2 ≡ 0 = omega arith in
     omega (arith, word_sum-append a b q)
-
--- the word of an odd last byte, or none
-pub word_sum-one : (bytes : List ℕ) (byte : ℕ) → length bytes < 2 → Some byte ≡ slice_get bytes 0
-    → byte * 256 ≡ word_sum bytes
-word_sum-one [] byte short first = absurd (cc)
-word_sum-one (x ∷ []) byte short first =
-    let same : byte ≡ x = cc in
-    omega arith
-word_sum-one (x ∷ y ∷ bytes) byte short first = absurd (omega arith)
-
-pub word_sum-none : (bytes : List ℕ) → None ≡ slice_get bytes 0 → 0 ≡ word_sum bytes
-word_sum-none [] first = refl
-word_sum-none (x ∷ bytes) first = absurd (cc)
 
 pub ones_sum-append : (a b : List ℕ) → length a % 2 ≡ 0 → ones_sum (a ++ b) ≡ ones_add (ones_sum a) (ones_sum b)
 unfolding ones_sum ones_add
@@ -80,16 +67,6 @@ turned_of_64 (a ∷ b ∷ c ∷ d ∷ e ∷ f ∷ g ∷ h ∷ []) _ =
     residue_unique _ _ 0 carried (omega arith) (λ z. omega arith) (λ z. omega arith)
 turned_of_64 _ q = absurd (omega arith)
 
-pub turned_of_128 : (bytes : List ℕ) → length bytes ≡ 16
-    → residue (256 * from_le_bytes w128 bytes) ≡ residue (word_sum bytes)
-turned_of_128 (a ∷ b ∷ c ∷ d ∷ e ∷ f ∷ g ∷ h ∷ i ∷ j ∷ k ∷ l ∷ m ∷ n ∷ o ∷ p ∷ []) _ =
-    let lower = b + 256 * c + 65537 * d + 16777472 * e + 4295032833 * f + 1099528405248 * g + 281479271743489 * h in
-    let middle = 72058693566333184 * i + 18447025552981295105 * j + 4722438541563211546880 * k in
-    let upper = 1208944266640182156001281 * l + 309489732259886631936327936 * m + 79229371458530977775699951617 * n in
-    let carried = lower + middle + upper + 20282719093383930310579187613952 * o + 5192376087906286159508272029171713 * p in
-    residue_unique _ _ 0 carried (omega arith) (λ z. omega arith) (λ z. omega arith)
-turned_of_128 _ q = absurd (omega arith)
-
 -- the halves of a number of 128 bits: it has the residue of their sum
 low_half : (n : ℕ) → n ≡ 18446744073709551616 * (n / 18446744073709551616) + bit_and n 18446744073709551615
 low_half n =
@@ -102,20 +79,51 @@ residue_halves n =
     let carried = 281479271743489 * (n / 18446744073709551616) in
     residue_unique _ _ carried 0 (omega arith) (λ z. omega arith) (λ z. omega arith)
 
-pub turned_halves : (n : ℕ) (bytes : List ℕ) → length bytes ≡ 16 → n ≡ from_le_bytes w128 bytes
-    → residue (256 * (bit_and n 18446744073709551615 + n / 18446744073709551616)) ≡ residue (word_sum bytes)
-turned_halves n bytes long e =
-    let whole = low_half n in
-    let carried = 72058693566333184 * (n / 18446744073709551616) in
-    residue_unique _ (256 * n) carried 0 (omega arith) (λ z. omega arith) (λ z. omega arith)
-    ∙ ap (λ x. residue (256 * x)) e ∙ turned_of_128 bytes long
-
 -- a number of 64 bits with its bytes in the other order
 pub turned_bytes : (n : ℕ) → n < 2 ^ 64 → residue (swap_bytes w64 n) ≡ residue (256 * n)
 turned_bytes n fits =
     let bytes = to_le_bytes w64 n in
     words_of_64 bytes refl ∙ sym (turned_of_64 bytes refl)
     ∙ ap (λ x. residue (256 * x)) (from_le_bytes-to_le_bytes_8 n fits)
+
+-- a number of 64 bits by its bytes at even and at odd places; 71777214294589695 has the lower byte of each 16 bits
+pub even_and_odd : (n : ℕ) → n < 2 ^ 64
+    → n ≡ bit_and n 71777214294589695 + 256 * bit_and (n / 256) 71777214294589695
+even_and_odd n fits =
+    let mask : ℕ = 71777214294589695 in
+    let upper = bit_and n 18374966859414961920 in
+    let whole : upper + bit_and n mask ≡ n =
+    rw (and_comm n 18374966859414961920, and_comm n mask) (and-not 64 mask n (omega arith) fits) in
+    let shifted : upper / 256 ≡ bit_and (n / 256) mask = and_shr n 18374966859414961920 8 in
+    let none : upper % 256 ≡ 0 = and_mod n 18374966859414961920 8 ∙ and_zero_r (n % 256) in
+    omega arith
+
+pub turned_even_and_odd : (n : ℕ) (bytes : List ℕ) → length bytes ≡ 8 → n ≡ from_le_bytes w64 bytes → n < 2 ^ 64
+    → residue (256 * bit_and n 71777214294589695 + bit_and (n / 256) 71777214294589695) ≡ residue (word_sum bytes)
+turned_even_and_odd n bytes long e fits =
+    let whole = even_and_odd n fits in
+    residue_unique _ (256 * n) (bit_and (n / 256) 71777214294589695) 0 (omega arith) (λ z. omega arith)
+    (λ z. omega arith)
+    ∙ ap (λ x. residue (256 * x)) e ∙ turned_of_64 bytes long
+
+-- sums of bytes at even and at odd places, joined to a number of their lower bytes and one of their upper bytes
+pub joined_even_and_odd : (even odd lower upper low high : ℕ) → even < 2 ^ 64 → odd < 2 ^ 64 → lower < 2 ^ 64
+    → upper < 2 ^ 64 → lower ≡ bit_and even 71777214294589695 + bit_and odd 71777214294589695 * 256
+    → upper ≡ bit_and (even / 256) 71777214294589695 + bit_and (odd / 256) 71777214294589695 * 256
+    → low ≡ swap_bytes w64 lower → high ≡ swap_bytes w64 upper
+    → residue (low + high * 256) ≡ residue (256 * even + odd)
+joined_even_and_odd even odd lower upper low high even_fits odd_fits lower_fits upper_fits lower_is upper_is low_is high_is =
+    let order : residue (low + high * 256) ≡ residue (256 * high + low) = ap residue (omega arith) in
+    let upper_turned = residue_times_256 high (256 * upper) (ap residue high_is ∙ turned_bytes upper upper_fits) in
+    let back : residue (256 * (256 * upper) + low) ≡ residue (low + 256 * (256 * upper)) = ap residue (omega arith) in
+    let lower_turned = ap residue low_is ∙ turned_bytes lower lower_fits in
+    let evens = even_and_odd even even_fits in
+    let odds = even_and_odd odd odd_fits in
+    let carried = bit_and odd 71777214294589695 + 256 * bit_and (odd / 256) 71777214294589695 in
+    order ∙ residue_beside (256 * high) (256 * (256 * upper)) low upper_turned ∙ back
+    ∙ residue_beside low (256 * lower) (256 * (256 * upper)) lower_turned
+    ∙ residue_unique (256 * lower + 256 * (256 * upper)) (256 * even + odd) 0 carried (omega arith) (λ z. omega arith)
+    (λ z. omega arith)
 
 -- a number that stands for the words of some bytes, added to a sum, with the rest to come
 pub sum_with_word : (sum word new rest words : ℕ) → residue new ≡ residue (sum + word) → residue word ≡ residue words

@@ -1,9 +1,18 @@
 //! The Internet checksum (RFC 1071) of IPv4, UDP, TCP and ICMP.
 
-ghost use Rattle.std.specs.Prelude.{◌≡◌, ◌+◌, ◌-◌, ◌<◌, length};
+ghost use Rattle.std.specs.Prelude.{◌≡◌, ◌+◌, ◌-◌, ◌*◌, ◌%◌, ◌^◌, ◌<◌, ◌≤◌, length};
 ghost use Rattle.ep_base.specs.Checksum.{word_sum, residue, ones_sum, ones_add, no_zero};
 
 use std::marker::Model;
+
+/// The number of bytes from which words added in blocks are faster than words added one by one.
+const LONG: usize = 128;
+
+/// The greatest number of bytes of a block: those at one place of its words add up to less than 2^16.
+const BLOCK: usize = 2048;
+
+/// The lower byte of each 16 bits.
+const LOWER_BYTES: u64 = 0x00ff_00ff_00ff_00ff;
 
 /// The one's complement sum of the 16 bit words of some bytes, to which more bytes may be added.
 ///
@@ -12,7 +21,8 @@ use std::marker::Model;
 #[derive(Clone, Debug, Drop)]
 pub struct Sum16BitWords {
     /// The sum in one's complement of 64 bits: a carry out of the highest bit is added to the lowest one, so that
-    /// no sum is too great. It stands for its residue modulo 65535, of which 2^64 - 1 is a multiple.
+    /// no sum is too great. It stands for its residue modulo 65535, of which 2^64 - 1 is a multiple. `Debug` shows it:
+    /// it is that of the big-endian words of 64 bits, in whatever way they are added.
     sum: u64,
 }
 
@@ -93,21 +103,12 @@ impl Sum16BitWords {
     pub fn add_slice(&self, slice: &[u8]) -> Sum16BitWords
         ensures { result ≡ ones_add self.now (ones_sum slice.now) }
     {
-        // The words are read lowest byte first, as the machine has them, into two sums that have room for each carry,
-        // so that none waits for another. A sum of words with their bytes exchanged is the sum with its bytes
-        // exchanged (RFC 1071, 2 (B)), so this is done once.
-        let mut lower: u128 = 0;
-        let mut upper: u128 = 0;
-        let mut rest = slice;
-        while let Some((piece, after)) = rest.split_first_chunk::<16>() {
-            let words = u128::from_le_bytes(*piece);
-            lower += words & u64::MAX as u128;
-            upper += words >> 64;
-            rest = after;
-        }
-        let sum = add_word(self.sum, in_64_bits(lower + upper).swap_bytes());
         Sum16BitWords {
-            sum: add_last(sum, rest),
+            sum: if slice.len() < LONG {
+                add_short(self.sum as u128, slice)
+            } else {
+                add_long(self.sum, slice)
+            },
         }
     }
 
@@ -148,31 +149,108 @@ fn in_64_bits(sum: u128) -> u64
     add_word((sum >> 64) as u64, (sum & u64::MAX as u128) as u64)
 }
 
-/// A sum with the last bytes, fewer than 16. They are no more than four numbers, so nothing is copied.
+/// A sum with fewer than 128 bytes, as words of 64 bits of which the last one is filled up by zero bytes.
 #[inline]
-fn add_last(sum: u64, bytes: &[u8]) -> u64
-    requires { length bytes.now < 16 }
+fn add_short(sum: u128, bytes: &[u8]) -> u64
+    requires short { length bytes.now < 128 }
+    requires room { sum < 2 ^ 127 }
     ensures { residue result ≡ residue (sum + word_sum bytes.now) }
 {
     let mut sum = sum;
     let mut rest = bytes;
-    if let Some((piece, after)) = rest.split_first_chunk::<8>() {
-        sum = add_word(sum, u64::from_be_bytes(*piece));
+    while let Some((piece, after)) = rest.split_first_chunk::<8>() {
+        sum += u64::from_be_bytes(*piece) as u128;
         rest = after;
     }
-    if let Some((piece, after)) = rest.split_first_chunk::<4>() {
-        sum = add_word(sum, u32::from_be_bytes(*piece) as u64);
+    in_64_bits(sum + last_word(rest) as u128)
+}
+
+/// The same sum with any number of bytes. It is no part of `add_slice`, where few bytes would pay for its registers.
+#[inline(never)]
+fn add_long(sum: u64, bytes: &[u8]) -> u64
+    ensures { residue result ≡ residue (sum + word_sum bytes.now) }
+{
+    let mut sum = sum as u128;
+    let mut rest = bytes;
+    while rest.len() >= LONG {
+        let (block, after) = rest.split_at(rest.len().min(BLOCK) / 8 * 8);
+        sum += block_sum(block) as u128;
         rest = after;
     }
-    if let Some((piece, after)) = rest.split_first_chunk::<2>() {
-        sum = add_word(sum, u16::from_be_bytes(*piece) as u64);
+    add_short(sum, rest)
+}
+
+/// The sum of the words of a block.
+///
+/// No carry goes from word to word, so that many are added at once: the bytes at each odd place, 1 to 7, add up in 16
+/// bits. Those at the even places would too, and are what the sum of the whole words has besides. The words are read
+/// lowest byte first, as the machine has them.
+#[inline]
+fn block_sum(block: &[u8]) -> u64
+    requires short { length block.now ≤ 2048 }
+    requires whole { length block.now % 8 ≡ 0 }
+    ensures { residue result ≡ residue (word_sum block.now) }
+{
+    let mut both: u64 = 0;
+    let mut odd: u64 = 0;
+    let mut rest = block;
+    while let Some((piece, after)) = rest.split_first_chunk::<8>() {
+        let word = u64::from_le_bytes(*piece);
+        both = both.wrapping_add(word);
+        odd += word >> 8 & LOWER_BYTES;
         rest = after;
     }
-    let odd = match rest.first() {
+    joined(both.wrapping_sub(odd << 8), odd)
+}
+
+/// The sum of words whose bytes at each even and at each odd place add up to these, in 16 bits each.
+#[inline]
+fn joined(even: u64, odd: u64) -> u64
+    ensures { residue result ≡ residue (256 * even + odd) }
+{
+    let lower = (even & LOWER_BYTES) + (odd & LOWER_BYTES) * 256;
+    let upper = (even >> 8 & LOWER_BYTES) + (odd >> 8 & LOWER_BYTES) * 256;
+    in_64_bits(lower.swap_bytes() as u128 + upper.swap_bytes() as u128 * 256)
+}
+
+/// Fewer than 8 bytes as a word of 64 bits, filled up by zero bytes.
+#[inline]
+fn last_word(bytes: &[u8]) -> u64
+    requires { length bytes.now < 8 }
+    ensures { residue result ≡ residue (word_sum bytes.now) }
+{
+    match bytes.split_first_chunk::<4>() {
+        Some((piece, after)) => {
+            (u32::from_be_bytes(*piece) as u64) * 0x1_0000_0000 + last_half(after)
+        }
+        None => last_half(bytes) * 0x1_0000_0000,
+    }
+}
+
+/// Fewer than 4 bytes as a word of 32 bits, filled up by zero bytes.
+#[inline]
+fn last_half(bytes: &[u8]) -> u64
+    requires { length bytes.now < 4 }
+    ensures value { residue result ≡ residue (word_sum bytes.now) }
+    ensures bound { result < 2 ^ 32 }
+{
+    match bytes.split_first_chunk::<2>() {
+        Some((piece, after)) => (u16::from_be_bytes(*piece) as u64) * 0x1_0000 + last_byte(after),
+        None => last_byte(bytes) * 0x1_0000,
+    }
+}
+
+/// A last byte, or none, as a word of 16 bits.
+#[inline]
+fn last_byte(bytes: &[u8]) -> u64
+    requires { length bytes.now < 2 }
+    ensures value { result ≡ word_sum bytes.now }
+    ensures bound { result < 2 ^ 16 }
+{
+    match bytes.first() {
         Some(byte) => *byte as u64 * 256,
         None => 0,
-    };
-    add_word(sum, odd)
+    }
 }
 
 /// The sum in 16 bits that a sum in 64 bits stands for.

@@ -1,5 +1,6 @@
-//! What no contract of `ep_base` says: rows from outside, and texts.
+//! What no contract of `ep_base` says: rows from outside, texts, and the number of a sum.
 
+mod sums;
 mod texts;
 
 use crate::tests::checks::same;
