@@ -1,7 +1,7 @@
 //! How IP headers are read into the room that a packet has for them. Headers are large: room that held some of the
 //! same version is written only where headers stand or stood. Other room is written as a whole.
 
-ghost use Rattle.std.specs.Prelude.{◌≡◌, IfOk, IfErr, List, ℕ, Some};
+ghost use Rattle.std.specs.Prelude.{◌≡◌, IfOk, IfErr, List, ℕ, Some, None};
 ghost use Rattle.ep_base.specs.IpPayload.{ip_payload_of};
 ghost use Rattle.ep_base.specs.Readings.{headers};
 ghost use Rattle.ep_base.specs.Tables.{RefusesAs};
@@ -27,7 +27,7 @@ use ep_base::err::ip::HeadersSliceError;
 use ep_base::err::{ipv4, ipv6, ipv6_exts};
 use ep_base::{IpNumber, IpPayloadSlice};
 use ep_ext::Ipv4Extensions;
-use ep_ip::{Ipv4Slice, Ipv6Header};
+use ep_ip::{Ipv4Header, Ipv4Slice, Ipv6Header};
 
 /// Fills in the headers of either version at the front of the slice, and gives the payload behind them and its offset.
 pub(crate) fn fill_ip<'a>(
@@ -104,8 +104,17 @@ fn put_ipv4(net: &mut Option<NetHeaders>, packet: &Ipv4Slice<'_>)
             let auth = Some(auth.to_header());
             *net = Some(NetHeaders::Ipv4(header, Ipv4Extensions { auth }));
         }
-        None => *net = Some(NetHeaders::Ipv4(header, Ipv4Extensions { auth: None })),
+        None => replace_by_ipv4(net, header),
     }
+}
+
+/// Puts a header of IPv4 in the place of whatever the room held. Apart, since there it is written once: in line with
+/// other writes its parts are zeroed and moved one by one.
+#[inline(never)]
+fn replace_by_ipv4(net: &mut Option<NetHeaders>, header: Ipv4Header)
+    ensures { net.new ≡ Some (variant.Ipv4 header (record { auth = None })) }
+{
+    *net = Some(NetHeaders::Ipv4(header, Ipv4Extensions { auth: None }));
 }
 
 /// Fills in the headers of IPv6 at the front of the slice, and gives the payload behind them and its offset.
@@ -207,5 +216,13 @@ fn put_ipv6(net: &mut Option<NetHeaders>, header: Ipv6Header)
             return;
         }
     }
+    replace_by_ipv6(net, header);
+}
+
+/// The same of a header of IPv6 without extension headers.
+#[inline(never)]
+fn replace_by_ipv6(net: &mut Option<NetHeaders>, header: Ipv6Header)
+    ensures { net.new ≡ Some (variant.Ipv6 header no_ipv6_extensions) }
+{
     *net = Some(NetHeaders::Ipv6(header, no_extensions()));
 }
