@@ -101,7 +101,7 @@ impl PacketBuilderStep<TcpHeader> {
     /// These options, whose bytes are at most 40, filled up by zero bytes to words of 4. A refusal drops the step.
     #[inline(always)]
     pub fn options(
-        mut self,
+        self,
         options: &[TcpOptionElement],
     ) -> Result<PacketBuilderStep<TcpHeader>, TcpOptionWriteError>
         ensures { MatchResult result
@@ -110,8 +110,13 @@ impl PacketBuilderStep<TcpHeader> {
             (λ error. (40 < length (options_bytes options.now))
             × (error ≡ NotEnoughSpace (min (length (options_bytes options.now)) (2 ^ 64 - 1)))) }
     {
-        match self.last.set_options(options) {
-            Ok(()) => Ok(self),
+        // The header is taken out and lent, so that the step, which has room for any IP headers, stays no value in memory.
+        let mut header = self.last;
+        match header.set_options(options) {
+            Ok(()) => Ok(PacketBuilderStep {
+                before: self.before,
+                last: header,
+            }),
             Err(error) => Err(error),
         }
     }
@@ -119,7 +124,7 @@ impl PacketBuilderStep<TcpHeader> {
     /// Options of these bytes, at most 40, filled up by zero bytes to words of 4. A refusal drops the step.
     #[inline(always)]
     pub fn options_raw(
-        mut self,
+        self,
         options: &[u8],
     ) -> Result<PacketBuilderStep<TcpHeader>, TcpOptionWriteError>
         ensures { MatchResult result
@@ -127,8 +132,13 @@ impl PacketBuilderStep<TcpHeader> {
             × (step ≡ with_header self (record (transport_header self) { options = in_words options.now })))
             (λ error. (40 < length options.now) × (error ≡ NotEnoughSpace (length options.now))) }
     {
-        match self.last.set_options_raw(options) {
-            Ok(()) => Ok(self),
+        // The header is taken out and lent, so that the step, which has room for any IP headers, stays no value in memory.
+        let mut header = self.last;
+        match header.set_options_raw(options) {
+            Ok(()) => Ok(PacketBuilderStep {
+                before: self.before,
+                last: header,
+            }),
             Err(error) => Err(error),
         }
     }
