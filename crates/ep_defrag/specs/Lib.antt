@@ -14,6 +14,7 @@ pub mod Isolation
 pub mod BuiltCuts
 pub mod FrameCalls
 pub mod Completing
+pub mod NameHashes
 -- what the contracts name of the crates below
 pub use Rattle.ep_base.specs.Bytes
 pub use Rattle.ep_base.specs.Tables

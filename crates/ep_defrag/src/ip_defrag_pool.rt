@@ -16,11 +16,12 @@ use crate::ip_defrag_error::IpDefragError;
 use crate::ip_defrag_payload_vec::IpDefragPayloadVec;
 use crate::ip_frag_id::IpFragId;
 use crate::laws::names;
+use crate::name_hasher::NameHasher;
 use crate::spare_buffers::SpareBuffers;
 use ep_packet::SlicedPacket;
 use std::alloc::Global;
 use std::collections::HashMap;
-use std::hash::Hash;
+use std::hash::{BuildHasherDefault, Hash};
 use std::marker::Model;
 use std::mem::replace;
 
@@ -52,7 +53,11 @@ pub struct IpDefragPool<Timestamp, CustomChannelId: Eq + Hash> {
     alloc: Global,
     /// The greatest end of a fragment, in bytes.
     limit: u16,
-    streams: HashMap<IpFragId<CustomChannelId>, OpenStream<Timestamp>>,
+    streams: HashMap<
+        IpFragId<CustomChannelId>,
+        OpenStream<Timestamp>,
+        BuildHasherDefault<NameHasher>,
+    >,
     /// What the streams that ended leave to those that begin.
     spare: SpareBuffers,
 }
@@ -88,7 +93,7 @@ impl<Timestamp: Drop, CustomChannelId: Eq + Hash + Drop> IpDefragPool<Timestamp,
         IpDefragPool {
             alloc,
             limit: max,
-            streams: HashMap::new(alloc),
+            streams: HashMap::with_hasher(alloc, BuildHasherDefault::new()),
             spare: SpareBuffers::new(alloc),
         }
     }

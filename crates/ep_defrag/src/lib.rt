@@ -13,6 +13,7 @@ mod ip_defrag_sections;
 mod ip_frag_id;
 mod ip_frag_range;
 pub mod laws;
+mod name_hasher;
 mod pool_run;
 mod run;
 mod spare_buffers;

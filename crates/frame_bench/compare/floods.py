@@ -50,11 +50,13 @@ def first_fragments(channels):
     return ((pool_line(FIRST, channel), "none") for channel in channels)
 
 
-# Std's FoldHasher, by which a hash map finds names, has a fixed seed and takes a name's fields one after the other, each as at
-# most 8 bytes, by a multiplication that gives 0 where the bytes are the state before. So a channel that is this state makes
-# the hash 0.
+# A pool finds names by std's FoldHasher, which has a fixed seed and takes each write of at most 8 bytes by a multiplication that
+# gives 0 where the bytes are the state before. Single bytes, up to three behind a number below 256, are given to it as one number
+# (ep_defrag/src/name_hasher.rt). A channel that isn't below 256 is given to it as it is: so one that is this state makes it 0,
+# and all names of such channels hash alike.
 MULTIPLIER = 0x9E3779B97F4A7C15
 SEED = 0x243F6A8885A308D3
+FOLLOWED = 1 << 63
 
 
 def fold(state, number, length):
@@ -62,27 +64,21 @@ def fold(state, number, length):
     return (product & GREATEST) ^ (product >> 64)
 
 
-def short_number(data):
-    """Up to 8 bytes as the hasher reads them."""
-    length = len(data)
-    if length >= 4:
-        return int.from_bytes(data[:4], "little") | int.from_bytes(data[-4:], "little") << 32
-    return data[0] | data[length // 2] << 8 | data[-1] << 16
-
-
 def alike_channel(identification):
-    """The channel with which the name of a fragment of this identification hashes to 0."""
-    writes = [bytes(8)]  # no tags
-    writes.append(bytes(8))  # the variant of IPv4
-    for address in (bytes([192, 168, 1, 1]), bytes([192, 168, 1, 2])):
-        writes.append((4).to_bytes(8, "little"))
-        writes += [bytes([byte]) for byte in address]
-    writes.append(identification.to_bytes(2, "little"))
-    writes.append(bytes([17]))
+    """The channel with which the name of a fragment of this identification hashes as all others of such channels."""
     state = SEED
-    for write in writes:
-        state = fold(state, short_number(write), len(write))
-    return state
+    for waiting in (
+        bytes([2, 0]),  # no tags
+        bytes([2, 0]),  # the variant of IPv4
+        bytes([2, 4, 192, 168, 1]),
+        bytes([1, 1]),
+        bytes([2, 4, 192, 168, 1]),
+    ):
+        state = fold(state, int.from_bytes(waiting, "big"), 8)
+    state = fold(state, int.from_bytes(bytes([1, 2]), "big") | FOLLOWED, 8)
+    low, high = identification.to_bytes(2, "little")
+    state = fold(state, low | high << 8 | high << 16, 2)
+    return fold(state, int.from_bytes(bytes([1, 17]), "big") | FOLLOWED, 8)
 
 
 def names(count, channel_of):
