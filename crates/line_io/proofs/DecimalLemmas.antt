@@ -7,7 +7,7 @@ use Rattle.std.proofs.Math.Nat.{pow-succ'}
 use Rattle.std.proofs.lemmas.Fmt.{decimal_digit, decimal_step}
 use Rattle.std.proofs.lemmas.List.{append-nil, drop-drop, drop_all, length-drop, take_all}
 use lib.Ieee.Fits.{and_l, and_r}
-use Rattle.line_io.specs.declared.decimals.TheConstants.{PAIRS}
+use Rattle.line_io.specs.declared.digits.TheConstants.{PAIRS}
 
 -- ---- two digits
 
@@ -64,6 +64,68 @@ decimal_more number least fits =
     ∙ ap (λ n. decimal n ++ (48 + number / 10 % 10) ∷ (48 + number % 10) ∷ []) rest
     ∙ ap (λ n. decimal (number / 100) ++ (48 + n) ∷ (48 + number % 10) ∷ []) tens
     ∙ ap (λ n. decimal (number / 100) ++ (48 + number % 100 / 10) ∷ (48 + n) ∷ []) ones
+
+-- ---- numbers of a known count of digits
+
+pub decimal_three : (number : ℕ) → 100 ≤ number → number < 1000
+    → decimal number ≡ (48 + number / 100) ∷ two_digits (number % 100)
+decimal_three number least most =
+    decimal_more number least (omega (arith, most))
+    ∙ ap (λ t. t ++ two_digits (number % 100)) (decimal_digit (number / 100) (omega (arith, most)))
+
+pub decimal_four : (number : ℕ) → 1000 ≤ number → number < 10000
+    → decimal number ≡ two_digits (number / 100) ++ two_digits (number % 100)
+decimal_four number least most =
+    decimal_more number (omega (arith, least)) (omega (arith, most))
+    ∙ ap (λ t. t ++ two_digits (number % 100)) (decimal_two (number / 100) (omega (arith, least)) (omega (arith, most)))
+
+pub decimal_five : (number : ℕ) → 10000 ≤ number → number < 100000
+    → decimal number
+    ≡ ((48 + number / 100 / 100) ∷ two_digits (number / 100 % 100)) ++ two_digits (number % 100)
+decimal_five number least most =
+    decimal_more number (omega (arith, least)) (omega (arith, most))
+    ∙ ap (λ t. t ++ two_digits (number % 100))
+    (decimal_three (number / 100) (omega (arith, least)) (omega (arith, most)))
+
+pub decimal_six : (number : ℕ) → 100000 ≤ number → number < 1000000
+    → decimal number
+    ≡ (two_digits (number / 100 / 100) ++ two_digits (number / 100 % 100)) ++ two_digits (number % 100)
+decimal_six number least most =
+    decimal_more number (omega (arith, least)) (omega (arith, most))
+    ∙ ap (λ t. t ++ two_digits (number % 100))
+    (decimal_four (number / 100) (omega (arith, least)) (omega (arith, most)))
+
+pub decimal_seven : (number : ℕ) → 1000000 ≤ number → number < 10000000
+    → decimal number
+    ≡ (((48 + number / 100 / 100 / 100) ∷ two_digits (number / 100 / 100 % 100)) ++ two_digits (number / 100 % 100)) ++ two_digits (number % 100)
+decimal_seven number least most =
+    decimal_more number (omega (arith, least)) (omega (arith, most))
+    ∙ ap (λ t. t ++ two_digits (number % 100))
+    (decimal_five (number / 100) (omega (arith, least)) (omega (arith, most)))
+
+pub decimal_eight : (number : ℕ) → 10000000 ≤ number → number < 100000000
+    → decimal number
+    ≡ ((two_digits (number / 100 / 100 / 100) ++ two_digits (number / 100 / 100 % 100)) ++ two_digits (number / 100 % 100)) ++ two_digits (number % 100)
+decimal_eight number least most =
+    decimal_more number (omega (arith, least)) (omega (arith, most))
+    ∙ ap (λ t. t ++ two_digits (number % 100))
+    (decimal_six (number / 100) (omega (arith, least)) (omega (arith, most)))
+
+pub decimal_nine : (number : ℕ) → 100000000 ≤ number → number < 1000000000
+    → decimal number
+    ≡ ((((48 + number / 100 / 100 / 100 / 100) ∷ two_digits (number / 100 / 100 / 100 % 100)) ++ two_digits (number / 100 / 100 % 100)) ++ two_digits (number / 100 % 100)) ++ two_digits (number % 100)
+decimal_nine number least most =
+    decimal_more number (omega (arith, least)) (omega (arith, most))
+    ∙ ap (λ t. t ++ two_digits (number % 100))
+    (decimal_seven (number / 100) (omega (arith, least)) (omega (arith, most)))
+
+pub decimal_ten : (number : ℕ) → 1000000000 ≤ number → number < 10000000000
+    → decimal number
+    ≡ (((two_digits (number / 100 / 100 / 100 / 100) ++ two_digits (number / 100 / 100 / 100 % 100)) ++ two_digits (number / 100 / 100 % 100)) ++ two_digits (number / 100 % 100)) ++ two_digits (number % 100)
+decimal_ten number least most =
+    decimal_more number (omega (arith, least)) (omega (arith, most))
+    ∙ ap (λ t. t ++ two_digits (number % 100))
+    (decimal_eight (number / 100) (omega (arith, least)) (omega (arith, most)))
 
 -- ---- digits from the last to the first
 

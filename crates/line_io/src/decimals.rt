@@ -4,22 +4,82 @@ ghost use Rattle.std.specs.Prelude.{◌≡◌, ◌<◌, ◌≤◌, ◌+◌, ◌*
 ghost use Rattle.std.specs.Prelude.{OnErr, OnOk, drop, length, vec_capacity, vec_len};
 ghost use Rattle.std.specs.Fmt.{decimal};
 
+use crate::digits::{self, PAIRS};
 use std::alloc::AllocError;
 
 /// How many digits the greatest number has.
 const MOST_DIGITS: usize = 20;
 
-/// The digits of each number below 100, two for each.
-static PAIRS: [u8; 200] = *b"\
-    0001020304050607080910111213141516171819\
-    2021222324252627282930313233343536373839\
-    4041424344454647484950515253545556575859\
-    6061626364656667686970717273747576777879\
-    8081828384858687888990919293949596979899";
+/// Below this number digits are counted by comparisons, and all appended at once.
+const SHORT_END: u64 = 10_000_000_000;
 
-/// Appends a text and then a number.
-#[inline]
+/// Appends a text and then a number. Where the compiler knows the text's length, a text of up to eleven bytes is
+/// appended by moves of that size, and not by a call that copies any number of bytes.
+#[inline(always)]
 pub fn push_behind(output: &mut Vec<u8>, text: &[u8], number: u64) -> Result<(), AllocError>
+    ensures text { OnOk result (output.new.items ≡ output.old.items ++ (text.now ++ decimal number)) }
+    ensures full { OnErr result (vec_capacity output.old
+        < vec_len output.old + (length text.now + length (decimal number))) }
+{
+    if let Some(text) = text.as_array::<1>() {
+        return push_behind_array(output, text, number);
+    }
+    if let Some(text) = text.as_array::<2>() {
+        return push_behind_array(output, text, number);
+    }
+    if let Some(text) = text.as_array::<3>() {
+        return push_behind_array(output, text, number);
+    }
+    if let Some(text) = text.as_array::<4>() {
+        return push_behind_array(output, text, number);
+    }
+    if let Some(text) = text.as_array::<5>() {
+        return push_behind_array(output, text, number);
+    }
+    if let Some(text) = text.as_array::<6>() {
+        return push_behind_array(output, text, number);
+    }
+    if let Some(text) = text.as_array::<7>() {
+        return push_behind_array(output, text, number);
+    }
+    if let Some(text) = text.as_array::<8>() {
+        return push_behind_array(output, text, number);
+    }
+    if let Some(text) = text.as_array::<9>() {
+        return push_behind_array(output, text, number);
+    }
+    if let Some(text) = text.as_array::<10>() {
+        return push_behind_array(output, text, number);
+    }
+    if let Some(text) = text.as_array::<11>() {
+        return push_behind_array(output, text, number);
+    }
+    push_behind_any(output, text, number)
+}
+
+/// Appends a text of a length that the compiler knows, and then a number. It is one function for all texts of a length,
+/// so that a caller is no longer than a call. Without the copy the compiler would take the text for a part of the output.
+#[inline(never)]
+fn push_behind_array<const N: usize>(
+    output: &mut Vec<u8>,
+    text: &[u8; N],
+    number: u64,
+) -> Result<(), AllocError>
+    ensures text { OnOk result (output.new.items ≡ output.old.items ++ (text.now ++ decimal number)) }
+    ensures full { OnErr result (vec_capacity output.old
+        < vec_len output.old + (length text.now + length (decimal number))) }
+{
+    if output.capacity() - output.len() < N {
+        return push_behind_any(output, text, number);
+    }
+    let text = *text;
+    output.extend_from_slice(&text)?;
+    push(output, number)
+}
+
+/// Appends any text and then a number.
+#[inline(never)]
+fn push_behind_any(output: &mut Vec<u8>, text: &[u8], number: u64) -> Result<(), AllocError>
     ensures text { OnOk result (output.new.items ≡ output.old.items ++ (text.now ++ decimal number)) }
     ensures full { OnErr result (vec_capacity output.old
         < vec_len output.old + (length text.now + length (decimal number))) }
@@ -28,8 +88,86 @@ pub fn push_behind(output: &mut Vec<u8>, text: &[u8], number: u64) -> Result<(),
     push(output, number)
 }
 
-/// Appends a number. It costs its digits, where `write!` costs several calls.
+/// Appends a number. It costs its digits, where `write!` costs several calls. Where there is room for any number, no
+/// branch has to ask for memory, and each is a few moves.
 pub fn push(output: &mut Vec<u8>, number: u64) -> Result<(), AllocError>
+    ensures text { OnOk result (output.new.items ≡ output.old.items ++ decimal number) }
+    ensures full { OnErr result (vec_capacity output.old < vec_len output.old + length (decimal number)) }
+{
+    if output.capacity() - output.len() < MOST_DIGITS || number >= SHORT_END {
+        return push_any(output, number);
+    }
+    if number < 10_000 {
+        push_four(output, number)
+    } else if number < 100_000_000 {
+        push_eight(output, number)
+    } else {
+        push_ten(output, number)
+    }
+}
+
+/// Appends a number of one to four digits, where there is room for a digit.
+#[inline]
+fn push_four(output: &mut Vec<u8>, number: u64) -> Result<(), AllocError>
+    requires room { vec_len output.old < vec_capacity output.old }
+    requires most { number < 10000 }
+    ensures text { OnOk result (output.new.items ≡ output.old.items ++ decimal number) }
+    ensures full { OnErr result (vec_capacity output.old < vec_len output.old + length (decimal number)) }
+{
+    if number < 100 {
+        if number < 10 {
+            output.push_reserved(b'0' + number as u8);
+            Ok(())
+        } else {
+            output.extend_from_slice(&digits::two(number))
+        }
+    } else if number < 1_000 {
+        output.extend_from_slice(&digits::three(number))
+    } else {
+        output.extend_from_slice(&digits::four(number))
+    }
+}
+
+/// Appends a number of five to eight digits.
+#[inline]
+fn push_eight(output: &mut Vec<u8>, number: u64) -> Result<(), AllocError>
+    requires least { 10000 ≤ number }
+    requires most { number < 100000000 }
+    ensures text { OnOk result (output.new.items ≡ output.old.items ++ decimal number) }
+    ensures full { OnErr result (vec_capacity output.old < vec_len output.old + length (decimal number)) }
+{
+    if number < 1_000_000 {
+        if number < 100_000 {
+            output.extend_from_slice(&digits::five(number))
+        } else {
+            output.extend_from_slice(&digits::six(number))
+        }
+    } else if number < 10_000_000 {
+        output.extend_from_slice(&digits::seven(number))
+    } else {
+        output.extend_from_slice(&digits::eight(number))
+    }
+}
+
+/// Appends a number of nine or ten digits.
+#[inline]
+fn push_ten(output: &mut Vec<u8>, number: u64) -> Result<(), AllocError>
+    requires least { 100000000 ≤ number }
+    requires most { number < 10000000000 }
+    ensures text { OnOk result (output.new.items ≡ output.old.items ++ decimal number) }
+    ensures full { OnErr result (vec_capacity output.old < vec_len output.old + length (decimal number)) }
+{
+    if number < 1_000_000_000 {
+        output.extend_from_slice(&digits::nine(number))
+    } else {
+        output.extend_from_slice(&digits::ten(number))
+    }
+}
+
+/// Appends any number.
+#[cold]
+#[inline(never)]
+fn push_any(output: &mut Vec<u8>, number: u64) -> Result<(), AllocError>
     ensures text { OnOk result (output.new.items ≡ output.old.items ++ decimal number) }
     ensures full { OnErr result (vec_capacity output.old < vec_len output.old + length (decimal number)) }
 {

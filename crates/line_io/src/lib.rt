@@ -4,6 +4,7 @@
 
 pub mod buffer;
 pub mod decimals;
+mod digits;
 pub mod laws;
 pub mod run_error;
 pub mod watched;

@@ -1,7 +1,7 @@
 use Rattle.std.proofs.Common.{◌-◌, drop, take, arith}
 use Rattle.line_io.proofs.DecimalLemmas.{digits-whole}
 use Rattle.line_io.proofs.ResultLemmas.{OnOk-appended}
-use Rattle.line_io.proofs.decimals.push.Goals as goal
+use Rattle.line_io.proofs.decimals.push_any.Goals as goal
 
 pub returns-clause-text : goal.returns-clause-text
 returns-clause-text c =
