@@ -100,6 +100,17 @@ impl IpAuthHeader {
         self.icv.fill(header.raw_icv());
     }
 
+    /// Becomes a copy of a header, in its place.
+    #[inline]
+    pub(crate) fn copy_from(&mut self, header: &IpAuthHeader)
+        ensures { self.new ≡ header.now }
+    {
+        self.next_header = header.next_header;
+        self.spi = header.spi;
+        self.sequence_number = header.sequence_number;
+        self.icv.fill(header.raw_icv());
+    }
+
     /// The header at the front of the slice, and the bytes behind it.
     #[inline]
     pub fn from_slice(slice: &[u8]) -> Result<(IpAuthHeader, &[u8]), HeaderSliceError>

@@ -16,10 +16,11 @@ use crate::ipv6_raw_ext_header_slice::Ipv6RawExtHeaderSlice;
 use crate::ipv6_routing_exts::Ipv6RoutingExtensions;
 use ep_base::err::ipv6_exts::{HeaderError, HeaderSliceError};
 use ep_base::{IpNumber, ip_number};
+use std::alloc::AllocError;
 
 /// The extension headers of an IPv6 packet (RFC 8200, 4.1): at most one of each kind, and destination options a second
 /// time behind a routing header.
-#[derive(Clone, Debug, PartialEq, Eq, Default, Drop)]
+#[derive(Debug, PartialEq, Eq, Default, Drop)]
 pub struct Ipv6Extensions {
     /// The hop by hop options.
     pub hop_by_hop_options: Option<Ipv6RawExtHeader>,
@@ -31,6 +32,24 @@ pub struct Ipv6Extensions {
     pub fragment: Option<Ipv6FragmentHeader>,
     /// The authentication header.
     pub auth: Option<IpAuthHeader>,
+}
+
+impl Clone for Ipv6Extensions {
+    ghost use Rattle.std.specs.Prelude.{◌≡◌, ⊤};
+
+    ghost is_clone = { λ source copy. copy ≡ source };
+
+    ghost is_infallible = { λ _. ⊤ };
+
+    // A derived clone moves each header several times. Here the result is made first, and filled in.
+    #[inline(never)]
+    fn clone(&self) -> Result<Ipv6Extensions, AllocError> {
+        let mut result = Ok(Ipv6Extensions::default());
+        if let Ok(copy) = &mut result {
+            copy.copy_from(self);
+        }
+        result
+    }
 }
 
 impl Ipv6Extensions {
@@ -75,6 +94,29 @@ impl Ipv6Extensions {
         match self.fill(number, slice) {
             Ok(read) => Ok(read),
             Err(error) => Err(error),
+        }
+    }
+
+    /// Becomes a copy of other headers, whatever headers it held. Headers are large: a caller that has room for them
+    /// moves none, and room of headers that neither has is not touched.
+    pub fn copy_from(&mut self, source: &Ipv6Extensions)
+        ensures { self.new ≡ source.now }
+    {
+        self.clear();
+        if let Some(header) = &source.hop_by_hop_options {
+            put_copy(&mut self.hop_by_hop_options, header);
+        }
+        if let Some(header) = &source.destination_options {
+            put_copy(&mut self.destination_options, header);
+        }
+        if let Some(behind) = &source.routing {
+            put_routing_copy(&mut self.routing, behind);
+        }
+        if let Some(header) = &source.fragment {
+            self.fragment = Some(Ipv6FragmentHeader { ..*header });
+        }
+        if let Some(header) = &source.auth {
+            put_auth_copy(&mut self.auth, header);
         }
     }
 
@@ -240,5 +282,41 @@ fn put_routing(place: &mut Option<Ipv6RoutingExtensions>, header: &Ipv6RawExtHea
     });
     if let Some(room) = place {
         room.routing.fill(header);
+    }
+}
+
+/// Puts a copy of a header in the place of what is there, in the same way.
+fn put_copy(place: &mut Option<Ipv6RawExtHeader>, header: &Ipv6RawExtHeader)
+    ensures { place.new ≡ Some header.now }
+{
+    *place = Some(Ipv6RawExtHeader::room());
+    if let Some(room) = place {
+        room.copy_from(header);
+    }
+}
+
+/// The same of a routing header, and of the destination options behind it.
+fn put_routing_copy(place: &mut Option<Ipv6RoutingExtensions>, source: &Ipv6RoutingExtensions)
+    ensures { place.new ≡ Some source.now }
+{
+    *place = Some(Ipv6RoutingExtensions {
+        routing: Ipv6RawExtHeader::room(),
+        final_destination_options: None,
+    });
+    if let Some(room) = place {
+        room.routing.copy_from(&source.routing);
+        if let Some(header) = &source.final_destination_options {
+            put_copy(&mut room.final_destination_options, header);
+        }
+    }
+}
+
+/// The same of an authentication header.
+fn put_auth_copy(place: &mut Option<IpAuthHeader>, header: &IpAuthHeader)
+    ensures { place.new ≡ Some header.now }
+{
+    *place = Some(IpAuthHeader::room());
+    if let Some(room) = place {
+        room.copy_from(header);
     }
 }

@@ -92,6 +92,15 @@ impl Ipv6RawExtHeader {
         self.payload.fill(header.payload());
     }
 
+    /// Becomes a copy of a header, in its place.
+    #[inline]
+    pub(crate) fn copy_from(&mut self, header: &Ipv6RawExtHeader)
+        ensures { self.new ≡ header.now }
+    {
+        self.next_header = header.next_header;
+        self.payload.fill(header.payload());
+    }
+
     /// The header at the front of the slice, and the bytes behind it.
     #[inline]
     pub fn from_slice(slice: &[u8]) -> Result<(Ipv6RawExtHeader, &[u8]), LenError>

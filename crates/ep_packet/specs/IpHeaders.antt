@@ -31,6 +31,7 @@ use Rattle.ep_ip.specs.declared.ipv4_header.Ipv4Header.{Ipv4Header}
 use Rattle.ep_ip.specs.declared.ipv6_header.Ipv6Header.{Ipv6Header}
 use Rattle.ep_ip.specs.IpPackets.{IpPart, IsIp, ip_left, ipv4_part, ipv6_part}
 use Rattle.ep_ip.specs.Ipv4.{FitsIpv4, ipv4_bytes, ipv4_checksum, ipv4_header_len, is_ipv4_fragment}
+use Rattle.ep_ip.specs.Ipv4.{default_ipv4_header}
 use Rattle.ep_ip.specs.Ipv6.{FitsIpv6, ipv6_bytes}
 use Rattle.ep_packet.specs.declared.ip_headers.IpHeaders.{IpHeaders}
 use Rattle.ep_packet.specs.declared.ip_headers.IpHeaders.TheVariants as variant
@@ -47,6 +48,10 @@ ipv4_extensions_of parts = record { auth = (extensions_of parts).auth }
 abbrev pub ip_headers_of : IpPart → IpHeaders
 ip_headers_of (ipv4_part packet) = variant.Ipv4 packet.header (ipv4_extensions_of packet.extensions)
 ip_headers_of (ipv6_part packet) = variant.Ipv6 packet.header (extensions_of packet.extensions)
+
+-- headers that are to be filled in
+abbrev pub headers_room : IpHeaders
+headers_room = variant.Ipv4 default_ipv4_header (record { auth = None })
 
 -- the payload of a packet
 abbrev pub ip_part_payload : IpPart → IpPayload

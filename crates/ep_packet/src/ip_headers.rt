@@ -6,6 +6,7 @@ ghost use Rattle.ep_ip.specs.Ipv6.{ipv6_bytes};
 ghost use Rattle.ep_packet.specs.IpHeaders.{of_walk_error};
 
 use crate::err::HeadersWriteError;
+use crate::ip_headers_read::no_extensions;
 use ep_base::err::ip_exts::ExtsWalkError;
 use ep_base::err::{ValueTooBigError, ValueType, ipv4_exts, ipv6_exts};
 use ep_base::{EtherType, IpNumber};
@@ -15,12 +16,31 @@ use std::alloc::AllocError;
 
 /// The headers of an IP packet of either version: the header, and the extension headers behind it. A value takes the
 /// room of all extension headers that IPv6 has, 9268 bytes and more, whichever of them are there.
-#[derive(Clone, Debug, PartialEq, Eq, Drop)]
+#[derive(Debug, PartialEq, Eq, Drop)]
 pub enum IpHeaders {
     /// Those of IPv4 (RFC 791), with the authentication header.
     Ipv4(Ipv4Header, Ipv4Extensions),
     /// Those of IPv6 (RFC 8200), with at most one extension header of a kind.
     Ipv6(Ipv6Header, Ipv6Extensions),
+}
+
+impl Clone for IpHeaders {
+    ghost use Rattle.std.specs.Prelude.{◌≡◌, ⊤};
+
+    ghost is_clone = { λ source copy. copy ≡ source };
+
+    ghost is_infallible = { λ _. ⊤ };
+
+    // A derived clone moves each header several times. Here the result is made first, the one large value of this call,
+    // and filled in by a call, so that none is moved but the result.
+    #[inline(never)]
+    fn clone(&self) -> Result<IpHeaders, AllocError> {
+        let mut result = Ok(IpHeaders::room());
+        if let Ok(room) = &mut result {
+            room.copy_from(self);
+        }
+        result
+    }
 }
 
 impl IpHeaders {
@@ -32,13 +52,45 @@ impl IpHeaders {
     ghost use Rattle.ep_ext.specs.Chains.{FitParts, parts_bytes};
     ghost use Rattle.ep_ext.specs.ExtensionParts.{ExtensionPart};
     ghost use Rattle.ep_packet.specs.IpHeaders.{ipv4_headers_in, ipv6_headers_in, ip_headers_len, ip_headers_type};
-    ghost use Rattle.ep_packet.specs.IpHeaders.{headers_fragment, linked_headers, with_payload_len, payload_len_rows};
+    ghost use Rattle.ep_packet.specs.IpHeaders.{headers_fragment, headers_room, linked_headers, with_payload_len, payload_len_rows};
     ghost use Rattle.ep_packet.specs.IpHeaders.{FitsIpHeader, ip_extensions_len, most_behind_header, ip_header_bytes};
     ghost use Rattle.ep_packet.specs.IpHeaders.{with_checksum, written_headers, LeadThrough, RefusesLeading};
     ghost use Rattle.ep_packet.specs.declared.err.headers_write_error.HeadersWriteError.TheVariants as write_error;
 
     /// The number of bytes of the longest headers, which are of IPv6.
     pub const MAX_LEN: usize = 9268;
+
+    /// Headers that are to be filled in.
+    #[inline(always)]
+    fn room() -> IpHeaders
+        ensures { result ≡ headers_room }
+    {
+        IpHeaders::Ipv4(Ipv4Header::default(), Ipv4Extensions { auth: None })
+    }
+
+    /// Becomes a copy of other headers. Of extension headers only those that are there are copied.
+    #[inline(never)]
+    fn copy_from(&mut self, source: &IpHeaders)
+        requires { self.old ≡ headers_room }
+        ensures { self.new ≡ source.now }
+    {
+        match source {
+            IpHeaders::Ipv4(header, extensions) => {
+                if let IpHeaders::Ipv4(room, behind) = self {
+                    *room = header.clone().unwrap();
+                    if extensions.auth.is_some() {
+                        *behind = extensions.clone().unwrap();
+                    }
+                }
+            }
+            IpHeaders::Ipv6(header, extensions) => {
+                *self = IpHeaders::Ipv6(header.clone().unwrap(), no_extensions());
+                if let IpHeaders::Ipv6(_, behind) = self {
+                    behind.copy_from(extensions);
+                }
+            }
+        }
+    }
 
     /// The header and the extension headers, if they are of IPv4.
     #[inline]

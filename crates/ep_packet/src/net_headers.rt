@@ -2,13 +2,15 @@
 
 use crate::err::NetSetNextHeaderError;
 use crate::ip_headers::IpHeaders;
+use crate::ip_headers_read::no_extensions;
 use ep_base::{EtherType, IpNumber};
 use ep_ext::{Ipv4Extensions, Ipv6Extensions};
 use ep_ip::{Ipv4Header, Ipv6Header};
 use ep_link::ArpPacket;
+use std::alloc::AllocError;
 
 /// The headers of the net layer: those of an IP packet, or an ARP packet.
-#[derive(Clone, Debug, PartialEq, Eq, Drop)]
+#[derive(Debug, PartialEq, Eq, Drop)]
 pub enum NetHeaders {
     /// Those of IPv4, with the authentication header.
     Ipv4(Ipv4Header, Ipv4Extensions),
@@ -21,14 +23,65 @@ pub enum NetHeaders {
 /// [`NetHeaders`], under its older name in the Rust crate.
 pub type IpHeader = NetHeaders;
 
+impl Clone for NetHeaders {
+    ghost use Rattle.std.specs.Prelude.{◌≡◌, ⊤};
+
+    ghost is_clone = { λ source copy. copy ≡ source };
+
+    ghost is_infallible = { λ _. ⊤ };
+
+    // As that of [`IpHeaders`].
+    #[inline(never)]
+    fn clone(&self) -> Result<NetHeaders, AllocError> {
+        let mut result = Ok(NetHeaders::room());
+        if let Ok(room) = &mut result {
+            room.copy_from(self);
+        }
+        result
+    }
+}
+
 impl NetHeaders {
     ghost use Rattle.std.specs.Prelude.{◌≡◌, ◌≤◌, Some, None, MatchResult};
     ghost use Rattle.std.specs.Option.{option_copied, option_map};
     ghost use Rattle.ep_packet.specs.declared.ip_headers.IpHeaders.{IpHeaders};
     ghost use Rattle.ep_packet.specs.declared.err.net_set_next_header_error.NetSetNextHeaderError.TheVariants as refusal;
-    ghost use Rattle.ep_packet.specs.IpHeaders.{ip_headers_type, linked_headers};
+    ghost use Rattle.ep_packet.specs.IpHeaders.{headers_room, ip_headers_type, linked_headers};
     ghost use Rattle.ep_packet.specs.NetHeaders.{are_ip, are_ipv4, are_ipv6, are_arp, ip_in, ipv4_in_net, ipv6_in_net};
     ghost use Rattle.ep_packet.specs.NetHeaders.{arp_in_net, net_headers_len, net_headers_of};
+
+    /// Headers that are to be filled in.
+    #[inline(always)]
+    fn room() -> NetHeaders
+        ensures { result ≡ net_headers_of headers_room }
+    {
+        NetHeaders::Ipv4(Ipv4Header::default(), Ipv4Extensions { auth: None })
+    }
+
+    /// Becomes a copy of other headers. Of extension headers only those that are there are copied.
+    #[inline(never)]
+    fn copy_from(&mut self, source: &NetHeaders)
+        requires { self.old ≡ net_headers_of headers_room }
+        ensures { self.new ≡ source.now }
+    {
+        match source {
+            NetHeaders::Ipv4(header, extensions) => {
+                if let NetHeaders::Ipv4(room, behind) = self {
+                    *room = header.clone().unwrap();
+                    if extensions.auth.is_some() {
+                        *behind = extensions.clone().unwrap();
+                    }
+                }
+            }
+            NetHeaders::Ipv6(header, extensions) => {
+                *self = NetHeaders::Ipv6(header.clone().unwrap(), no_extensions());
+                if let NetHeaders::Ipv6(_, behind) = self {
+                    behind.copy_from(extensions);
+                }
+            }
+            NetHeaders::Arp(packet) => *self = NetHeaders::Arp(packet.clone().unwrap()),
+        }
+    }
 
     /// Whether the headers are of IP, of either version.
     #[inline]
