@@ -267,4 +267,24 @@ impl<'a> Ipv4HeaderSlice<'a> {
             options: Ipv4Options::copy_of(self.options()),
         }
     }
+
+    /// Puts the header as a value in the place of another one, where it is filled in: no header is moved.
+    #[inline]
+    pub fn header_into(&self, place: &mut Ipv4Header)
+        ensures { place.new ≡ ipv4_header_slice_header self.now }
+    {
+        place.dscp = self.dscp();
+        place.ecn = self.ecn();
+        place.total_len = self.total_len();
+        place.identification = self.identification();
+        place.dont_fragment = self.dont_fragment();
+        place.more_fragments = self.more_fragments();
+        place.fragment_offset = self.fragment_offset();
+        place.time_to_live = self.time_to_live();
+        place.protocol = self.protocol();
+        place.header_checksum = self.header_checksum();
+        place.source = self.source();
+        place.destination = self.destination();
+        place.options.fill(self.options());
+    }
 }

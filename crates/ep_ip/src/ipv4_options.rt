@@ -82,12 +82,21 @@ impl Ipv4Options {
         requires words { length slice.now % 4 ≡ 0 }
         ensures { result ≡ slice.now }
     {
-        let mut bytes = [0; 40];
-        bytes[..slice.len()].copy_from_slice(slice);
-        Ipv4Options {
-            bytes,
-            len: slice.len() as u8,
-        }
+        let mut options = Ipv4Options::new();
+        options.fill(slice);
+        options
+    }
+
+    /// Becomes a copy of the bytes, which is written in place.
+    #[inline]
+    pub(crate) fn fill(&mut self, slice: &[u8])
+        requires bound { length slice.now ≤ 40 }
+        requires words { length slice.now % 4 ≡ 0 }
+        ensures { self.new ≡ slice.now }
+    {
+        self.bytes = [0; 40];
+        self.bytes[..slice.len()].copy_from_slice(slice);
+        self.len = slice.len() as u8;
     }
 
     /// The bytes of the options.

@@ -7,12 +7,13 @@ ghost use Rattle.ep_base.specs.Readings.{headers};
 ghost use Rattle.ep_base.specs.Tables.{RefusesAs};
 ghost use Rattle.ep_ext.specs.Chains.{ipv6, IsExtensionChain, RefusesExtensionChain, chain_fragments, chain_of};
 ghost use Rattle.ep_ext.specs.ExtensionParts.{ExtensionPart};
+ghost use Rattle.ep_ext.specs.IpAuthSlices.{ip_auth_slice_header};
 ghost use Rattle.ep_ext.specs.Ipv6Chains.{extensions_of, ipv6_parts, no_ipv6_extensions};
 ghost use Rattle.ep_ip.specs.declared.ipv4_header.Ipv4Header.{Ipv4Header};
 ghost use Rattle.ep_ip.specs.declared.ipv6_header.Ipv6Header.{Ipv6Header};
 ghost use Rattle.ep_ip.specs.IpPackets.{IpPacket, IpPart, IsIp, IsIpv4, IsIpv6, RefusesIp, RefusesIpv4, RefusesIpv6};
 ghost use Rattle.ep_ip.specs.IpPackets.{ipv4_part, ipv6_part};
-ghost use Rattle.ep_ip.specs.Ipv4Slices.{ipv4_slice_packet};
+ghost use Rattle.ep_ip.specs.Ipv4Slices.{ipv4_slice_header, ipv4_slice_packet};
 ghost use Rattle.ep_packet.specs.declared.net_headers.NetHeaders.TheVariants as variant;
 ghost use Rattle.ep_packet.specs.HeadersWalk.{FillsIp};
 ghost use Rattle.ep_packet.specs.IpHeaders.{ip_headers_of, of_slice_error};
@@ -26,8 +27,8 @@ use crate::net_headers::NetHeaders;
 use ep_base::err::ip::HeadersSliceError;
 use ep_base::err::{ipv4, ipv6, ipv6_exts};
 use ep_base::{IpNumber, IpPayloadSlice};
-use ep_ext::Ipv4Extensions;
-use ep_ip::{Ipv4Header, Ipv4Slice, Ipv6Header};
+use ep_ext::{IpAuthHeaderSlice, Ipv4Extensions};
+use ep_ip::{Ipv4Slice, Ipv6Header};
 
 /// Fills in the headers of either version at the front of the slice, and gives the payload behind them and its offset.
 pub(crate) fn fill_ip<'a>(
@@ -78,42 +79,57 @@ pub(crate) fn fill_ipv4<'a>(
     }
 }
 
-/// Puts the headers of a packet into the room.
+/// Puts the headers of a packet into the room. An authentication header is put there by a call of its own: inlined, it
+/// would have room for one zeroed for each packet.
 fn put_ipv4(net: &mut Option<NetHeaders>, packet: &Ipv4Slice<'_>)
     ensures { (left : List ℕ)
         → net.new ≡ Some (net_headers_of (ip_headers_of (ipv4_part (ipv4_slice_packet packet.now left)))) }
 {
-    let header = packet.header().to_header();
-    let auth = packet.extensions().auth;
+    if let Some(auth) = packet.extensions().auth {
+        put_authenticated(net, packet, &auth);
+        return;
+    }
     if let Some(headers) = net {
         if let NetHeaders::Ipv4(room, extensions) = headers {
-            *room = header;
-            match auth {
-                Some(auth) => auth.header_into(&mut extensions.auth),
-                None => {
-                    if extensions.auth.is_some() {
-                        extensions.auth = None;
-                    }
-                }
+            packet.header().header_into(room);
+            if extensions.auth.is_some() {
+                extensions.auth = None;
             }
             return;
         }
     }
-    match auth {
-        Some(auth) => {
-            let auth = Some(auth.to_header());
-            *net = Some(NetHeaders::Ipv4(header, Ipv4Extensions { auth }));
-        }
-        None => replace_by_ipv4(net, header),
-    }
+    replace_by_ipv4(net, packet);
 }
 
-/// Puts a header of IPv4 in the place of whatever the room held. Apart, since there it is written once: in line with
-/// other writes its parts are zeroed and moved one by one.
+/// Puts the header of a packet of IPv4 into the room, and this authentication header.
 #[inline(never)]
-fn replace_by_ipv4(net: &mut Option<NetHeaders>, header: Ipv4Header)
-    ensures { net.new ≡ Some (variant.Ipv4 header (record { auth = None })) }
+fn put_authenticated(
+    net: &mut Option<NetHeaders>,
+    packet: &Ipv4Slice<'_>,
+    auth: &IpAuthHeaderSlice<'_>,
+)
+    ensures { net.new ≡ Some (variant.Ipv4 (ipv4_slice_header packet.now) (record {
+      auth = Some (ip_auth_slice_header auth.now);
+    })) }
 {
+    if let Some(headers) = net {
+        if let NetHeaders::Ipv4(room, extensions) = headers {
+            packet.header().header_into(room);
+            auth.header_into(&mut extensions.auth);
+            return;
+        }
+    }
+    let auth = Some(auth.to_header());
+    *net = Some(NetHeaders::Ipv4(packet.header().to_header(), Ipv4Extensions { auth }));
+}
+
+/// Puts the header of a packet of IPv4 without an authentication header in the place of whatever the room held. Apart,
+/// since there it is written once: in line with other writes its parts are zeroed and moved one by one.
+#[inline(never)]
+fn replace_by_ipv4(net: &mut Option<NetHeaders>, packet: &Ipv4Slice<'_>)
+    ensures { net.new ≡ Some (variant.Ipv4 (ipv4_slice_header packet.now) (record { auth = None })) }
+{
+    let header = packet.header().to_header();
     *net = Some(NetHeaders::Ipv4(header, Ipv4Extensions { auth: None }));
 }
 

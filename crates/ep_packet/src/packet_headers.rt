@@ -25,7 +25,7 @@ use ep_link::{
     ArpPacketSlice, DoubleVlanHeader, Ethernet2Header, Ethernet2Slice, LinkExtHeader, LinkExtSlice,
     LinkHeader, LinuxSllHeader, LinuxSllSlice, VlanHeader,
 };
-use ep_transport::TransportHeader;
+use ep_transport::{TcpHeader, TransportHeader};
 
 /// The headers of a packet by value, from the outside in, and the payload of the last layer. A header that is no part
 /// of the packet, or whose protocol is not read, is `None`, and so is each header inside it. A value takes the room of
@@ -186,16 +186,16 @@ impl<'a> PacketHeaders<'a> {
         ids
     }
 
-    /// A packet that is to be filled in: its net headers are of IPv4, as those of most packets, so that their room is
-    /// made once. A packet by value is filled in where its `Ok` stands, by a call of its own: so it is moved once, and
-    /// the caller moves and zeroes nothing.
+    /// A packet that is to be filled in: its headers are of IPv4 and TCP, as those of most packets, so that their room
+    /// is made once. A packet by value is filled in where its `Ok` stands, by a call of its own: so it is moved once,
+    /// and the caller moves and zeroes nothing.
     #[inline(always)]
     fn room() -> PacketHeaders<'a> {
         PacketHeaders {
             link: None,
             link_exts: ArrayVec::new(),
             net: Some(NetHeaders::Ipv4(Ipv4Header::default(), Ipv4Extensions { auth: None })),
-            transport: None,
+            transport: Some(TransportHeader::Tcp(TcpHeader::default())),
             payload: PayloadSlice::Empty,
         }
     }
@@ -445,24 +445,20 @@ impl<'a> PacketHeaders<'a> {
             FillsTransport (ip_payload_of payload.entry) (headers_of self.old) (headers_of self.new)) }
         ensures err { IfErr result (RefusesTransportIn headers offset (ip_payload_of payload.entry)) }
     {
-        match TransportHeader::from_ip_number(
+        match TransportHeader::read_into(
+            &mut self.transport,
             payload.ip_number,
             payload.fragmented,
             payload.payload,
         ) {
-            Ok(Some((header, rest))) => {
-                self.payload = match &header {
-                    TransportHeader::Udp(_) => PayloadSlice::Udp(rest),
-                    TransportHeader::Tcp(_) => PayloadSlice::Tcp(rest),
-                    TransportHeader::Icmpv4(_) => PayloadSlice::Icmpv4(rest),
-                    TransportHeader::Icmpv6(_) => PayloadSlice::Icmpv6(rest),
+            Ok(rest) => {
+                self.payload = match &self.transport {
+                    Some(TransportHeader::Udp(_)) => PayloadSlice::Udp(rest),
+                    Some(TransportHeader::Tcp(_)) => PayloadSlice::Tcp(rest),
+                    Some(TransportHeader::Icmpv4(_)) => PayloadSlice::Icmpv4(rest),
+                    Some(TransportHeader::Icmpv6(_)) => PayloadSlice::Icmpv6(rest),
+                    None => PayloadSlice::Ip(payload),
                 };
-                self.transport = Some(header);
-                Ok(())
-            }
-            Ok(None) => {
-                self.transport = None;
-                self.payload = PayloadSlice::Ip(payload);
                 Ok(())
             }
             Err(tcp::HeaderSliceError::Len(error)) => {

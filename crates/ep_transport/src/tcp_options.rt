@@ -118,12 +118,20 @@ impl TcpOptions {
         requires { length slice.now ≤ 40 }
         ensures { result ≡ in_words slice.now }
     {
-        let mut bytes = [0; 40];
-        bytes[..slice.len()].copy_from_slice(slice);
-        TcpOptions {
-            bytes,
-            len: ((slice.len() + 3) / 4 * 4) as u8,
-        }
+        let mut options = TcpOptions::new();
+        options.fill(slice);
+        options
+    }
+
+    /// Becomes a copy of the bytes, filled up by zero bytes to words of 4, which is written in place.
+    #[inline]
+    pub(crate) fn fill(&mut self, slice: &[u8])
+        requires { length slice.now ≤ 40 }
+        ensures { self.new ≡ in_words slice.now }
+    {
+        self.bytes = [0; 40];
+        self.bytes[..slice.len()].copy_from_slice(slice);
+        self.len = ((slice.len() + 3) / 4 * 4) as u8;
     }
 
     /// The bytes of the options.

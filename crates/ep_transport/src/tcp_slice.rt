@@ -286,6 +286,30 @@ impl<'a> TcpSlice<'a> {
         }
     }
 
+    /// Puts the header as a value in the place of another one, where it is filled in: no header is moved.
+    #[inline]
+    pub fn header_into(&self, place: &mut TcpHeader)
+        ensures { place.new ≡ tcp_slice_header self.now }
+    {
+        place.source_port = self.source_port();
+        place.destination_port = self.destination_port();
+        place.sequence_number = self.sequence_number();
+        place.acknowledgment_number = self.acknowledgment_number();
+        place.ns = self.ns();
+        place.fin = self.fin();
+        place.syn = self.syn();
+        place.rst = self.rst();
+        place.psh = self.psh();
+        place.ack = self.ack();
+        place.urg = self.urg();
+        place.ece = self.ece();
+        place.cwr = self.cwr();
+        place.window_size = self.window_size();
+        place.checksum = self.checksum();
+        place.urgent_pointer = self.urgent_pointer();
+        place.options.fill(self.options());
+    }
+
     /// The checksum over IPv4, with these addresses, whatever checksum the segment holds. A segment above 65535 bytes
     /// is refused.
     pub fn calc_checksum_ipv4(

@@ -1,8 +1,9 @@
 //! The header of a transport layer.
 
-ghost use Rattle.std.specs.Prelude.{◌≡◌, ◌+◌, ◌<◌, ◌≤◌, ◌++◌, IfOk, IfErr, IsOkAnd, MatchResult, OnOk, OnErr, Option, length, vec_len, vec_capacity};
+ghost use Rattle.std.specs.Prelude.{◌≡◌, ◌≢◌, ◌+◌, ◌<◌, ◌≤◌, ◌++◌, false, IfOk, IfErr, IsOkAnd, MatchResult, OnOk, OnErr, Option, Some, None, length, vec_len, vec_capacity};
 ghost use Rattle.std.specs.Option.{option_map};
 ghost use Rattle.std.specs.Borrow.{LendsIf, sem};
+ghost use Rattle.ep_base.specs.IpNumbers.{tcp_number};
 ghost use Rattle.ep_base.specs.Readings.{headers};
 ghost use Rattle.ep_base.specs.Tables.{Refuses, first_row};
 ghost use Rattle.ep_transport.specs.contracts.transport_header.TransportHeader.{the_row};
@@ -13,12 +14,14 @@ ghost use Rattle.ep_transport.specs.contracts.icmpv6_header.Icmpv6Header.{the_ro
 ghost use Rattle.ep_transport.specs.declared.transport_header.TransportHeader.TheVariants.{Udp, Tcp, Icmpv4, Icmpv6};
 ghost use Rattle.ep_transport.specs.TransportHeaders.{udp_header_in, tcp_header_in, icmpv4_header_in, icmpv6_header_in};
 ghost use Rattle.ep_transport.specs.TransportHeaders.{transport_bytes, transport_header_len};
+ghost use Rattle.ep_transport.specs.TcpSlices.{tcp_slice_header};
 ghost use Rattle.ep_transport.specs.TransportHeaders.{checksum_rows_ipv4, checksum_rows_ipv6, with_checksum_ipv4, with_checksum_ipv6};
 ghost use Rattle.ep_transport.specs.TransportParts.{TransportLayer, IsTransportPart, RefusesTransportPart, transport_layer};
 
 use crate::icmpv4_header::Icmpv4Header;
 use crate::icmpv6_header::Icmpv6Header;
 use crate::tcp_header::TcpHeader;
+use crate::tcp_slice::TcpSlice;
 use crate::transport_checksum_error::TransportChecksumError;
 use crate::udp_header::UdpHeader;
 use ep_base::IpNumber;
@@ -95,6 +98,102 @@ impl TransportHeader {
             };
         }
         Ok(None)
+    }
+
+    /// Reads what [`TransportHeader::from_ip_number`] answers into a place, and gives the bytes behind the header: all
+    /// of them where there is none. For a caller in a loop, which keeps one place: a header of TCP is filled in where
+    /// one stood, so that none is moved, and any other replaces what was there. A refusal leaves the place as it was.
+    pub fn read_into<'a>(
+        place: &mut Option<TransportHeader>,
+        number: IpNumber,
+        fragmented: bool,
+        slice: &'a [u8],
+    ) -> Result<&'a [u8], tcp::HeaderSliceError>
+        ensures ok { IfOk result (λ rest. IsTransportPart headers number.0 fragmented slice.now
+            (option_map (λ header. transport_layer header rest.now) place.new)) }
+        ensures only { (part : Option TransportLayer) → IsTransportPart headers number.0 fragmented slice.now part
+            → IsOkAnd result (λ rest. option_map (λ header. transport_layer header rest.now) place.new ≡ part) }
+        ensures whole { IfOk result (λ rest. place.new ≡ None → rest.now ≡ slice.now) }
+        ensures err { IfErr result (RefusesTransportPart headers number.0 fragmented slice.now) }
+        ensures kept { OnErr result (place.new ≡ place.old) }
+    {
+        TransportHeader::fill(place, number, fragmented, slice)
+    }
+
+    /// What `read_into` does.
+    #[inline]
+    fn fill<'a>(
+        place: &mut Option<TransportHeader>,
+        number: IpNumber,
+        fragmented: bool,
+        slice: &'a [u8],
+    ) -> Result<&'a [u8], tcp::HeaderSliceError>
+        ensures ok { IfOk result (λ rest. IsTransportPart headers number.0 fragmented slice.now
+            (option_map (λ header. transport_layer header rest.now) place.new)) }
+        ensures whole { IfOk result (λ rest. place.new ≡ None → rest.now ≡ slice.now) }
+        ensures err { IfErr result (RefusesTransportPart headers number.0 fragmented slice.now) }
+        ensures kept { OnErr result (place.new ≡ place.old) }
+    {
+        if fragmented {
+            *place = None;
+            return Ok(slice);
+        }
+        if number == IpNumber::TCP {
+            return match TcpSlice::from_slice(slice) {
+                Ok(segment) => {
+                    put_tcp(place, &segment);
+                    Ok(segment.payload())
+                }
+                Err(error) => Err(error),
+            };
+        }
+        TransportHeader::fill_other(place, number, slice)
+    }
+
+    /// The same of any protocol but TCP. Apart, since inlined it would have room for these headers zeroed for each
+    /// segment.
+    #[inline(never)]
+    fn fill_other<'a>(
+        place: &mut Option<TransportHeader>,
+        number: IpNumber,
+        slice: &'a [u8],
+    ) -> Result<&'a [u8], tcp::HeaderSliceError>
+        requires { number.0 ≢ tcp_number }
+        ensures ok { IfOk result (λ rest. IsTransportPart headers number.0 false slice.now
+            (option_map (λ header. transport_layer header rest.now) place.new)) }
+        ensures whole { IfOk result (λ rest. place.new ≡ None → rest.now ≡ slice.now) }
+        ensures err { IfErr result (RefusesTransportPart headers number.0 false slice.now) }
+        ensures kept { OnErr result (place.new ≡ place.old) }
+    {
+        if number == IpNumber::UDP {
+            return match UdpHeader::from_slice(slice) {
+                Ok((header, payload)) => {
+                    *place = Some(TransportHeader::Udp(header));
+                    Ok(payload)
+                }
+                Err(error) => Err(tcp::HeaderSliceError::Len(error)),
+            };
+        }
+        if number == IpNumber::ICMP {
+            return match Icmpv4Header::from_slice(slice) {
+                Ok((header, payload)) => {
+                    *place = Some(TransportHeader::Icmpv4(header));
+                    Ok(payload)
+                }
+                Err(error) => Err(tcp::HeaderSliceError::Len(error)),
+            };
+        }
+        if number == IpNumber::IPV6_ICMP {
+            return match Icmpv6Header::from_slice(slice) {
+                Ok((header, payload)) => {
+                    *place = Some(TransportHeader::Icmpv6(header));
+                    Ok(payload)
+                }
+                Err(error) => Err(tcp::HeaderSliceError::Len(error)),
+            };
+        }
+        *place = None;
+        Ok(slice)
     }
 
     /// The header, where it is UDP's.
@@ -272,4 +371,24 @@ impl TransportHeader {
             TransportHeader::Icmpv6(header) => header.write(buf),
         }
     }
+}
+
+/// Puts the header of a segment into a place. Where one of TCP was, it is filled in there.
+fn put_tcp(place: &mut Option<TransportHeader>, segment: &TcpSlice<'_>)
+    ensures { place.new ≡ Some (Tcp (tcp_slice_header segment.now)) }
+{
+    if let Some(TransportHeader::Tcp(header)) = place {
+        segment.header_into(header);
+        return;
+    }
+    replace_by_tcp(place, segment);
+}
+
+/// Puts the header of a segment in the place of whatever there was. Apart, since inlined it would have room for one
+/// more zeroed for each segment.
+#[inline(never)]
+fn replace_by_tcp(place: &mut Option<TransportHeader>, segment: &TcpSlice<'_>)
+    ensures { place.new ≡ Some (Tcp (tcp_slice_header segment.now)) }
+{
+    *place = Some(TransportHeader::Tcp(segment.to_header()));
 }

@@ -1,10 +1,10 @@
 use Rattle.std.proofs.Common.{◌≡◌, ◌∙◌, ◌+◌, ◌-◌, ◌*◌, ◌++◌, ◌/◌, ap, ℕ, List, length, replicate, drop, arith}
 use Rattle.std.proofs.lemmas.List.{drop-replicate, length-append, length-drop}
 use Rattle.ep_transport.proofs.TcpOptionLemmas.{cut_in_zeros}
-use Rattle.ep_transport.proofs.tcp_options.TcpOptions.copy_of.Goals as goal
+use Rattle.ep_transport.proofs.tcp_options.TcpOptions.fill.Goals as goal
 
-pub invariant_of-result : goal.invariant_of-result
-invariant_of-result c =
+pub invariant_of-self : goal.invariant_of-self
+invariant_of-self c =
     let n = length c.args.slice.now in
     let m = (n + 3) / 4 * 4 in
     let zeros : List ℕ = replicate 40 0 in
