@@ -170,7 +170,15 @@ impl Ipv4Header {
         ensures bytes { result.items ≡ ipv4_bytes self.now }
         ensures fits { FitsIpv4 self.now }
     {
-        self.bytes_with(self.header_checksum)
+        self.fits();
+        let mut bytes = ArrayVec::new();
+        bytes
+            .try_extend_from_slice(&self.fixed_bytes(self.header_checksum))
+            .unwrap();
+        bytes
+            .try_extend_from_slice(self.options.as_slice())
+            .unwrap();
+        bytes
     }
 
     /// The checksum of the header (RFC 791, 3.1), whatever checksum it holds.
@@ -194,8 +202,16 @@ impl Ipv4Header {
             + length (ipv4_bytes (record self.now { header_checksum = ipv4_checksum self.now }))) }
         ensures capacity { vec_capacity buf.old ≤ vec_capacity buf.new }
     {
-        let bytes = self.bytes_with(self.calc_header_checksum());
-        buf.extend_from_slice(bytes.as_slice())
+        self.fits();
+        let fixed = self.fixed_bytes(self.calc_header_checksum());
+        let options = self.options.as_slice();
+        buf.reserve(fixed.len() + options.len())?;
+        buf.extend_from_slice(&fixed).unwrap();
+        // Most headers have none, for which the copy would cost a call.
+        if !options.is_empty() {
+            buf.extend_from_slice(options).unwrap();
+        }
+        Ok(())
     }
 
     /// Each field has the width of its type.
@@ -214,22 +230,6 @@ impl Ipv4Header {
         holds_bytes(&self.source);
         holds_bytes(&self.destination);
         holds_bytes(self.options.as_slice());
-    }
-
-    /// The header as it stands on the wire, with this checksum.
-    fn bytes_with(&self, header_checksum: u16) -> ArrayVec<u8, 60>
-        ensures bytes { result.items ≡ ipv4_bytes (record self.now { header_checksum = header_checksum }) }
-        ensures fits { FitsIpv4 self.now }
-    {
-        self.fits();
-        let mut bytes = ArrayVec::new();
-        bytes
-            .try_extend_from_slice(&self.fixed_bytes(header_checksum))
-            .unwrap();
-        bytes
-            .try_extend_from_slice(self.options.as_slice())
-            .unwrap();
-        bytes
     }
 
     /// The first 20 bytes of the header on the wire, with this checksum.

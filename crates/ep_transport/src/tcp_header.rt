@@ -169,8 +169,15 @@ impl TcpHeader {
         ensures full { OnErr result (vec_capacity buf.old < vec_len buf.old + length (tcp_bytes self.now)) }
         ensures capacity { vec_capacity buf.old ≤ vec_capacity buf.new }
     {
-        let bytes = self.to_bytes();
-        buf.extend_from_slice(bytes.as_slice())
+        let fixed = self.fixed_bytes(self.checksum);
+        let options = self.options.as_slice();
+        buf.reserve(fixed.len() + options.len())?;
+        buf.extend_from_slice(&fixed).unwrap();
+        // Many headers have none, for which the copy would cost a call.
+        if !options.is_empty() {
+            buf.extend_from_slice(options).unwrap();
+        }
+        Ok(())
     }
 
     /// The checksum behind this IPv4 header, whatever checksum the header holds. Header and payload above 65535 bytes
