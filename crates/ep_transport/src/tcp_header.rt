@@ -131,8 +131,7 @@ impl TcpHeader {
             × (error ≡ NotEnoughSpace (min (length (options_bytes options.now)) (2 ^ 64 - 1)))) }
         ensures fits { All FitsOption options.now }
     {
-        self.options = TcpOptions::try_from_elements(options)?;
-        Ok(())
+        self.options.set_elements(options)
     }
 
     /// Sets the options to these bytes, at most 40, filled up by zero bytes to words of 4. A refusal changes nothing.

@@ -1,6 +1,6 @@
 //! One option of a TCP header (RFC 9293, 3.2; RFC 2018; RFC 7323).
 
-ghost use Rattle.std.specs.Prelude.{◌≡◌, ◌+◌, ◌*◌, ◌≤◌, ◌++◌, [], ◌∷◌, length};
+ghost use Rattle.std.specs.Prelude.{◌≡◌, ◌+◌, ◌*◌, ◌<◌, ◌≤◌, ◌++◌, [], ◌∷◌, length};
 ghost use Rattle.ep_transport.specs.TcpOptionBytes.{FitsOption, present, block_bytes, blocks_bytes, option_bytes};
 ghost use Rattle.ep_transport.specs.declared.tcp_option_element.TcpOptionElement.TheVariants.{SelectiveAcknowledgement};
 
@@ -52,40 +52,56 @@ pub enum TcpOptionReadError {
 }
 
 impl TcpOptionElement {
-    /// The bytes of the option: its kind, its length, and what it holds.
-    pub(crate) fn to_bytes(&self) -> ArrayVec<u8, 34>
-        ensures bytes { result.items ≡ option_bytes self.now }
+    /// Appends the bytes of the option, its kind, its length, and what it holds, if there is room for all of them, and
+    /// answers how many they are.
+    pub(crate) fn push_if_room(&self, bytes: &mut ArrayVec<u8, 40>) -> usize
+        ensures len { result ≡ length (option_bytes self.now) }
         ensures fits { FitsOption self.now }
+        ensures room { length bytes.old.items + length (option_bytes self.now) ≤ 40
+            → bytes.new.items ≡ bytes.old.items ++ option_bytes self.now }
+        ensures no_room { 40 < length bytes.old.items + length (option_bytes self.now) → bytes.new ≡ bytes.old }
     {
         match self {
-            TcpOptionElement::Noop => bytes_of(&[1]),
+            TcpOptionElement::Noop => push_bytes_if_room(bytes, &[1]),
             TcpOptionElement::MaximumSegmentSize(size) => {
                 let size = size.to_be_bytes();
-                bytes_of(&[2, 4, size[0], size[1]])
+                push_bytes_if_room(bytes, &[2, 4, size[0], size[1]])
             }
-            TcpOptionElement::WindowScale(shift) => bytes_of(&[3, 3, *shift]),
-            TcpOptionElement::SelectiveAcknowledgementPermitted => bytes_of(&[4, 2]),
+            TcpOptionElement::WindowScale(shift) => push_bytes_if_room(bytes, &[3, 3, *shift]),
+            TcpOptionElement::SelectiveAcknowledgementPermitted => push_bytes_if_room(
+                bytes,
+                &[4, 2],
+            ),
             TcpOptionElement::SelectiveAcknowledgement(first, others) => {
-                acknowledgement(*first, *others)
+                push_bytes_if_room(bytes, acknowledgement(*first, *others).as_slice())
             }
             TcpOptionElement::Timestamp(time, echo) => {
-                let mut bytes = bytes_of(&[8, 10]);
-                push_block(&mut bytes, (*time, *echo));
-                bytes
+                let time = time.to_be_bytes();
+                let echo = echo.to_be_bytes();
+                push_bytes_if_room(
+                    bytes,
+                    &[
+                        8, 10, time[0], time[1], time[2], time[3], echo[0], echo[1], echo[2],
+                        echo[3],
+                    ],
+                )
             }
         }
     }
 }
 
-/// These bytes.
-#[inline]
-fn bytes_of(slice: &[u8]) -> ArrayVec<u8, 34>
-    requires { length slice.now ≤ 34 }
-    ensures { result.items ≡ slice.now }
+/// Appends these bytes, if there is room for all of them, and answers how many they are.
+#[inline(always)]
+fn push_bytes_if_room(bytes: &mut ArrayVec<u8, 40>, option: &[u8]) -> usize
+    ensures len { result ≡ length option.now }
+    ensures room { length bytes.old.items + length option.now ≤ 40
+        → bytes.new.items ≡ bytes.old.items ++ option.now }
+    ensures no_room { 40 < length bytes.old.items + length option.now → bytes.new ≡ bytes.old }
 {
-    let mut bytes = ArrayVec::new();
-    bytes.try_extend_from_slice(slice).unwrap();
-    bytes
+    if option.len() <= bytes.remaining_capacity() {
+        bytes.try_extend_from_slice(option).unwrap();
+    }
+    option.len()
 }
 
 /// The bytes of a selective acknowledgement.
@@ -94,7 +110,8 @@ fn acknowledgement(first: (u32, u32), others: [Option<(u32, u32)>; 3]) -> ArrayV
     ensures fits { FitsOption (SelectiveAcknowledgement first others) }
 {
     let len = 10 + place_len(others[0]) + place_len(others[1]) + place_len(others[2]);
-    let mut bytes = bytes_of(&[5, len]);
+    let mut bytes = ArrayVec::new();
+    bytes.try_extend_from_slice(&[5, len]).unwrap();
     push_block(&mut bytes, first);
     push_place(&mut bytes, others[0]);
     push_place(&mut bytes, others[1]);

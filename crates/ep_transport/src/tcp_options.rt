@@ -97,19 +97,33 @@ impl TcpOptions {
             × (error ≡ NotEnoughSpace (min (length (options_bytes elements.now)) (2 ^ 64 - 1)))) }
         ensures fits { All FitsOption elements.now }
     {
+        let mut options = TcpOptions::new();
+        options.set_elements(elements)?;
+        Ok(options)
+    }
+
+    /// Becomes what [`TcpOptions::try_from_elements`] answers, which is written in place. A refusal changes nothing.
+    pub(crate) fn set_elements(
+        &mut self,
+        elements: &[TcpOptionElement],
+    ) -> Result<(), TcpOptionWriteError>
+        ensures value { MatchResult result
+            (λ _. (length (options_bytes elements.now) ≤ 40)
+            × (self.new ≡ in_words (options_bytes elements.now)))
+            (λ error. (40 < length (options_bytes elements.now)) × (self.new ≡ self.old)
+            × (error ≡ NotEnoughSpace (min (length (options_bytes elements.now)) (2 ^ 64 - 1)))) }
+        ensures fits { All FitsOption elements.now }
+    {
         let mut bytes: ArrayVec<u8, 40> = ArrayVec::new();
         let mut len: usize = 0;
         for element in elements {
-            let option = element.to_bytes();
-            len = len.saturating_add(option.len());
-            if len <= TcpOptions::MAX_LEN {
-                bytes.try_extend_from_slice(option.as_slice()).unwrap();
-            }
+            len = len.saturating_add(element.push_if_room(&mut bytes));
         }
         if len > TcpOptions::MAX_LEN {
             return Err(TcpOptionWriteError::NotEnoughSpace(len));
         }
-        Ok(TcpOptions::copy_of(bytes.as_slice()))
+        self.fill(bytes.as_slice());
+        Ok(())
     }
 
     /// A copy of the bytes, filled up by zero bytes to words of 4.

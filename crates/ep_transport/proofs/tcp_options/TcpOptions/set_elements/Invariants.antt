@@ -1,7 +1,7 @@
 use Rattle.std.proofs.Common.{◌≡◌, ◌-◌, ◌^◌, ◌≤◌, length, min, take}
 use Rattle.std.specs.List.{All}
 use Rattle.ep_transport.specs.TcpOptionBytes.{FitsOption, options_bytes}
-use Rattle.ep_transport.proofs.tcp_options.TcpOptions.try_from_elements.Given as goal
+use Rattle.ep_transport.proofs.tcp_options.TcpOptions.set_elements.Given as goal
 
 -- the options so far are counted and fit, and are copied as long as there is room
 abbrev pub invariant-loop-element : goal.invariant-loop-element
