@@ -46,6 +46,11 @@ impl<'a> Iterator for TcpOptionsIterator<'a> {
         if kind == 0 {
             return None;
         }
+        // Most options are these bytes between others.
+        if kind == 1 {
+            self.options = &self.options[1..];
+            return Some(Ok(TcpOptionElement::Noop));
+        }
         match read_option(self.options) {
             Ok((option, rest)) => {
                 self.options = rest;
