@@ -95,7 +95,7 @@ impl<'a> PacketHeaders<'a> {
     }
 
     /// The headers of the packet that begins with an Ethernet II header.
-    #[inline(never)]
+    #[inline(always)]
     pub fn from_ethernet_slice(slice: &'a [u8]) -> Result<PacketHeaders<'a>, SliceError>
         ensures ok { IfOk result (λ packet. (layers : Layers) × IsFrameIn headers ethernet slice.now layers
             × (headers_of packet ≡ headers_in layers)) }
@@ -104,17 +104,15 @@ impl<'a> PacketHeaders<'a> {
         ensures bytes { IfOk result (λ packet. LieIn (payload_part_bytes (payload_part_of packet.payload)) slice.now) }
         ensures err { IfErr result (RefusesFrameIn headers ethernet slice.now) }
     {
-        let mut result = Ok(PacketHeaders::room());
-        if let Ok(packet) = &mut result {
-            if let Err(error) = packet.fill(Entry::Ethernet, slice) {
-                return Err(error);
-            }
+        let mut packet = PacketHeaders::room();
+        match packet.fill(Entry::Ethernet, slice) {
+            Ok(()) => Ok(packet),
+            Err(error) => Err(error),
         }
-        result
     }
 
     /// The headers of the packet that is the payload of a link layer, with the type that the link layer gives.
-    #[inline(never)]
+    #[inline(always)]
     pub fn from_ether_type(
         ether_type: EtherType,
         slice: &'a [u8],
@@ -126,17 +124,15 @@ impl<'a> PacketHeaders<'a> {
         ensures bytes { IfOk result (λ packet. LieIn (payload_part_bytes (payload_part_of packet.payload)) slice.now) }
         ensures err { IfErr result (RefusesFrameIn headers (of_type ether_type) slice.now) }
     {
-        let mut result = Ok(PacketHeaders::room());
-        if let Ok(packet) = &mut result {
-            if let Err(error) = packet.fill(Entry::EtherType(ether_type), slice) {
-                return Err(error);
-            }
+        let mut packet = PacketHeaders::room();
+        match packet.fill(Entry::EtherType(ether_type), slice) {
+            Ok(()) => Ok(packet),
+            Err(error) => Err(error),
         }
-        result
     }
 
     /// The headers of the packet that is an IP packet of either version, which has no link layer.
-    #[inline(never)]
+    #[inline(always)]
     pub fn from_ip_slice(slice: &'a [u8]) -> Result<PacketHeaders<'a>, SliceError>
         ensures ok { IfOk result (λ packet. (layers : Layers) × IsFrameIn headers ip slice.now layers
             × (headers_of packet ≡ headers_in layers)) }
@@ -145,13 +141,11 @@ impl<'a> PacketHeaders<'a> {
         ensures bytes { IfOk result (λ packet. LieIn (payload_part_bytes (payload_part_of packet.payload)) slice.now) }
         ensures err { IfErr result (RefusesFrameIn headers ip slice.now) }
     {
-        let mut result = Ok(PacketHeaders::room());
-        if let Ok(packet) = &mut result {
-            if let Err(error) = packet.fill(Entry::Ip, slice) {
-                return Err(error);
-            }
+        let mut packet = PacketHeaders::room();
+        match packet.fill(Entry::Ip, slice) {
+            Ok(()) => Ok(packet),
+            Err(error) => Err(error),
         }
-        result
     }
 
     /// The outermost VLAN tag, or the outermost two.
@@ -187,8 +181,7 @@ impl<'a> PacketHeaders<'a> {
     }
 
     /// A packet that is to be filled in: its headers are of IPv4 and TCP, as those of most packets, so that their room
-    /// is made once. A packet by value is filled in where its `Ok` stands, by a call of its own: so it is moved once,
-    /// and the caller moves and zeroes nothing.
+    /// is made once.
     #[inline(always)]
     fn room() -> PacketHeaders<'a> {
         PacketHeaders {
@@ -201,6 +194,9 @@ impl<'a> PacketHeaders<'a> {
     }
 
     /// Fills in the packet that begins with this, whatever the value held. A refusal leaves what was filled in so far.
+    /// It is not inlined, while the calls by value are: so a caller of these zeroes the room once, and moves it at most
+    /// once.
+    #[inline(never)]
     fn fill(&mut self, entry: Entry, bytes: &'a [u8]) -> Result<(), SliceError>
         ensures ok { OnOk result ((layers : Layers) × IsFrameIn headers entry bytes.now layers
             × (headers_of self.new ≡ headers_in layers)) }
