@@ -51,6 +51,12 @@ impl Balance {
         complement: usize::MAX,
     };
 
+    /// Whether there are fields.
+    #[inline]
+    pub fn is_there(&self) -> bool {
+        self.number != usize::MAX
+    }
+
     /// Writes a number.
     #[inline]
     pub fn put(&self, bytes: &mut [u8], number: u16) {

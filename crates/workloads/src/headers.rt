@@ -48,9 +48,13 @@ fn read_again(frames: &Frames, digest: &mut Digest) {
     }
 }
 
-/// Reads those of IP of each frame.
+/// Reads those of IP of each frame but those that are cut in front of their ports: without the hardware address, few of
+/// their packets differ.
 fn read_ip(frames: &Frames, digest: &mut Digest) {
     for place in frames.places.as_slice() {
+        if !place.ports.is_there() {
+            continue;
+        }
         digest.count_call();
         match IpHeaders::from_slice(place.packet_in(frames.bytes.as_slice())) {
             Ok((headers, payload)) => {
