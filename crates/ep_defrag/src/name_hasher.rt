@@ -21,10 +21,11 @@ const NUMBER_WAITS: u64 = 0x200;
 ///
 /// What waits begins with 1, or with 2 in front of a length, and its highest bit tells that another write follows: so
 /// writes that differ give std's hasher writes that differ. One factor of each multiplication is a constant, and the
-/// other has at most three bytes that a sender chooses. By these a product changes by 2^39 at the least, where the
-/// next three could take back 2^24 alone; four could be made to fit without a search. So two names that hash alike
-/// take one, of some 2^20 hashes. By std's hasher alone it is longer for addresses, and shorter for the identification
-/// of IPv6. A channel of eight bytes or more can be computed, by either. The start is fixed, as before.
+/// other has at most three bytes of an address. By these a product changes by 2^39 at the least, where the next three
+/// could take back 2^24 alone; four could be made to fit without a search. So two addresses that hash alike take a
+/// search of some 2^20 hashes, a longer one by std's hasher alone. The four bytes of IPv6's identification are given to
+/// that as they are: with them a search of some 2^17 is enough, by either. A channel of eight bytes or more can be
+/// computed, by either. The start is fixed, as before.
 #[derive(Clone, Copy)]
 pub(crate) struct NameHasher {
     state: FoldHasher,

@@ -217,8 +217,7 @@ fn put_ipv6_extensions<'a>(
             };
         }
     }
-    // Not reached: the room holds headers of IPv6.
-    Ok((number, false, content))
+    unreachable!()
 }
 
 /// Puts a header of IPv6 without extension headers into the room.
@@ -235,7 +234,7 @@ fn put_ipv6(net: &mut Option<NetHeaders>, header: Ipv6Header)
     replace_by_ipv6(net, header);
 }
 
-/// The same of a header of IPv6 without extension headers.
+/// Puts a header of IPv6 without extension headers in the place of whatever the room held. Apart, as that of IPv4.
 #[inline(never)]
 fn replace_by_ipv6(net: &mut Option<NetHeaders>, header: Ipv6Header)
     ensures { net.new ≡ Some (variant.Ipv6 header no_ipv6_extensions) }

@@ -194,8 +194,8 @@ impl<'a> PacketHeaders<'a> {
     }
 
     /// Fills in the packet that begins with this, whatever the value held. A refusal leaves what was filled in so far.
-    /// It is not inlined, while the calls by value are: so a caller of these zeroes the room once, and moves it at most
-    /// once.
+    /// It is not inlined, while the calls by value are: so a loop over these zeroes the room once a packet, and moves it
+    /// at most once.
     #[inline(never)]
     fn fill(&mut self, entry: Entry, bytes: &'a [u8]) -> Result<(), SliceError>
         ensures ok { OnOk result ((layers : Layers) × IsFrameIn headers entry bytes.now layers

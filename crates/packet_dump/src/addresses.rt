@@ -130,7 +130,7 @@ fn put_digit(text: &mut [u8], at: usize, digit: u8, is_kept: bool) -> usize
     at + usize::from(is_kept)
 }
 
-/// How many bytes the eight groups of an address of IPv6 take at most, with a colon behind each and one more.
+/// How many bytes the eight groups of an address of IPv6 take at most, with a colon behind each, and two more.
 const GROUPS_LEN: usize = 42;
 
 /// Appends an address of IPv6 in its shortest form (RFC 5952). One that stands for an address of IPv4 ends in that.
