@@ -1,6 +1,6 @@
 //! The extension headers of IPv6 by value (RFC 8200, 4.1).
 
-ghost use Rattle.std.specs.Prelude.{◌≡◌, ◌≤◌, ◌++◌, ◌↔◌, ◌==◌, List, true, false, IfOk, IfErr, IsOkAnd, Ok, Err, Some, None};
+ghost use Rattle.std.specs.Prelude.{◌≡◌, ◌≤◌, ◌++◌, ◌↔◌, ◌==◌, List, true, false, IfOk, IfErr, OnErr, IsOkAnd, Ok, Err, Some, None};
 ghost use Rattle.ep_base.specs.Readings.{headers};
 ghost use Rattle.ep_ext.specs.ExtensionParts.{ExtensionPart, IsExtensionPart, RefusesExtensionPart, part_next};
 ghost use Rattle.ep_ext.specs.Chains.{ipv6, ExtensionChain, IsExtensionChain, RefusesExtensionChain, chain_of, chain_fragments, is_ipv6_extension};
@@ -74,9 +74,9 @@ impl Ipv6Extensions {
         }
     }
 
-    /// Reads what [`Ipv6Extensions::from_slice`] reads into the value, whatever headers it held, and gives the number of
-    /// what follows them, and the bytes behind them. Headers are large: a caller that has room for them moves none. A
-    /// refusal leaves those before it.
+    /// Reads the extension headers at the start of the slice into this value, whatever headers it held, and returns the
+    /// number of the next header and the bytes after them, as [`Ipv6Extensions::from_slice`] does. Headers are large: a
+    /// caller that reuses a value moves none. An error leaves no headers in the value.
     #[inline]
     pub fn read_into<'a>(
         &mut self,
@@ -89,11 +89,15 @@ impl Ipv6Extensions {
             → IsOkAnd result (λ read. (self.new ≡ extensions_of chain.parts)
             × (read.0.0 ≡ chain.last) × (read.1.now ≡ chain.rest)) }
         ensures err { IfErr result (RefusesExtensionChain ipv6 headers number.0 slice.now) }
+        ensures none { OnErr result (self.new ≡ no_ipv6_extensions) }
     {
         self.clear();
         match self.fill(number, slice) {
             Ok(read) => Ok(read),
-            Err(error) => Err(error),
+            Err(error) => {
+                self.clear();
+                Err(error)
+            }
         }
     }
 
