@@ -88,17 +88,21 @@ fn push_behind_any(output: &mut Vec<u8>, text: &[u8], number: u64) -> Result<(),
     push(output, number)
 }
 
-/// Appends a number. It costs its digits, where `write!` costs several calls. Where there is room for any number, no
-/// branch has to ask for memory, and each is a few moves.
+/// Appends a number. It costs its digits, where `write!` costs several calls. With room for four digits below 10,000, or
+/// for ten below 10^10, no branch has to ask for memory, and each is a few moves.
 pub fn push(output: &mut Vec<u8>, number: u64) -> Result<(), AllocError>
     ensures text { OnOk result (output.new.items ≡ output.old.items ++ decimal number) }
     ensures full { OnErr result (vec_capacity output.old < vec_len output.old + length (decimal number)) }
 {
-    if output.capacity() - output.len() < MOST_DIGITS || number >= SHORT_END {
-        return push_any(output, number);
-    }
-    if number < 10_000 {
+    let room = output.capacity() - output.len();
+    if number < 10_000 && room >= 4 {
         push_four(output, number)
+    } else if number >= SHORT_END || room < 10 {
+        if number < 10 && room > 0 {
+            output.push_reserved(b'0' + number as u8);
+            return Ok(());
+        }
+        push_any(output, number)
     } else if number < 100_000_000 {
         push_eight(output, number)
     } else {
