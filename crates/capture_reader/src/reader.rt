@@ -447,6 +447,13 @@ fn drop_front(bytes: &mut Vec<u8>, count: usize)
         return;
     }
     let len = bytes.len();
-    bytes.copy_within(count..len, 0);
-    bytes.truncate(len - count);
+    let left = len - count;
+    // Without overlap, one call of the C library copies all, faster than a loop.
+    if left <= count {
+        let (read, kept) = bytes.as_mut_slice().split_at_mut(count);
+        read[..left].copy_from_slice(kept);
+    } else {
+        bytes.copy_within(count..len, 0);
+    }
+    bytes.truncate(left);
 }
