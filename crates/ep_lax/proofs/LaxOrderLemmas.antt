@@ -1,4 +1,4 @@
--- That bytes that are read laxly are the headers that stand, the payload of the last layer, and what the cuts left.
+-- Bytes that are read laxly are the headers of the layers in order, the payload of the last layer, and trailing bytes.
 use Rattle.std.proofs.Common.{◌≡◌, ℕ, ◌+◌, zero, suc, Bool, false, List, [], ◌∷◌, ◌++◌, map, Option, Some, None, refl, sym, ap, subst, ◌∙◌, inl, inr, append_assoc}
 use Rattle.std.proofs.lemmas.List.{append-nil}
 use Rattle.ep_base.specs.IpPayload.{IpPayload}
@@ -17,19 +17,20 @@ use Rattle.ep_ip.specs.Ipv6.{ipv6_bytes}
 use Rattle.ep_link.specs.Arp.{arp_bytes}
 use Rattle.ep_link.specs.Ethernet2.{ethernet2_bytes, ethernet2_header_len}
 use Rattle.ep_link.specs.LinkExtensions.{LinkExtension, vlan, macsec, EncodesTag, extension_header, extension_payload, extension_type, link_ext_header_len}
-use Rattle.ep_link.specs.LinkSlices.{LinkLayer, ethernet2, linux_sll as sll, ether_payload, link_layer_payload}
+use Rattle.ep_link.specs.LinkSlices.{ethernet2, linux_sll as sll, ether_payload}
 use Rattle.ep_link.specs.LinuxSll.{linux_sll_bytes, linux_sll_header_len, protocol_ether_type}
 use Rattle.ep_link.specs.Macsec.{macsec_payload_bytes}
 use Rattle.ep_link.specs.Vlan.{vlan_bytes}
 use Rattle.ep_transport.specs.declared.transport_header.TransportHeader.{TransportHeader}
 use Rattle.ep_transport.specs.declared.transport_header.TransportHeader.TheVariants as header
-use Rattle.ep_transport.specs.TransportParts.{TransportLayer, transport_layer, AreTransport, payload_in}
+use Rattle.ep_transport.specs.TransportParts.{TransportLayer, transport_layer, AreTransport}
 use Rattle.ep_transport.proofs.TransportLemmas.{transport_bytes_are}
 use Rattle.ep_packet.specs.declared.entry.Entry.{Entry}
 use Rattle.ep_packet.specs.declared.entry.Entry.TheVariants.{Ethernet as ethernet, LinuxSll as linux_sll, EtherType as ether_type, Ip as ip}
 use Rattle.ep_packet.specs.Frame.{NetKind, only_ipv4, only_ipv6, only_arp, any_ip, net_kind, most_link_exts}
-use Rattle.ep_packet.specs.FrameBytes.{AreInOrder, EncodesLink, EncodesNet, behind_net, inner_payload, link_payload, payload_behind}
-use Rattle.ep_packet.specs.Layers.{Layers, NetLayer, arp, ipv4_layer, ipv6_layer}
+use Rattle.ep_packet.specs.FrameBytes.{AreInOrder, EncodesNet, behind_net}
+use Rattle.ep_packet.proofs.OrderLemmas.{InsideBytes, frame_bytes, ip_bytes, net_layer_bytes, no_layer_bytes, tagged_bytes}
+use Rattle.ep_packet.specs.Layers.{NetLayer, arp, ipv4_layer, ipv6_layer}
 use Rattle.ep_lax.specs.Lax.{IsCutLaxly, IsHeaderCutLaxly, IsInsideIp, IsIpv4Net, IsIpv6Net, IsLax, IsLaxExtension, IsLaxInside, IsLaxNet, IsLaxTransport}
 use Rattle.ep_lax.specs.LaxIp.{LaxIp, IsLaxIpv4, IsLaxIpv6}
 use Rattle.ep_lax.specs.LaxLayers.{LaxLayers, LaxNet, LaxTransport}
@@ -38,73 +39,73 @@ use Rattle.ep_lax.proofs.LaxMacsecLemmas.{payload_by_is}
 
 -- ---- extension headers
 
--- the bytes of one
-part_bytes_are : (number : ℕ) (bytes : List ℕ) (part : ExtensionPart) (behind : List ℕ)
-    → IsExtensionPart number bytes part behind
-    → (front : List ℕ) × EncodesPart front part × (bytes ≡ front ++ behind)
-part_bytes_are number bytes (hop_by_hop header) behind is =
+-- the bytes of an extension header
+part_bytes_are : (number : ℕ) (bytes : List ℕ) (part : ExtensionPart) (rest : List ℕ)
+    → IsExtensionPart number bytes part rest
+    → (encoded : List ℕ) × EncodesPart encoded part × (bytes ≡ encoded ++ rest)
+part_bytes_are number bytes (hop_by_hop header) rest is =
     (raw_extension_bytes header, (is.1.fits, refl), is.1.parts)
-part_bytes_are number bytes (destination_options header) behind is =
+part_bytes_are number bytes (destination_options header) rest is =
     (raw_extension_bytes header, (is.1.fits, refl), is.1.parts)
-part_bytes_are number bytes (routing header) behind is =
+part_bytes_are number bytes (routing header) rest is =
     (raw_extension_bytes header, (is.1.fits, refl), is.1.parts)
-part_bytes_are number bytes (fragment header) behind is = (is.1.encoded, is.1.encodes, is.1.parts)
-part_bytes_are number bytes (authentication header) behind is = (is.1.encoded, is.1.encodes, is.1.parts)
+part_bytes_are number bytes (fragment header) rest is = (is.1.encoded, is.1.encodes, is.1.parts)
+part_bytes_are number bytes (authentication header) rest is = (is.1.encoded, is.1.encodes, is.1.parts)
 
--- those of the headers in front of a refused one
-front_bytes_are : (number : ℕ) (bytes : List ℕ) (parts : List ExtensionPart) (last : ℕ) (rest : List ℕ)
+-- the bytes of the extension headers before a rejected one
+parts_bytes_are : (number : ℕ) (bytes : List ℕ) (parts : List ExtensionPart) (last : ℕ) (rest : List ℕ)
     → AreInFront number bytes parts last rest
     → (encoded : List ℕ) × EncodesParts encoded parts × (bytes ≡ encoded ++ rest)
-front_bytes_are number bytes [] last rest is = ([], refl, sym is.1)
-front_bytes_are number bytes (part ∷ parts) last rest is =
+parts_bytes_are number bytes [] last rest is = ([], refl, sym is.1)
+parts_bytes_are number bytes (part ∷ parts) last rest is =
     let here = part_bytes_are number bytes part is.0 is.1 in
-    let more = front_bytes_are (part_next part) is.0 parts last rest is.2 in (
+    let more = parts_bytes_are (part_next part) is.0 parts last rest is.2 in (
       here.0 ++ more.0,
       (here.0, more.0, here.1, more.1, refl),
       here.2 ∙ ap (λ (s : List ℕ). here.0 ++ s) more.2 ∙ sym (append_assoc here.0 more.0 rest),
     )
 
--- those of the headers that stand
+-- the bytes of the extension headers that are read
 chain_bytes_are : (version : IpVersion) (number : ℕ) (bytes : List ℕ) (chain : ExtensionChain)
     (refused : Option HeaderSliceError) → IsFrontChain version number bytes chain refused
     → (encoded : List ℕ) × EncodesParts encoded chain.parts × (bytes ≡ encoded ++ chain.rest)
 chain_bytes_are version number bytes chain None is = chain_encoded version slices number bytes chain is
 chain_bytes_are version number bytes chain (Some error) is =
-    front_bytes_are number bytes chain.parts chain.last chain.rest is.1
+    parts_bytes_are number bytes chain.parts chain.last chain.rest is.1
 
--- ---- the net layer
+-- ---- the network layer
 
--- bytes are the headers of a net layer, its payload, and what is left
-record NetInFront (bytes : List ℕ) (layer : NetLayer) : Type 0 where
-  front : List ℕ
+-- The bytes are the headers of a network layer, its payload, and trailing bytes.
+record NetBytes (bytes : List ℕ) (layer : NetLayer) : Type 0 where
+  header : List ℕ
   left : List ℕ
-  encodes : EncodesNet (Some layer) front
-  parts : bytes ≡ (front ++ behind_net bytes (Some layer)) ++ left
+  encodes : EncodesNet (Some layer) header
+  parts : bytes ≡ (header ++ behind_net [] (Some layer)) ++ left
 
--- a header, extension headers, a payload and what is left, grouped anew
-regroup : (bytes front behind content inner payload left : List ℕ) → bytes ≡ front ++ behind
-    → behind ≡ content ++ left → content ≡ inner ++ payload → bytes ≡ ((front ++ inner) ++ payload) ++ left
-regroup bytes front behind content inner payload left parts cut inside =
-    parts ∙ ap (λ (x : List ℕ). front ++ x) (cut ∙ ap (λ (x : List ℕ). x ++ left) inside) ∙ simp append_assoc
+-- a header, extension headers, a payload and trailing bytes, with both kinds of headers joined
+regroup : (bytes header rest content inner payload left : List ℕ) → bytes ≡ header ++ rest
+    → rest ≡ content ++ left → content ≡ inner ++ payload → bytes ≡ ((header ++ inner) ++ payload) ++ left
+regroup bytes header rest content inner payload left parts rest_is content_is =
+    parts ∙ ap (λ (x : List ℕ). header ++ x) (rest_is ∙ ap (λ (x : List ℕ). x ++ left) content_is) ∙ simp append_assoc
 
-ipv4_in_front : (outer : Bool) (bytes : List ℕ) (lax : LaxIp Ipv4Header) → IsLaxIpv4 outer bytes lax
-    → NetInFront bytes (ipv4_layer lax.packet)
-ipv4_in_front outer bytes lax (read, stands, is) =
+ipv4_net_bytes : (outer : Bool) (bytes : List ℕ) (lax : LaxIp Ipv4Header) → IsLaxIpv4 outer bytes lax
+    → NetBytes bytes (ipv4_layer lax.packet)
+ipv4_net_bytes outer bytes lax (read, stands, is) =
     let chain = chain_bytes_are ipv4 read.0.protocol.0 is.cut.payload is.chain is.refused is.front in
-    subst (λ (l : LaxIp Ipv4Header). NetInFront bytes (ipv4_layer l.packet)) (sym is.is) (record {
-      front = stands.encoded ++ chain.0;
+    subst (λ (l : LaxIp Ipv4Header). NetBytes bytes (ipv4_layer l.packet)) (sym is.is) (record {
+      header = stands.encoded ++ chain.0;
       left = is.cut.left;
       encodes = (stands.encoded, chain.0, stands.encodes, chain.1, refl);
       parts = regroup bytes stands.encoded read.1 is.cut.payload chain.0 is.chain.rest is.cut.left stands.parts
           is.cuts.parts chain.2;
     })
 
-ipv6_in_front : (outer : Bool) (bytes : List ℕ) (lax : LaxIp Ipv6Header) → IsLaxIpv6 outer bytes lax
-    → NetInFront bytes (ipv6_layer lax.packet)
-ipv6_in_front outer bytes lax (read, stands, is) =
+ipv6_net_bytes : (outer : Bool) (bytes : List ℕ) (lax : LaxIp Ipv6Header) → IsLaxIpv6 outer bytes lax
+    → NetBytes bytes (ipv6_layer lax.packet)
+ipv6_net_bytes outer bytes lax (read, stands, is) =
     let chain = chain_bytes_are ipv6 read.0.next_header.0 is.cut.payload is.chain is.refused is.front in
-    subst (λ (l : LaxIp Ipv6Header). NetInFront bytes (ipv6_layer l.packet)) (sym is.is) (record {
-      front = ipv6_bytes read.0 ++ chain.0;
+    subst (λ (l : LaxIp Ipv6Header). NetBytes bytes (ipv6_layer l.packet)) (sym is.is) (record {
+      header = ipv6_bytes read.0 ++ chain.0;
       left = is.cut.left;
       encodes = (stands.fits, (chain.0, chain.1, refl));
       parts = regroup bytes (ipv6_bytes read.0) read.1 is.cut.payload chain.0 is.chain.rest is.cut.left stands.parts
@@ -113,11 +114,11 @@ ipv6_in_front outer bytes lax (read, stands, is) =
 
 -- ---- the transport layer
 
--- no layer
+-- no transport layer
 no_transport_in : (bytes : List ℕ) → AreTransport bytes None
 no_transport_in bytes = record { header = []; left = []; encodes = refl; parts = sym (append-nil bytes) }
 
--- a layer of which the length field cuts where it can
+-- a layer whose payload is limited by its length field, if the field allows it
 cut_in_order : (outer : Bool) (bytes : List ℕ) (h : TransportHeader) (payload : List ℕ) (lax : LaxTransport)
     → AreTransport bytes (Some (transport_layer h payload)) → IsHeaderCutLaxly outer h payload lax
     → AreTransport bytes lax.layer
@@ -142,7 +143,7 @@ part_in_order outer bytes None lax are same =
     subst (λ (l : LaxTransport). AreTransport bytes l.layer) (sym same) are
 part_in_order outer bytes (Some layer) lax are is = cut_in_order outer bytes layer.header layer.payload lax are is
 
--- the layer in a payload of IP
+-- the transport layer in a payload of IP
 transport_in_order : (offset : ℕ) (outer : Bool) (payload : IpPayload) (lax : LaxTransport)
     → IsLaxTransport offset outer payload lax → AreTransport payload.bytes lax.layer
 transport_in_order offset outer payload lax (inl refused) =
@@ -158,75 +159,40 @@ inside_in_order version offset len outer payload None lax is = transport_in_orde
 inside_in_order version offset len outer payload (Some refused) lax same =
     subst (λ (l : LaxTransport). AreTransport payload.bytes l.layer) (sym same) (no_transport_in payload.bytes)
 
--- ---- what bytes of a type hold
+-- ---- the layers after the link header
 
--- the layers of bytes that are the payload of a link layer: of which type they are does not matter here
-abbrev layers_behind : List ℕ → List LinkExtension → Option NetLayer → Option TransportLayer → Layers
-layers_behind bytes extensions net transport = record {
-  link = Some (ether_payload (record { 0 = 0 }) source.Slice bytes);
-  link_exts = extensions;
-  net = net;
-  transport = transport;
-}
-
--- no layer
-none_in_order : (bytes : List ℕ) → AreInOrder bytes (layers_behind bytes [] None None)
-none_in_order bytes = record {
-  link = [];
-  tags = [];
-  net = [];
-  transport = [];
-  left = [];
-  link_header = refl;
-  tag_headers = refl;
-  net_header = refl;
-  transport_header = refl;
-  parts = sym (append-nil bytes);
-}
-
--- a net layer with what is in it
-layer_in_order : (bytes : List ℕ) (layer : NetLayer) (transport : Option TransportLayer) → NetInFront bytes layer
-    → AreTransport (behind_net bytes (Some layer)) transport
-    → AreInOrder bytes (layers_behind bytes [] (Some layer) transport)
-layer_in_order bytes layer transport are inside = record {
-  link = [];
-  tags = [];
-  net = are.front;
-  transport = inside.header;
-  left = inside.left ++ are.left;
-  link_header = refl;
-  tag_headers = refl;
-  net_header = are.encodes;
-  transport_header = inside.encodes;
-  parts = are.parts ∙ ap (λ (x : List ℕ). (are.front ++ x) ++ are.left) inside.parts ∙ simp append_assoc;
-}
+-- a network layer that is read, with the transport layer in its payload
+layer_in_order : (bytes : List ℕ) (layer : NetLayer) (transport : Option TransportLayer) → NetBytes bytes layer
+    → AreTransport (behind_net [] (Some layer)) transport → InsideBytes bytes [] (Some layer) transport
+layer_in_order bytes layer transport are inside =
+    net_layer_bytes bytes are.header are.left layer transport are.encodes are.parts inside
 
 ipv4_net_in_order : (offset : ℕ) (outer : Bool) (bytes : List ℕ) (net : LaxNet) → IsIpv4Net offset outer bytes net
-    → AreInOrder bytes (layers_behind bytes [] net.layer net.inside.layer)
+    → InsideBytes bytes [] net.layer net.inside.layer
 ipv4_net_in_order offset outer bytes net (lax, is, (inside, inner, same)) =
-    subst (λ (n : LaxNet). AreInOrder bytes (layers_behind bytes [] n.layer n.inside.layer)) (sym same)
-    (layer_in_order bytes (ipv4_layer lax.packet) inside.layer (ipv4_in_front outer bytes lax is)
+    subst (λ (n : LaxNet). InsideBytes bytes [] n.layer n.inside.layer) (sym same)
+    (layer_in_order bytes (ipv4_layer lax.packet) inside.layer (ipv4_net_bytes outer bytes lax is)
     (inside_in_order ipv4 offset _ lax.incomplete lax.packet.payload lax.stop inside inner))
 
 ipv6_net_in_order : (offset : ℕ) (outer : Bool) (bytes : List ℕ) (net : LaxNet) → IsIpv6Net offset outer bytes net
-    → AreInOrder bytes (layers_behind bytes [] net.layer net.inside.layer)
+    → InsideBytes bytes [] net.layer net.inside.layer
 ipv6_net_in_order offset outer bytes net (lax, is, (inside, inner, same)) =
-    subst (λ (n : LaxNet). AreInOrder bytes (layers_behind bytes [] n.layer n.inside.layer)) (sym same)
-    (layer_in_order bytes (ipv6_layer lax.packet) inside.layer (ipv6_in_front outer bytes lax is)
+    subst (λ (n : LaxNet). InsideBytes bytes [] n.layer n.inside.layer) (sym same)
+    (layer_in_order bytes (ipv6_layer lax.packet) inside.layer (ipv6_net_bytes outer bytes lax is)
     (inside_in_order ipv6 offset _ lax.incomplete lax.packet.payload lax.stop inside inner))
 
--- no net layer, for a reason or none
+-- no network layer is read
 no_net_in_order : (bytes : List ℕ) (net other : LaxNet) → other.layer ≡ None → other.inside.layer ≡ None → net ≡ other
-    → AreInOrder bytes (layers_behind bytes [] net.layer net.inside.layer)
+    → InsideBytes bytes [] net.layer net.inside.layer
 no_net_in_order bytes net other no_layer no_transport same =
     let layer : net.layer ≡ None = (λ i. (same i).layer) ∙ no_layer in
     let inside : net.inside.layer ≡ None = (λ i. (same i).inside.layer) ∙ no_transport in
-    subst (λ (n : Option NetLayer). AreInOrder bytes (layers_behind bytes [] n net.inside.layer)) (sym layer)
-    (subst (λ (t : Option TransportLayer). AreInOrder bytes (layers_behind bytes [] None t)) (sym inside)
-    (none_in_order bytes))
+    subst (λ (n : Option NetLayer). InsideBytes bytes [] n net.inside.layer) (sym layer)
+    (subst (λ (t : Option TransportLayer). InsideBytes bytes [] None t) (sym inside)
+    (no_layer_bytes bytes))
 
 net_in_order : (offset : ℕ) (outer : Bool) (kind : Option NetKind) (bytes : List ℕ) (net : LaxNet)
-    → IsLaxNet offset outer kind bytes net → AreInOrder bytes (layers_behind bytes [] net.layer net.inside.layer)
+    → IsLaxNet offset outer kind bytes net → InsideBytes bytes [] net.layer net.inside.layer
 net_in_order offset outer None bytes net same = no_net_in_order bytes net _ refl refl same
 net_in_order offset outer (Some only_ipv4) bytes net (inl refused) = no_net_in_order bytes net _ refl refl refused.2
 net_in_order offset outer (Some only_ipv4) bytes net (inr is) = ipv4_net_in_order offset outer bytes net is
@@ -234,171 +200,78 @@ net_in_order offset outer (Some only_ipv6) bytes net (inl refused) = no_net_in_o
 net_in_order offset outer (Some only_ipv6) bytes net (inr is) = ipv6_net_in_order offset outer bytes net is
 net_in_order offset outer (Some only_arp) bytes net (inl refused) = no_net_in_order bytes net _ refl refl refused.2
 net_in_order offset outer (Some only_arp) bytes net (inr (part, is, same)) =
-    subst (λ (n : LaxNet). AreInOrder bytes (layers_behind bytes [] n.layer n.inside.layer)) (sym same)
-    (layer_in_order bytes (arp part.0) None
-    (record {
-      front = arp_bytes part.0;
-      left = part.1;
-      encodes = (is.fits, refl);
-      parts = is.parts ∙ ap (λ (x : List ℕ). x ++ part.1) (sym (append-nil (arp_bytes part.0)));
-    })
-    (no_transport_in []))
+    subst (λ (n : LaxNet). InsideBytes bytes [] n.layer n.inside.layer) (sym same)
+    (net_layer_bytes bytes (arp_bytes part.0) part.1 (arp part.0) None (is.fits, refl)
+    (is.parts ∙ ap (λ (x : List ℕ). x ++ part.1) (sym (append-nil (arp_bytes part.0)))) (no_transport_in []))
 net_in_order offset outer (Some any_ip) bytes net (inl is) = ipv4_net_in_order offset outer bytes net is
 net_in_order offset outer (Some any_ip) bytes net (inr is) = ipv6_net_in_order offset outer bytes net is
 
--- the bytes of a tag, of its payload, and of what the cut left
-record TagInFront (bytes : List ℕ) (extension : LinkExtension) : Type 0 where
+-- The bytes are a tag, its payload, and trailing bytes.
+record TagBytes (bytes : List ℕ) (extension : LinkExtension) : Type 0 where
   tag : List ℕ
   left : List ℕ
   encodes : EncodesTag extension tag
-  parts : bytes ≡ tag ++ (extension_payload extension ++ left)
+  parts : bytes ≡ (tag ++ extension_payload extension) ++ left
 
-tag_in_front : (outer : Bool) (type : EtherType) (bytes : List ℕ) (extension : LinkExtension × Bool)
-    → IsLaxExtension outer type bytes extension → TagInFront bytes extension.0
-tag_in_front outer type bytes (vlan tag payload, incomplete) is = record {
+tag_bytes : (outer : Bool) (type : EtherType) (bytes : List ℕ) (extension : LinkExtension × Bool)
+    → IsLaxExtension outer type bytes extension → TagBytes bytes extension.0
+tag_bytes outer type bytes (vlan tag payload, incomplete) is = record {
   tag = vlan_bytes tag;
   left = [];
   encodes = (is.1.fits, refl);
-  parts = is.1.parts ∙ append_assoc (vlan_bytes tag) payload [];
+  parts = is.1.parts;
 }
-tag_in_front outer type bytes (macsec tag payload, incomplete) (of_type, (cut, is, payload_is, missing)) = record {
+tag_bytes outer type bytes (macsec tag payload, incomplete) (of_type, (cut, is, payload_is, missing)) = record {
   tag = is.stands.encoded;
   left = cut.left;
   encodes = is.stands.encodes;
   parts = is.stands.parts ∙ ap (λ (x : List ℕ). is.stands.encoded ++ x) (is.cut.parts
       ∙ ap (λ (x : List ℕ). x ++ cut.left)
-      (sym (ap macsec_payload_bytes payload_is ∙ payload_by_is tag.ptype cut.source cut.payload)));
+      (sym (ap macsec_payload_bytes payload_is ∙ payload_by_is tag.ptype cut.source cut.payload)))
+      ∙ sym (append_assoc is.stands.encoded (macsec_payload_bytes payload) cut.left);
 }
 
--- a tag before what its payload holds
-tag_in_order : (bytes : List ℕ) (extension : LinkExtension) (others : List LinkExtension) (net : Option NetLayer)
-    (transport : Option TransportLayer) → TagInFront bytes extension
-    → AreInOrder (extension_payload extension) (layers_behind (extension_payload extension) others net transport)
-    → AreInOrder bytes (layers_behind bytes (extension ∷ others) net transport)
-tag_in_order bytes extension others net transport are inside =
-    let within = inside.tags ++ (inside.net ++ (inside.transport
-    ++ (inner_payload (payload_behind (extension_payload extension) others) net transport ++ inside.left))) in
-    let payload : extension_payload extension ≡ within =
-    inside.parts ∙ ap (λ (link : List ℕ). link ++ within) inside.link_header in
-    record {
-      link = [];
-      tags = are.tag ++ inside.tags;
-      net = inside.net;
-      transport = inside.transport;
-      left = inside.left ++ are.left;
-      link_header = refl;
-      tag_headers = (are.tag, inside.tags, are.encodes, inside.tag_headers, refl);
-      net_header = inside.net_header;
-      transport_header = inside.transport_header;
-      parts = are.parts ∙ ap (λ (x : List ℕ). are.tag ++ (x ++ are.left)) payload ∙ simp append_assoc;
-    }
-
-behind_in_order : (room offset : ℕ) (outer : Bool) (type : Option EtherType) (bytes : List ℕ)
+extensions_in_order : (room offset : ℕ) (outer : Bool) (type : Option EtherType) (bytes : List ℕ)
     (extensions : List (LinkExtension × Bool)) (net : LaxNet) → IsLaxInside room offset outer type bytes extensions net
-    → AreInOrder bytes (layers_behind bytes (map extension_in extensions) net.layer net.inside.layer)
-behind_in_order room offset outer None bytes extensions net (no_tags, same) =
-    subst (λ (x : List (LinkExtension × Bool)). AreInOrder bytes
-    (layers_behind bytes (map extension_in x) net.layer net.inside.layer)) (sym no_tags)
+    → InsideBytes bytes (map extension_in extensions) net.layer net.inside.layer
+extensions_in_order room offset outer None bytes extensions net (no_tags, same) =
+    subst (λ (x : List (LinkExtension × Bool)). InsideBytes bytes (map extension_in x) net.layer net.inside.layer)
+    (sym no_tags)
     (no_net_in_order bytes net _ refl refl same)
-behind_in_order zero offset outer (Some type) bytes [] net is = net_in_order offset outer (net_kind type) bytes net is
-behind_in_order zero offset outer (Some type) bytes (extension ∷ others) net is = absurd is
-behind_in_order (suc room) offset outer (Some type) bytes [] net (inl is) =
+extensions_in_order zero offset outer (Some type) bytes [] net is = net_in_order offset outer (net_kind type) bytes net is
+extensions_in_order zero offset outer (Some type) bytes (extension ∷ others) net is = absurd is
+extensions_in_order (suc room) offset outer (Some type) bytes [] net (inl is) =
     net_in_order offset outer (net_kind type) bytes net is.1
-behind_in_order (suc room) offset outer (Some type) bytes [] net (inr refused) =
+extensions_in_order (suc room) offset outer (Some type) bytes [] net (inr refused) =
     no_net_in_order bytes net _ refl refl refused.2
-behind_in_order (suc room) offset outer (Some type) bytes (extension ∷ others) net is =
-    tag_in_order bytes extension.0 (map extension_in others) net.layer net.inside.layer
-    (tag_in_front outer type bytes extension is.0)
-    (behind_in_order room (offset + link_ext_header_len (extension_header extension.0)) extension.1
+extensions_in_order (suc room) offset outer (Some type) bytes (extension ∷ others) net is =
+    let are = tag_bytes outer type bytes extension is.0 in
+    tagged_bytes bytes are.tag are.left extension.0 (map extension_in others) net.layer net.inside.layer are.encodes
+    are.parts
+    (extensions_in_order room (offset + link_ext_header_len (extension_header extension.0)) extension.1
     (extension_type extension.0) (extension_payload extension.0) others net is.1)
 
--- ---- the whole
-
--- a link header before what its payload holds
-link_in_order : (bytes header left : List ℕ) (link : LinkLayer) (layers : Layers) → EncodesLink (Some link) header
-    → bytes ≡ (header ++ link_layer_payload link) ++ left → layers.link ≡ Some link
-    → AreInOrder (link_layer_payload link)
-    (layers_behind (link_layer_payload link) layers.link_exts layers.net layers.transport)
-    → AreInOrder bytes layers
-link_in_order bytes header left link layers encodes parts same inside =
-    let within = inside.tags ++ (inside.net ++ (inside.transport
-    ++ (inner_payload (payload_behind (link_layer_payload link) layers.link_exts) layers.net layers.transport
-    ++ inside.left))) in
-    let payload : link_layer_payload link ≡ within =
-    inside.parts ∙ ap (λ (l : List ℕ). l ++ within) inside.link_header in
-    record {
-      link = header;
-      tags = inside.tags;
-      net = inside.net;
-      transport = inside.transport;
-      left = inside.left ++ left;
-      link_header = subst (λ (x : Option LinkLayer). EncodesLink x header) (sym same) encodes;
-      tag_headers = inside.tag_headers;
-      net_header = inside.net_header;
-      transport_header = inside.transport_header;
-      parts = parts ∙ ap (λ (x : List ℕ). (header ++ x) ++ left) payload
-          ∙ the_same
-          ∙ ap (λ (x : Option LinkLayer). header ++ (inside.tags ++ (inside.net ++ (inside.transport
-          ++ (inner_payload (payload_behind (link_payload x) layers.link_exts) layers.net layers.transport
-          ++ (inside.left ++ left)))))) (sym same);
-    }
-  where
-    the_same : (header ++ (inside.tags ++ (inside.net ++ (inside.transport
-        ++ (inner_payload (payload_behind (link_layer_payload link) layers.link_exts) layers.net layers.transport
-        ++ inside.left))))) ++ left
-        ≡ header ++ (inside.tags ++ (inside.net ++ (inside.transport
-        ++ (inner_payload (payload_behind (link_payload (Some link)) layers.link_exts) layers.net layers.transport
-        ++ (inside.left ++ left)))))
-    the_same = simp append_assoc
-
--- an IP packet of its own, of which the layers lie in no link layer
-ip_in_order : (bytes : List ℕ) (layers : Layers) (layer : NetLayer) → layers.link ≡ None → layers.link_exts ≡ []
-    → layers.net ≡ Some layer → behind_net bytes (Some layer) ≡ behind_net [] (Some layer)
-    → AreInOrder bytes (layers_behind bytes [] layers.net layers.transport) → AreInOrder bytes layers
-ip_in_order bytes layers layer no_link no_tags same behind inside =
-    let content : behind_net bytes layers.net ≡ behind_net [] layers.net =
-    subst (λ (n : Option NetLayer). behind_net bytes n ≡ behind_net [] n) (sym same) behind in
-    let moved : AreInOrder bytes
-    (record { link = None; link_exts = []; net = layers.net; transport = layers.transport }) =
-    record {
-      link = inside.link;
-      tags = inside.tags;
-      net = inside.net;
-      transport = inside.transport;
-      left = inside.left;
-      link_header = inside.link_header;
-      tag_headers = inside.tag_headers;
-      net_header = inside.net_header;
-      transport_header = inside.transport_header;
-      parts = inside.parts ∙ ap (λ (x : List ℕ). inside.link ++ (inside.tags ++ (inside.net ++ (inside.transport
-          ++ (payload_in x layers.transport ++ inside.left))))) content;
-    } in
-    subst (λ (link : Option LinkLayer). AreInOrder bytes
-    (record { link = link; link_exts = layers.link_exts; net = layers.net; transport = layers.transport }))
-    (sym no_link)
-    (subst (λ (tags : List LinkExtension). AreInOrder bytes
-    (record { link = None; link_exts = tags; net = layers.net; transport = layers.transport }))
-    (sym no_tags) moved)
+-- ---- the frame
 
 pub lax_in_order : (entry : Entry) (bytes : List ℕ) (read : LaxLayers) → IsLax entry bytes read
     → AreInOrder bytes (layers_in read)
 lax_in_order ethernet bytes read (frame, is, link, inside) =
-    link_in_order bytes (ethernet2_bytes frame.header) frame.left (ethernet2 frame.header frame.payload)
+    frame_bytes bytes (ethernet2_bytes frame.header) frame.left (ethernet2 frame.header frame.payload)
     (layers_in read) (is.fits, refl) is.parts link
-    (behind_in_order most_link_exts ethernet2_header_len false (Some frame.header.ether_type) frame.payload
+    (extensions_in_order most_link_exts ethernet2_header_len false (Some frame.header.ether_type) frame.payload
     read.link_exts read.net inside)
 lax_in_order linux_sll bytes read (frame, is, link, inside) =
-    link_in_order bytes (linux_sll_bytes frame.header) frame.left (sll frame.header frame.payload)
+    frame_bytes bytes (linux_sll_bytes frame.header) frame.left (sll frame.header frame.payload)
     (layers_in read) (is.fits, refl) is.parts link
-    (behind_in_order most_link_exts linux_sll_header_len false (protocol_ether_type frame.header.protocol_type)
+    (extensions_in_order most_link_exts linux_sll_header_len false (protocol_ether_type frame.header.protocol_type)
     frame.payload read.link_exts read.net inside)
 lax_in_order (ether_type type) bytes read (link, inside) =
-    link_in_order bytes [] [] (ether_payload type source.Slice bytes) (layers_in read) refl
+    frame_bytes bytes [] [] (ether_payload type source.Slice bytes) (layers_in read) refl
     (sym (append-nil bytes)) link
-    (behind_in_order most_link_exts 0 false (Some type) bytes read.link_exts read.net inside)
+    (extensions_in_order most_link_exts 0 false (Some type) bytes read.link_exts read.net inside)
 lax_in_order ip bytes read (no_link, no_tags, inl is) =
-    ip_in_order bytes (layers_in read) (ipv4_layer is.0.packet) no_link (ap (map extension_in) no_tags)
-    (λ i. (is.2.2 i).layer) refl (ipv4_net_in_order 0 false bytes read.net is)
+    ip_bytes bytes (layers_in read) (ipv4_layer is.0.packet) no_link (ap (map extension_in) no_tags)
+    (λ i. (is.2.2 i).layer) (ipv4_net_in_order 0 false bytes read.net is)
 lax_in_order ip bytes read (no_link, no_tags, inr is) =
-    ip_in_order bytes (layers_in read) (ipv6_layer is.0.packet) no_link (ap (map extension_in) no_tags)
-    (λ i. (is.2.2 i).layer) refl (ipv6_net_in_order 0 false bytes read.net is)
+    ip_bytes bytes (layers_in read) (ipv6_layer is.0.packet) no_link (ap (map extension_in) no_tags)
+    (λ i. (is.2.2 i).layer) (ipv6_net_in_order 0 false bytes read.net is)

@@ -15,5 +15,5 @@ pub mod LaxPayloadLemmas
 pub mod MoreTransportLemmas
 pub mod MoreIpLemmas
 pub mod MoreBytesLemmas
-pub mod HeaderBytesLemmas
 pub mod LaxOrderLemmas
+pub mod OrderHeaderLemmas

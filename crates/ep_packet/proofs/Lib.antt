@@ -2,6 +2,7 @@ pub mod AlikeLemmas
 pub mod CutRefusalLemmas
 pub mod DeciderLemmas
 pub mod EntryLemmas
+pub mod OrderLemmas
 pub mod FrameBytesLemmas
 pub mod FrameLemmas
 pub mod InsideLemmas

@@ -56,8 +56,8 @@ tags_encoded (extension ∷ others) bytes encodes = omega (
   tags_encoded others encodes.1 encodes.3,
 )
 
--- of an extension header of IP, and of some
-part_encoded : (part : ExtensionPart) (bytes : List ℕ) → EncodesPart bytes part → length bytes ≡ part_len part
+-- the length of an extension header of IP, and of a list of them
+pub part_encoded : (part : ExtensionPart) (bytes : List ℕ) → EncodesPart bytes part → length bytes ≡ part_len part
 part_encoded (hop_by_hop header) bytes encodes = ap length encodes.1 ∙ grind (arith, common_steps)
 part_encoded (destination_options header) bytes encodes = ap length encodes.1 ∙ grind (arith, common_steps)
 part_encoded (routing header) bytes encodes = ap length encodes.1 ∙ grind (arith, common_steps)

@@ -105,7 +105,7 @@ impl<'a> PacketHeaders<'a> {
         ensures err { IfErr result (RefusesFrameIn headers ethernet slice.now) }
     {
         let mut packet = PacketHeaders::room();
-        match packet.fill(Entry::Ethernet, slice) {
+        match packet.fill_outlined(Entry::Ethernet, slice) {
             Ok(()) => Ok(packet),
             Err(error) => Err(error),
         }
@@ -125,7 +125,7 @@ impl<'a> PacketHeaders<'a> {
         ensures err { IfErr result (RefusesFrameIn headers (of_type ether_type) slice.now) }
     {
         let mut packet = PacketHeaders::room();
-        match packet.fill(Entry::EtherType(ether_type), slice) {
+        match packet.fill_outlined(Entry::EtherType(ether_type), slice) {
             Ok(()) => Ok(packet),
             Err(error) => Err(error),
         }
@@ -142,7 +142,7 @@ impl<'a> PacketHeaders<'a> {
         ensures err { IfErr result (RefusesFrameIn headers ip slice.now) }
     {
         let mut packet = PacketHeaders::room();
-        match packet.fill(Entry::Ip, slice) {
+        match packet.fill_outlined(Entry::Ip, slice) {
             Ok(()) => Ok(packet),
             Err(error) => Err(error),
         }
@@ -194,9 +194,7 @@ impl<'a> PacketHeaders<'a> {
     }
 
     /// Fills in the packet that begins with this, whatever the value held. A refusal leaves what was filled in so far.
-    /// It is not inlined, while the calls by value are: so a loop over these zeroes the room once a packet, and moves it
-    /// at most once.
-    #[inline(never)]
+    #[inline(always)]
     fn fill(&mut self, entry: Entry, bytes: &'a [u8]) -> Result<(), SliceError>
         ensures ok { OnOk result ((layers : Layers) × IsFrameIn headers entry bytes.now layers
             × (headers_of self.new ≡ headers_in layers)) }
@@ -206,6 +204,20 @@ impl<'a> PacketHeaders<'a> {
         ensures err { IfErr result (RefusesFrameIn headers entry bytes.now) }
     {
         self.fill_frame(entry, bytes)
+    }
+
+    /// Fills in the packet as [`PacketHeaders::fill`] does, in a call that is not inlined. The calls that return an owned
+    /// packet are inlined over it: so a loop over them zeroes the packet once a frame, and moves it at most once.
+    #[inline(never)]
+    fn fill_outlined(&mut self, entry: Entry, bytes: &'a [u8]) -> Result<(), SliceError>
+        ensures ok { OnOk result ((layers : Layers) × IsFrameIn headers entry bytes.now layers
+            × (headers_of self.new ≡ headers_in layers)) }
+        ensures only { (layers : Layers) → IsFrameIn headers entry bytes.now layers
+            → IsOkAnd result (λ _. headers_of self.new ≡ headers_in layers) }
+        ensures bytes { OnOk result (LieIn (payload_part_bytes (payload_part_of self.new.payload)) bytes.now) }
+        ensures err { IfErr result (RefusesFrameIn headers entry bytes.now) }
+    {
+        self.fill(entry, bytes)
     }
 
     /// What [`PacketHeaders::fill`] does, without the clauses that follow from these.
