@@ -25,3 +25,4 @@ mod FrameLemmas
 mod LoopLemmas
 mod FramesCompleteLemmas
 mod SectionCountLemmas
+mod NameHashLemmas

@@ -1,68 +1,89 @@
--- What a `NameHasher` computes. No promise rests on it: equal names write alike, so they hash alike.
-use Rattle.std.specs.Prelude.{ℕ, ◌+◌, ◌-◌, ◌*◌, ◌%◌, ◌^◌, List, [], ◌∷◌, length, if◌then◌else◌, ◌==◌, nat_le, nat_lt, slice_index, bit_or}
-use Rattle.std.specs.Int.{w64, to_le_bytes, from_le_bytes}
+-- How a hasher of names gives a name's writes to std's hasher: writes that differ become writes that differ (law
+-- `name_hashes`). No answer of a pool rests on it, since equal names write alike and so hash alike.
+use Rattle.std.specs.Prelude.{ℕ, ◌+◌, ◌*◌, ◌%◌, ◌^◌, List, [], ◌∷◌, ◌++◌, length, if◌then◌else◌, ◌==◌, nat_le, nat_lt, slice_index, bit_or}
+use Rattle.std.specs.Int.{w16, w64, to_le_bytes, from_le_bytes}
+use Rattle.std.specs.Hash.{HashWrites}
 use Rattle.std.specs.Hash.FoldHasher as std_hasher
+use Rattle.std.specs.List.{fold}
 use Rattle.ep_defrag.specs.declared.name_hasher.NameHasher.{NameHasher}
 
--- as it begins
+-- The effect of a write: the writes that std's hasher is given, then the number that waits and its count of bytes
+pub record Step : Type 0 where
+  pub given : HashWrites
+  pub waiting : ℕ
+  pub count : ℕ
+
+-- One write of a number's eight bytes
+abbrev pub word : ℕ → HashWrites
+word number = to_le_bytes w64 number ∷ []
+
+-- The write of a number that waits, if anything waits
+unfoldable pub rest_of : ℕ → HashWrites
+rest_of waiting = if nat_lt 1 waiting then word waiting else []
+
+-- A number that waits is given if more bytes would be more than three
+unfoldable pub room_step : ℕ → ℕ → ℕ → Step
+room_step waiting count bytes =
+    if nat_le (count + bytes) 3 then record { given = []; waiting = waiting; count = count }
+    else record { given = word waiting; waiting = 1; count = 0 }
+
+-- Bytes join a number that waits
+unfoldable pub wait_step : ℕ → ℕ → ℕ → ℕ → Step
+wait_step waiting count bytes number = let room = room_step waiting count bytes in record {
+  given = room.given;
+  waiting = bit_or (room.waiting * 2 ^ (8 * bytes) % 2 ^ 64) number;
+  count = room.count + bytes;
+}
+
+-- A write of eight bytes: a number below 256 waits for the bytes after it, a greater one is given after a marked number
+unfoldable pub number_step : ℕ → ℕ → Step
+number_step waiting number =
+    if nat_lt number 256 then record { given = rest_of waiting; waiting = bit_or 0x200 number; count = 0 }
+    else record { given = word (bit_or waiting (2 ^ 63)) ++ word number; waiting = 1; count = 0 }
+
+-- A write of bytes: one or two join the number that waits, and any but eight are given as they are
+unfoldable pub step_of : ℕ → ℕ → List ℕ → Step
+step_of waiting count bytes =
+    if length bytes == 1 then wait_step waiting count 1 (slice_index bytes 0)
+    else (if length bytes == 2 then wait_step waiting count 2 (bit_or (2 ^ 40) (from_le_bytes w16 bytes))
+    else (if length bytes == 8 then number_step waiting (from_le_bytes w64 bytes)
+    else record { given = rest_of waiting ++ bytes ∷ []; waiting = 1; count = 0 }))
+
+-- The hasher before any write
 unfoldable pub initial : NameHasher
 initial = record { state = std_hasher.initial; waiting = 1; count = 0 }
 
--- behind what waited, with a mark
-unfoldable pub taken : NameHasher → ℕ → NameHasher
-taken hasher mark = record {
-  state = std_hasher.write hasher.state (to_le_bytes w64 (bit_or hasher.waiting mark));
-  waiting = 1;
-  count = 0;
+-- The hasher after a step
+unfoldable pub stepped : NameHasher → Step → NameHasher
+stepped hasher step = record {
+  state = fold std_hasher.write hasher.state step.given;
+  waiting = step.waiting;
+  count = step.count;
 }
 
--- with room for one more byte to wait
-unfoldable pub with_room : NameHasher → NameHasher
-with_room hasher = if nat_le 3 hasher.count then taken hasher 0 else hasher
-
--- with one more byte that waits
-unfoldable pub with_byte : NameHasher → ℕ → NameHasher
-with_byte hasher byte = let roomy = with_room hasher in record {
-  state = roomy.state;
-  waiting = bit_or ((roomy.waiting * 2 ^ 8) % 2 ^ 64) byte;
-  count = (roomy.count + 1) % 2 ^ 64;
-}
-
--- where nothing waits
-unfoldable pub emptied : NameHasher → NameHasher
-emptied hasher = if nat_lt 1 hasher.waiting then taken hasher 0 else hasher
-
--- with a small number, in front of the bytes that come
-unfoldable pub with_number : NameHasher → ℕ → NameHasher
-with_number hasher number = record {
-  state = (emptied hasher).state;
-  waiting = bit_or 0x200 number;
-  count = 0;
-}
-
--- eight bytes as one number; what isn't eight bytes as the greatest
-unfoldable pub number_in : List ℕ → ℕ
-number_in bytes =
-    if length bytes == 8 then
-    from_le_bytes w64
-    (slice_index bytes 0 ∷ slice_index bytes 1 ∷ slice_index bytes 2 ∷ slice_index bytes 3 ∷
-    slice_index bytes 4 ∷ slice_index bytes 5 ∷ slice_index bytes 6 ∷ slice_index bytes 7 ∷ [])
-    else 2 ^ 64 - 1
-
--- behind other bytes
-unfoldable pub with_others : NameHasher → List ℕ → NameHasher
-with_others hasher bytes = record {
-  state = std_hasher.write (taken hasher (2 ^ 63)).state bytes;
-  waiting = 1;
-  count = 0;
-}
-
--- behind a write
+-- The hasher after a write
 unfoldable pub with_bytes : NameHasher → List ℕ → NameHasher
-with_bytes hasher bytes =
-    if length bytes == 1 then with_byte hasher (slice_index bytes 0)
-    else (if nat_lt (number_in bytes) 256 then with_number hasher (number_in bytes) else with_others hasher bytes)
+with_bytes hasher bytes = stepped hasher (step_of hasher.waiting hasher.count bytes)
 
--- the hash
+-- The hash after all writes
 unfoldable pub finished : NameHasher → ℕ
-finished hasher = std_hasher.finish (taken hasher 0).state
+finished hasher = std_hasher.finish (fold std_hasher.write hasher.state (rest_of hasher.waiting))
+
+-- The hash of a list of writes
+unfoldable pub hash_of : HashWrites → ℕ
+hash_of writes = finished (fold with_bytes initial writes)
+
+-- The writes that std's hasher is given for a list of writes, after a number that waits
+unfoldable pub given_after : ℕ → ℕ → HashWrites → HashWrites
+given_after waiting count [] = rest_of waiting
+given_after waiting count (bytes ∷ writes) =
+    let step = step_of waiting count bytes in
+    step.given ++ given_after step.waiting step.count writes
+
+-- The writes that std's hasher is given for a name's writes
+abbrev pub given_for : HashWrites → HashWrites
+given_for writes = given_after 1 0 writes
+
+-- The hash that std's hasher computes of a list of writes
+abbrev pub std_hash : HashWrites → ℕ
+std_hash writes = std_hasher.finish (fold std_hasher.write std_hasher.initial writes)

@@ -1,6 +1,7 @@
 //! Laws of the definitions that the contracts of this crate cite. Each is the contract of a function that does nothing.
 
 ghost use Rattle.std.specs.Prelude.{◌≡◌, ◌↔◌, ◌⊎◌, ℕ, ◌+◌, ◌/◌, ◌%◌, ◌^◌, ◌<◌, ◌≤◌, ◌||◌, Bool, false, Option, Some, List, [], ◌∷◌, ◌++◌, length, map, IsTrue, IsFalse, IsSome, IfSome};
+ghost use Rattle.std.specs.Hash.{HashWrites};
 ghost use Rattle.std.specs.List.{All, Any};
 ghost use Rattle.ep_defrag.specs.declared.TheConstants as constant;
 ghost use Rattle.ep_defrag.specs.Ranges.{touches, merge_of, SharePoint};
@@ -13,6 +14,7 @@ ghost use Rattle.ep_defrag.specs.Buffers.{IsUnchanged, ip_number_of, data_of, se
 ghost use Rattle.ep_defrag.specs.DefragComparisons.{range_cmp, buffer_cmp, error_cmp};
 ghost use Rattle.ep_defrag.specs.Streams.{same_stream};
 ghost use Rattle.ep_defrag.specs.Calls.{Call, Kept, accepted_in, calls_of, answers_to, table_after, table_with};
+ghost use Rattle.ep_defrag.specs.NameHashes.{hash_of, given_for, std_hash};
 ghost use Rattle.ep_defrag.specs.Isolation.{answers_of, fragments_of, GivesCut, StaysOpen, KeepsOwn, HandsOut, HandsOutAtMost};
 ghost use Rattle.ep_defrag.specs.Pools.{limit_of, stream_named, HoldsTable, plain_payload, plain_answer};
 ghost use Rattle.ep_defrag.specs.BuiltCuts.{BuiltCut, IsBuiltCut, IsUnder, answers_to_frames, cut_answers};
@@ -265,6 +267,13 @@ pub fn pool_comparisons()
 pub fn names<CustomChannelId: Eq>()
     ensures { (a b : IpFragId CustomChannelId) →
         ⟦<IpFragId<CustomChannelId> as PartialEq>⟧.eq a b ≡ same_stream CustomChannelId.eq a b }
+{}
+
+/// The hash of a stream's name is std's hash of other writes. Names that write differently are given to std's hasher as
+/// different writes, so their hashes collide only if its own products do.
+pub fn name_hashes()
+    ensures std { (writes : HashWrites) → hash_of writes ≡ std_hash (given_for writes) }
+    ensures apart { (a b : HashWrites) → All AreBytes a → All AreBytes b → given_for a ≡ given_for b → a ≡ b }
 {}
 
 /// Frames that are built of cuts of a payload under one name, no longer than the limit, in whatever order and with

@@ -1,37 +1,44 @@
 //! The hash by which a pool finds the names of its streams.
 
-ghost use Rattle.std.specs.Prelude.{◌≡◌};
-ghost use Rattle.ep_defrag.specs.NameHashes.{initial, taken, with_room, with_byte, emptied, with_number, number_in, with_others, with_bytes, finished};
+ghost use Rattle.std.specs.Prelude.{◌≡◌, ◌≤◌};
+ghost use Rattle.ep_defrag.specs.NameHashes.{initial, word, rest_of, room_step, wait_step, number_step, stepped, with_bytes, finished};
 
 use std::hash::{FoldHasher, Hasher};
 
-/// How many bytes wait at most.
+/// Most bytes that wait for one another.
 const MOST_WAITING: u64 = 3;
 
-/// Marks what waited in front of a write that is taken by itself.
-const OTHERS_FOLLOW: u64 = 1 << 63;
-
-/// What waits behind the start of a write of a number: 2, and the number.
+/// Number that waits after a write of a number below 256: 2, and that number.
 const NUMBER_WAITS: u64 = 0x200;
 
-/// Std's [`FoldHasher`] multiplies once for each write, one after the other, and a name writes each byte of an address
-/// by itself. Here such bytes wait for one another, up to three, behind a length or the number of a variant, and are
-/// given to std's hasher as one number of eight bytes. All other writes are given to it as they are. So a name takes
-/// 8 or 16 multiplications in turn in place of 14 or 38.
+/// Mark of two bytes that were written at once.
+const WRITTEN_AT_ONCE: u64 = 1 << 40;
+
+/// Mark of a number that waited before a write of eight bytes that is given as it is.
+const NUMBER_FOLLOWS: u64 = 1 << 63;
+
+/// Hashes names of streams by std's [`FoldHasher`], with fewer multiplications.
 ///
-/// What waits begins with 1, or with 2 in front of a length, and its highest bit tells that another write follows: so
-/// writes that differ give std's hasher writes that differ. One factor of each multiplication is a constant, and the
-/// other has at most three bytes of an address. By these a product changes by 2^39 at the least, where the next three
-/// could take back 2^24 alone; four could be made to fit without a search. So two addresses that hash alike take a
-/// search of some 2^20 hashes, a longer one by std's hasher alone. The four bytes of IPv6's identification are given to
-/// that as they are: with them a search of some 2^17 is enough, by either. A channel of eight bytes or more can be
-/// computed, by either. The start is fixed, as before.
+/// `FoldHasher` multiplies once for each write, one after the other, and a name writes each byte of an address by
+/// itself. Here such bytes, and numbers of two bytes, wait for one another, up to three bytes, after a length or the
+/// number of a variant, and are given to std's hasher as one number of eight bytes. All other writes are given to it as
+/// they are. So a name takes 7 or 16 multiplications in turn in place of 14 or 38.
+///
+/// What waits begins with 1, or with 2 and a number. A bit marks two bytes that were written at once, and the highest
+/// bit that a number of eight bytes is given next, as it is: so writes that differ give std's hasher writes that differ
+/// ([`name_hashes`](crate::laws::name_hashes)). Numbers of eight bytes from 256 on take two multiplications each.
+///
+/// One factor of each multiplication is a constant, and the other has at most three bytes after a length. By these a
+/// product changes by 2^39 at the least, where the next three could take back 2^24 alone; four could be made to fit
+/// without a search. So two addresses that collide take a search of some 2^20 hashes, a longer one by std's hasher
+/// alone. The four bytes of IPv6's identification are given to that as they are: with them a search of some 2^17 is
+/// enough, by either. A channel of eight bytes or more can be computed, by either. The start is fixed, as before.
 #[derive(Clone, Copy)]
 pub(crate) struct NameHasher {
     state: FoldHasher,
-    /// 1, or 2 and a number, and the bytes that wait, the last of them lowest.
+    /// 1, or 2 and a number below 256, and then the bytes that wait, the last write lowest.
     waiting: u64,
-    /// How many bytes wait.
+    /// Number of bytes that wait.
     count: u64,
 }
 
@@ -48,63 +55,62 @@ impl Default for NameHasher {
 }
 
 impl NameHasher {
-    /// Takes what waits, with a mark.
+    /// Gives a number to std's hasher in place of what waits.
     #[inline(always)]
-    fn take(&mut self, mark: u64)
-        ensures { self.new ≡ taken self.old mark }
+    fn give(&mut self, number: u64)
+        ensures { self.new ≡ stepped self.old (record { given = word number; waiting = 1; count = 0 }) }
     {
-        self.state.write(&(self.waiting | mark).to_le_bytes());
+        self.state.write(&number.to_le_bytes());
         self.waiting = 1;
         self.count = 0;
     }
 
-    /// Makes room for one more byte to wait.
+    /// Gives what waits, if it leaves no space for more bytes.
     #[inline(always)]
-    fn make_room(&mut self)
-        ensures { self.new ≡ with_room self.old }
+    fn make_room(&mut self, bytes: u64)
+        ensures { self.new ≡ stepped self.old (room_step self.old.waiting self.old.count bytes) }
     {
-        if self.count >= MOST_WAITING {
-            self.take(0);
+        if self.count.saturating_add(bytes) > MOST_WAITING {
+            self.give(self.waiting);
         }
     }
 
-    /// Lets a byte wait.
+    /// Lets a number of one or two bytes wait after the bytes that wait.
     #[inline(always)]
-    fn wait(&mut self, byte: u8)
-        ensures { self.new ≡ with_byte self.old byte }
+    fn wait(&mut self, bytes: u64, number: u64)
+        requires { bytes ≤ 3 }
+        ensures { self.new ≡ stepped self.old (wait_step self.old.waiting self.old.count bytes number) }
     {
-        self.make_room();
-        self.waiting = self.waiting << 8 | u64::from(byte);
-        self.count = self.count.wrapping_add(1);
+        self.make_room(bytes);
+        self.waiting = self.waiting << (8 * bytes) | number;
+        self.count += bytes;
     }
 
-    /// Takes what waits, if anything does.
+    /// Gives what waits, if anything does.
     #[inline(always)]
     fn empty(&mut self)
-        ensures { self.new ≡ emptied self.old }
+        ensures { self.new ≡ stepped self.old (record { given = rest_of self.old.waiting; waiting = 1; count = 0 }) }
     {
         if self.waiting > 1 {
-            self.take(0);
+            self.give(self.waiting);
+            return;
         }
-    }
-
-    /// Lets a small number wait, in front of the bytes that come.
-    #[inline(always)]
-    fn begin(&mut self, number: u64)
-        ensures { self.new ≡ with_number self.old number }
-    {
-        self.empty();
-        self.waiting = NUMBER_WAITS | number;
+        self.waiting = 1;
         self.count = 0;
     }
 
-    /// Takes what waits, and then these bytes by themselves.
+    /// Takes a write of a number of eight bytes.
     #[inline(always)]
-    fn follow(&mut self, bytes: &[u8])
-        ensures { self.new ≡ with_others self.old bytes.now }
+    fn take_number(&mut self, number: u64)
+        ensures { self.new ≡ stepped self.old (number_step self.old.waiting number) }
     {
-        self.take(OTHERS_FOLLOW);
-        self.state.write(bytes);
+        if number < 256 {
+            self.empty();
+            self.waiting = NUMBER_WAITS | number;
+            return;
+        }
+        self.give(self.waiting | NUMBER_FOLLOWS);
+        self.give(number);
     }
 }
 
@@ -116,34 +122,28 @@ impl Hasher for NameHasher {
     #[inline(always)]
     fn finish(&self) -> u64 {
         let mut all = *self;
-        all.take(0);
+        all.empty();
         all.state.finish()
     }
 
     #[inline(always)]
     fn write(&mut self, bytes: &[u8]) {
         if bytes.len() == 1 {
-            self.wait(bytes[0]);
+            self.wait(1, u64::from(bytes[0]));
             return;
         }
-        let number = number_in(bytes);
-        if number < 256 {
-            self.begin(number);
+        if bytes.len() == 2 {
+            let number = u64::from(u16::from_le_bytes([bytes[0], bytes[1]]));
+            self.wait(2, WRITTEN_AT_ONCE | number);
             return;
         }
-        self.follow(bytes);
+        if bytes.len() == 8 {
+            self.take_number(u64::from_le_bytes([
+                bytes[0], bytes[1], bytes[2], bytes[3], bytes[4], bytes[5], bytes[6], bytes[7],
+            ]));
+            return;
+        }
+        self.empty();
+        self.state.write(bytes);
     }
-}
-
-/// Eight bytes as one number; what isn't eight bytes as the greatest.
-#[inline(always)]
-fn number_in(bytes: &[u8]) -> u64
-    ensures { result ≡ number_in bytes.now }
-{
-    if bytes.len() != 8 {
-        return u64::MAX;
-    }
-    u64::from_le_bytes([
-        bytes[0], bytes[1], bytes[2], bytes[3], bytes[4], bytes[5], bytes[6], bytes[7],
-    ])
 }

@@ -124,6 +124,7 @@ pub use Rattle.ep_defrag.specs.PayloadCuts
 pub use Rattle.ep_defrag.specs.IpFragments
 pub use Rattle.ep_defrag.specs.FrameCalls
 pub use Rattle.ep_defrag.specs.Isolation
+pub use Rattle.ep_defrag.specs.NameHashes
 pub use Rattle.ep_defrag.specs.Pools
 pub use Rattle.ep_defrag.specs.Ranges
 pub use Rattle.ep_defrag.specs.FragmentRefusals

@@ -50,12 +50,13 @@ def first_fragments(channels):
     return ((pool_line(FIRST, channel), "none") for channel in channels)
 
 
-# A pool finds names by std's FoldHasher, which has a fixed seed and takes each write of at most 8 bytes by a multiplication that
-# gives 0 where the bytes are the state before. Single bytes, up to three behind a number below 256, are given to it as one number
-# (ep_defrag/src/name_hasher.rt). A channel that isn't below 256 is given to it as it is: so one that is this state makes it 0,
-# and all names of such channels hash alike.
+# A pool finds names by std's FoldHasher, which has a fixed seed and takes each write of at most 8 bytes by a
+# multiplication that gives 0 if the bytes equal the state before. Up to three bytes, single ones and numbers of two, are
+# given to it as one number, after a number below 256 (ep_defrag/src/name_hasher.rt). A channel from 256 on is given to
+# it as it is. If it equals this state the state becomes 0, so the names of all such channels collide.
 MULTIPLIER = 0x9E3779B97F4A7C15
 SEED = 0x243F6A8885A308D3
+WRITTEN_AT_ONCE = 1 << 40
 FOLLOWED = 1 << 63
 
 
@@ -75,9 +76,7 @@ def alike_channel(identification):
         bytes([2, 4, 192, 168, 1]),
     ):
         state = fold(state, int.from_bytes(waiting, "big"), 8)
-    state = fold(state, int.from_bytes(bytes([1, 2]), "big") | FOLLOWED, 8)
-    low, high = identification.to_bytes(2, "little")
-    state = fold(state, low | high << 8 | high << 16, 2)
+    state = fold(state, WRITTEN_AT_ONCE | int.from_bytes(bytes([1, 2]), "big") << 16 | identification, 8)
     return fold(state, int.from_bytes(bytes([1, 17]), "big") | FOLLOWED, 8)
 
 

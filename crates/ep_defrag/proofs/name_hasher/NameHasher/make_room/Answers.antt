@@ -1,12 +1,18 @@
+use Rattle.std.proofs.Common.{◌<◌, ◌≤◌, ◌+◌, arith}
 use Rattle.std.proofs.lemmas.Bool.{le-leb, lt-leb}
-use Rattle.ep_defrag.specs.NameHashes.{with_room}
+use Rattle.ep_defrag.specs.NameHashes.{room_step, stepped}
 use Rattle.ep_defrag.proofs.name_hasher.NameHasher.make_room.Goals as goal
 
-pub returns-then-self-ge-MOST_WAITING : goal.returns-then-self-ge-MOST_WAITING
-unfolding with_room
-returns-then-self-ge-MOST_WAITING c =
-    rw (le-leb 3 c.args.self.now.count c.if-self-ge-MOST_WAITING.true) c.take.ensures
+pub returns-then-saturating_add-gt-MOST_WAITING : goal.returns-then-saturating_add-gt-MOST_WAITING
+unfolding room_step
+returns-then-saturating_add-gt-MOST_WAITING c =
+    let count = c.args.self.now.count in
+    let many : 3 < count + c.args.bytes = omega arith in
+    rw (lt-leb (count + c.args.bytes) 3 many) c.give.ensures
 
-pub returns-else-self-ge-MOST_WAITING : goal.returns-else-self-ge-MOST_WAITING
-unfolding with_room
-returns-else-self-ge-MOST_WAITING c = rw (lt-leb 3 c.args.self.now.count c.if-self-ge-MOST_WAITING.false)
+pub returns-else-saturating_add-gt-MOST_WAITING : goal.returns-else-saturating_add-gt-MOST_WAITING
+unfolding room_step stepped
+returns-else-saturating_add-gt-MOST_WAITING c =
+    let count = c.args.self.now.count in
+    let few : count + c.args.bytes ≤ 3 = omega arith in
+    rw (le-leb (count + c.args.bytes) 3 few)

@@ -1,6 +1,6 @@
-use Rattle.ep_defrag.specs.NameHashes.{finished}
+use Rattle.ep_defrag.specs.NameHashes.{stepped, finished}
 use Rattle.ep_defrag.proofs.name_hasher.NameHasherHasher.finish.Goals as goal
 
 pub returns : goal.returns
-unfolding finished
-returns c = rw (c.finish.ensures, c.take.ensures)
+unfolding stepped finished
+returns c = rw (c.finish.ensures, c.empty.ensures)
