@@ -1,11 +1,34 @@
 //! Bytes as hexadecimal digits.
 
-ghost use Rattle.std.specs.Prelude.{◌≡◌, ◌*◌, ◌++◌, ℕ, List, length, unwrap_or, Ok, IfOk, OnOk, IsTrue};
-ghost use Rattle.hex.specs.Hex.{decode_of, hex_digit_value};
+ghost use Rattle.std.specs.Prelude.{◌≡◌, ◌*◌, ◌<◌, ◌++◌, ℕ, List, length, slice_index, unwrap_or, Ok, IfOk, OnOk, IsTrue};
+ghost use Rattle.hex.specs.Hex.{decode_of, encode_lower, hex_digit_value, lower_digits};
 ghost use Rattle.frame_bench.specs.Requests.{IsHex};
 ghost use Rattle.frame_bench.specs.SliceReplies.{hex_text};
 
 use std::alloc::AllocError;
+
+/// Entry of `DIGIT_VALUES` for a byte that is no digit.
+const X: u16 = 256;
+
+/// Value of each byte as a digit of either case.
+static DIGIT_VALUES: [u16; 256] = [
+    X, X, X, X, X, X, X, X, X, X, X, X, X, X, X, X, // 0x00
+    X, X, X, X, X, X, X, X, X, X, X, X, X, X, X, X, // 0x10
+    X, X, X, X, X, X, X, X, X, X, X, X, X, X, X, X, // 0x20
+    0, 1, 2, 3, 4, 5, 6, 7, 8, 9, X, X, X, X, X, X, // 0x30
+    X, 10, 11, 12, 13, 14, 15, X, X, X, X, X, X, X, X, X, // 0x40
+    X, X, X, X, X, X, X, X, X, X, X, X, X, X, X, X, // 0x50
+    X, 10, 11, 12, 13, 14, 15, X, X, X, X, X, X, X, X, X, // 0x60
+    X, X, X, X, X, X, X, X, X, X, X, X, X, X, X, X, // 0x70
+    X, X, X, X, X, X, X, X, X, X, X, X, X, X, X, X, // 0x80
+    X, X, X, X, X, X, X, X, X, X, X, X, X, X, X, X, // 0x90
+    X, X, X, X, X, X, X, X, X, X, X, X, X, X, X, X, // 0xa0
+    X, X, X, X, X, X, X, X, X, X, X, X, X, X, X, X, // 0xb0
+    X, X, X, X, X, X, X, X, X, X, X, X, X, X, X, X, // 0xc0
+    X, X, X, X, X, X, X, X, X, X, X, X, X, X, X, X, // 0xd0
+    X, X, X, X, X, X, X, X, X, X, X, X, X, X, X, X, // 0xe0
+    X, X, X, X, X, X, X, X, X, X, X, X, X, X, X, X, // 0xf0
+];
 
 /// Whether a text says bytes, which are then left in `bytes`.
 pub fn decode(text: &[u8], bytes: &mut Vec<u8>) -> Result<bool, AllocError>
@@ -26,39 +49,30 @@ pub fn decode(text: &[u8], bytes: &mut Vec<u8>) -> Result<bool, AllocError>
     Ok(decode_pairs(text, bytes.as_mut_slice()))
 }
 
-/// Whether a text of two digits for each byte says bytes, which are then left in `bytes`. What a digit is decides no
-/// jump, so that many are taken at once.
+/// Decodes two digits into each byte of `bytes`, and returns whether all are digits. A byte that is none makes a sum of
+/// at least 256, whose bits `seen` keeps: so no digit decides a branch.
 fn decode_pairs(text: &[u8], bytes: &mut [u8]) -> bool
     requires { length text.now ≡ 2 * length bytes.old }
     ensures said { IsTrue result → decode_of text.now ≡ Ok bytes.new }
     ensures only { (said : List ℕ) → decode_of text.now ≡ Ok said → IsTrue result }
 {
-    let mut greatest = 0;
+    let mut seen = 0;
     'bytes: for at in 0..bytes.len() {
         let high = digit_value(text[2 * at]);
         let low = digit_value(text[2 * at + 1]);
-        greatest = greatest.max(high).max(low);
-        bytes[at] = high.wrapping_mul(16).wrapping_add(low);
+        let sum = 16 * high + low;
+        seen |= sum;
+        bytes[at] = (sum % 256) as u8;
     }
-    greatest < 16
+    seen < 256
 }
 
-/// The value of a digit of either case, and 255 of what is none.
-fn digit_value(byte: u8) -> u8
-    ensures { result ≡ unwrap_or (hex_digit_value byte) 255 }
+/// Returns the value of a digit of either case, and 256 for any other byte.
+#[inline]
+fn digit_value(byte: u8) -> u16
+    ensures { result ≡ unwrap_or (hex_digit_value byte) 256 }
 {
-    let number = byte.wrapping_sub(b'0');
-    let lower = byte.wrapping_sub(b'a');
-    let upper = byte.wrapping_sub(b'A');
-    if number < 10 {
-        number
-    } else if lower < 6 {
-        lower + 10
-    } else if upper < 6 {
-        upper + 10
-    } else {
-        255
-    }
+    DIGIT_VALUES[usize::from(byte)]
 }
 
 /// Appends bytes as lower case digits, and no bytes as `-`.
@@ -72,6 +86,32 @@ pub fn push(output: &mut Vec<u8>, bytes: &[u8]) -> Result<(), AllocError>
     let len = 2 * bytes.len();
     output.reserve(len)?;
     output.resize(start + len, 0)?;
-    hex::encode_to_slice(bytes, &mut output.as_mut_slice()[start..]).unwrap();
+    encode_pairs(bytes, &mut output.as_mut_slice()[start..]);
     Ok(())
+}
+
+/// Writes each byte as two lower case digits.
+fn encode_pairs(bytes: &[u8], text: &mut [u8])
+    requires { length text.old ≡ 2 * length bytes.now }
+    ensures { text.new ≡ encode_lower bytes.now }
+{
+    'bytes: for at in 0..bytes.len() {
+        let high = lower_digit(bytes[at] / 16);
+        let low = lower_digit(bytes[at] % 16);
+        text[2 * at] = high;
+        text[2 * at + 1] = low;
+    }
+}
+
+/// Returns the lower case digit of a value. It is computed, so that the compiler takes eight bytes at once; a table of
+/// pairs takes more than twice as long.
+#[inline]
+fn lower_digit(value: u8) -> u8
+    requires { value < 16 }
+    ensures { result ≡ slice_index lower_digits value }
+{
+    if value < 10 {
+        return b'0' + value;
+    }
+    b'a' - 10 + value
 }

@@ -1,4 +1,4 @@
-use Rattle.std.proofs.Common.{◌≡◌, ◌+◌, ◌*◌, ◌%◌, ◌<◌, max, arith}
+use Rattle.std.proofs.Common.{◌+◌, ◌*◌, ◌%◌, ◌<◌, arith}
 use Rattle.std.proofs.lemmas.List.{length-set}
 use Rattle.frame_bench.proofs.HexTextLemmas.{IsDecodedTo-all, IsDecodedTo-more, IsDecodedTo-said}
 use Rattle.frame_bench.proofs.hex_text.decode_pairs.Goals as goal
@@ -6,24 +6,23 @@ use Rattle.frame_bench.proofs.hex_text.decode_pairs.Goals as goal
 pub bytes-preserved : goal.bytes-preserved
 bytes-preserved c =
     let known = c.bytes.invariant in
-    let more = IsDecodedTo-more c.args.text.now c.bytes.bytes c.bytes.at c.bytes.greatest known.0
+    let more = IsDecodedTo-more c.args.text.now c.bytes.bytes c.bytes.at c.bytes.seen known.0
     (omega (arith, c.bytes-test.true, c.bytes.auto.bytes)) known.1 in
     let long = length-set c.bytes.bytes c.bytes.at
-    ((c.digit_value-high.result * 16 % 256 + c.digit_value-low.result) % 256) in
-    let top : c.max.result ≡ max c.bytes.greatest c.digit_value-high.result = grind (arith, c.max.ensures) in (
+    ((16 * c.digit_value-high.result + c.digit_value-low.result) % 256) in (
       omega (arith, known.0, long),
-      rw (c.max-greatest.ensures, top, c.digit_value-high.ensures, c.digit_value-low.ensures) more,
+      rw (c.digit_value-high.ensures, c.digit_value-low.ensures) more,
     )
 
 pub returns-clause-said : goal.returns-clause-said
 returns-clause-said c = λ holds.
-    let small : c.bytes.greatest < 16 = grind (arith) in
+    let small : c.bytes.seen < 256 = grind (arith) in
     let known = c.bytes.invariant in
-    IsDecodedTo-all c.args.text.now c.bytes.bytes c.bytes.at c.bytes.greatest known.0
+    IsDecodedTo-all c.args.text.now c.bytes.bytes c.bytes.at c.bytes.seen known.0
     (omega (arith, c.bytes-test.false, c.bytes.auto.bytes)) known.1 small
 
 pub returns-clause-only : goal.returns-clause-only
 returns-clause-only c = λ said says.
-    let small = IsDecodedTo-said c.args.text.now c.bytes.bytes said c.bytes.at c.bytes.greatest
+    let small = IsDecodedTo-said c.args.text.now c.bytes.bytes said c.bytes.at c.bytes.seen
     c.bytes.invariant.1 says in
     grind (arith)
