@@ -13,3 +13,4 @@ pub mod ValueLemmas
 pub mod JoinedLemmas
 pub mod OptionLemmas
 pub mod FilterLemmas
+pub mod SelectionLemmas

@@ -1,7 +1,7 @@
 //! What is shown of a capture.
 
 ghost use Rattle.std.specs.Prelude.{◌≡◌, ◌||◌, ◌&&◌, Some};
-ghost use Rattle.std.specs.Option.{option_map};
+ghost use Rattle.std.specs.Option.{is_none, option_map};
 ghost use Rattle.etherparse.specs.LaxPackets.{lax_layers_of};
 ghost use Rattle.etherparse.specs.LaxViews.{lax_net_layer_of};
 ghost use Rattle.etherparse.specs.TransportParts.{transport_layer_of};
@@ -149,6 +149,13 @@ impl DumpOptions {
             (Some(wanted), Some(kind)) => wanted.is(kind),
             (Some(_), None) => false,
         }
+    }
+
+    /// Returns whether every packet is selected: all kinds are, by a filter without primitives.
+    pub fn wants_all(&self) -> bool
+        ensures { result ≡ (is_none self.now.only && asks_nothing self.now.words) }
+    {
+        self.only.is_none() && self.asks_nothing()
     }
 
     /// Whether a packet is shown.

@@ -116,8 +116,9 @@ fn push_checked(
     ensures counts { OnOk result (CountsBehind options.now.strict opening bytes.now (shown_of parts.now.shown)
         (plain_of summary.old) (plain_of summary.new)) }
 {
-    match SlicedPacket::from_entry(opening.entry, bytes) {
-        Ok(sliced) => {
+    let mut sliced = SlicedPacket::new();
+    match sliced.slice_into(opening.entry, bytes) {
+        Ok(()) => {
             push_frame(
                 output, pooling, summary, options, parts, opening, bytes, &sliced,
             )

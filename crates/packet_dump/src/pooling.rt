@@ -1,6 +1,6 @@
 //! The pool in which fragments are put together.
 
-ghost use Rattle.std.specs.Prelude.{◌≡◌, ◌++◌, is_some, ℕ, List, OnOk, Some};
+ghost use Rattle.std.specs.Prelude.{◌≡◌, ◌++◌, ◌/◌, is_some, ℕ, List, OnOk, Some};
 ghost use Rattle.std.specs.BTreeMap.{get};
 ghost use Rattle.std.specs.Option.{option_map};
 ghost use Rattle.std.specs.Ordering.{nat_cmp};
@@ -24,6 +24,7 @@ use crate::summary::Fragments;
 use etherparse::defrag::{IpDefragError, IpDefragPayloadVec, IpDefragPool, IpFragId};
 use etherparse::laws::defrag::one_more_call;
 use etherparse::{LaxSlicedPacket, SlicedPacket};
+use packet_times::{EPOCH, SECOND};
 use std::alloc::{AllocError, Global};
 use std::collections::BTreeMap;
 
@@ -87,7 +88,7 @@ impl Pooling {
             × HoldsPooling after self.new × (output.new.items ≡ output.old.items ++ text)) }
     {
         let this = parts.latest;
-        self.sweep(this / 1_000_000_000, oldest_from(options, this));
+        self.sweep(second_of(this), oldest_from(options, this));
         self.give_frame(output, options, parts, sliced, read)?;
         self.bound(options.streams);
         Ok(())
@@ -276,6 +277,18 @@ fn keep_open(names: &mut BTreeMap<u64, IpFragId<u64>>, pool: &IpDefragPool<Arriv
             ensures stays { name.new ≡ name.old }
         { pool.timestamp(name).is_some() },
     );
+}
+
+/// Returns the second of an instant in nanoseconds. Where the nanoseconds since 1970 fit 64 bits, it divides 64 bits in
+/// place of 128.
+fn second_of(instant: u128) -> u128
+    ensures { result ≡ instant / 1000000000 }
+{
+    if instant >= EPOCH && instant - EPOCH < 0x1_0000_0000_0000_0000 {
+        EPOCH / SECOND + u128::from((instant - EPOCH) as u64 / 1_000_000_000)
+    } else {
+        instant / SECOND
+    }
 }
 
 /// The instant before which a stream is too old, at a packet of this one.

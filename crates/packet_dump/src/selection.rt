@@ -10,7 +10,8 @@ use crate::dump_options::{DumpOptions, Kind};
 use crate::lines::has_layer;
 use crate::openings::{Opening, opening_of};
 use capture_reader::Shown;
-use etherparse::laws::lax::strict_frames;
+use etherparse::laws::lax::{lax, strict_frames};
+use etherparse::laws::packet::frames;
 use etherparse::{LaxSlicedPacket, SlicedPacket};
 
 /// Whether a packet is wanted.
@@ -30,7 +31,13 @@ fn selects_behind(options: &DumpOptions, opening: Opening, bytes: &[u8]) -> bool
     ensures { (content : Content) × HoldsBehind options.now.strict opening bytes.now content
         × (result ≡ is_wanted options.now content) }
 {
-    if options.strict {
+    if options.wants_all() {
+        // Any content is selected, and by the laws the bytes have one, which need not be read.
+        frames();
+        lax();
+        strict_frames();
+        true
+    } else if options.strict {
         selects_frame(options, opening, bytes)
     } else {
         selects_lax(options, opening, bytes)
@@ -42,8 +49,9 @@ fn selects_frame(options: &DumpOptions, opening: Opening, bytes: &[u8]) -> bool
     ensures { (content : Content) × HoldsStrictly opening bytes.now content
         × (result ≡ is_wanted options.now content) }
 {
-    match SlicedPacket::from_entry(opening.entry, bytes) {
-        Ok(_) => {
+    let mut sliced = SlicedPacket::new();
+    match sliced.slice_into(opening.entry, bytes) {
+        Ok(()) => {
             strict_frames();
             let mut read = LaxSlicedPacket::new();
             let _ = read.slice_into(opening.entry, bytes);

@@ -10,11 +10,11 @@ pub returns-in-Ok : goal.returns-in-Ok
 returns-in-Ok c =
     let entry = c.args.opening.entry in
     let bytes = c.args.bytes.now in
-    let shown = lax_layers_of c.slice_into.new.self in
+    let shown = lax_layers_of c.slice_into-in-Ok.new.self in
     let frame = c.in-Ok.ensures.ok in
-    let read = frame_read entry bytes (layers_of c.in-Ok.field-0) shown c.slice_into.result c.strict_frames.ensures
-    frame
-    c.slice_into.ensures.only in (
+    let layers = layers_of c.slice_into.new.self in
+    let read = frame_read entry bytes layers shown c.slice_into-in-Ok.result c.strict_frames.ensures frame
+    c.slice_into-in-Ok.ensures.only in (
       packet shown,
       (subst (λ (l : Layers). IsFrame entry bytes l) (sym read.same) frame, read.whole),
       c.wants_read.ensures,

@@ -1,8 +1,9 @@
-use Rattle.std.proofs.Common.{◌/◌, ◌<◌, nat_lt, subst, sym}
+use Rattle.std.proofs.Common.{◌/◌, ◌<◌, ℕ, nat_lt, subst, sym}
 use Rattle.etherparse.specs.Layers.{layers_of}
 use Rattle.packet_dump.specs.PacketLines.{parts_start}
 use Rattle.packet_dump.specs.PacketCalls.{with_frame, with_sweep}
 use Rattle.packet_dump.specs.PoolLines.{arrival_of}
+use Rattle.packet_dump.specs.Sessions.{HoldsPooling}
 use Rattle.packet_dump.proofs.PoolLemmas.{gives, swept_number}
 use Rattle.packet_dump.proofs.pooling.Pooling.give.Goals as goal
 
@@ -15,7 +16,8 @@ returns c =
     λ before awaits.
     let swept = with_sweep before second c.oldest_from.result in
     let told = c.in_ok-give_frame.ensures swept (record {
-      holds = c.sweep.ensures before awaits.holds;
+      holds = subst (λ (s : ℕ). HoldsPooling (with_sweep before s c.oldest_from.result) c.sweep.new.self)
+          c.second_of.ensures (c.sweep.ensures before awaits.holds);
       later = subst (λ n. n < at.number)
           (sym (swept_number (nat_lt before.swept second) before second c.oldest_from.result)) awaits.later;
     }) in
