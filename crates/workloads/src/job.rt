@@ -8,6 +8,7 @@ use crate::fragments::put_together;
 use crate::headers::read_headers;
 use crate::shuffled::put_shuffled;
 use crate::slicing::slice_frames;
+use crate::unusual::slice_unusual;
 use std::alloc::Global;
 
 /// What users wait for.
@@ -25,17 +26,20 @@ pub enum Job {
     Reassembly,
     /// Long payloads are put together from short fragments in bad orders.
     Shuffled,
+    /// Frames with rare headers, half of them truncated, are sliced laxly, and their checksums verified.
+    Unusual,
 }
 
 impl Job {
     /// Each of them.
-    pub const ALL: [Job; 6] = [
+    pub const ALL: [Job; 7] = [
         Job::Captures,
         Job::Slicing,
         Job::Headers,
         Job::Building,
         Job::Reassembly,
         Job::Shuffled,
+        Job::Unusual,
     ];
 
     /// Its name, as an argument and in the output.
@@ -47,6 +51,7 @@ impl Job {
             Job::Building => "building",
             Job::Reassembly => "reassembly",
             Job::Shuffled => "shuffled",
+            Job::Unusual => "unusual",
         }
     }
 
@@ -59,6 +64,7 @@ impl Job {
             Job::Building => build_frames(alloc, rounds, seed),
             Job::Reassembly => put_together(alloc, rounds, seed),
             Job::Shuffled => put_shuffled(alloc, rounds, seed),
+            Job::Unusual => slice_unusual(alloc, rounds, seed),
         }
     }
 }

@@ -16,6 +16,8 @@ mod job;
 mod shuffled;
 mod slicing;
 mod templates;
+mod unusual;
+mod unusual_frames;
 
 use crate::bench_error::BenchError;
 use crate::job::Job;
